@@ -1,0 +1,186 @@
+ghost use Rattle.std.specs.Prelude.{◌≡◌, ◌≢◌, ℕ, ◌<◌, ◌+◌, ◌↔◌, true, false, IsTrue, IfOk, OnOk, IsErrOf, length};
+ghost use Rattle.std.specs.List.Sorted.{IsSorted};
+ghost use Rattle.std.specs.List.{AllPairs};
+ghost use Rattle.rela_names.specs.Name.{is_name_byte, is_name, IsName, is_reserved, IsLocationName, bytes_cmp, IsAscending};
+
+use std::alloc::{AllocError, AllocFailed, Global};
+use std::cmp::Ordering;
+use std::marker::Model;
+use thiserror::Error;
+
+/// The greatest number of bytes in a name.
+pub const MAX_NAME_LEN: usize = 64;
+
+/// Why bytes are not taken as a name.
+#[derive(Debug, Drop, Error)]
+pub enum NameError {
+    #[error("a name has 1 to 64 letters, digits and the marks _ . : / -")]
+    Bad,
+    #[error("no location is called drop or loop")]
+    Reserved,
+    #[error("out of memory")]
+    Memory,
+}
+
+impl From<AllocError> for NameError {
+    ghost use Rattle.rela_names.specs.declared.name.NameError.TheVariants.{Memory};
+
+    ghost from_gives = { λ _ e. e ≡ Memory };
+
+    fn from(_error: AllocError) -> NameError {
+        NameError::Memory
+    }
+}
+
+/// The name of a location, a device, a flow or the like: 1 to 64 letters, digits and the marks
+/// `_`, `.`, `:`, `/` and `-`. Names compare by their bytes.
+#[derive(Debug, Drop)]
+pub struct Name {
+    bytes: Vec<u8>,
+}
+
+impl Model for Name {
+    ghost use Rattle.std.specs.Prelude.{List, ℕ};
+    ghost use Rattle.rela_names.specs.Name.{IsName};
+
+    ghost Value = { List ℕ };
+
+    ghost view = { λ name. name.bytes.items };
+
+    ghost invariant = { λ name. IsName name.bytes.items };
+}
+
+/// Whether the byte may stand in a name: a letter, a digit or one of `_`, `.`, `:`, `/` and `-`.
+pub fn is_name_byte(byte: u8) -> bool
+    ensures { result ≡ is_name_byte byte }
+{
+    byte.is_ascii_alphanumeric() || matches!(byte, b'_' | b'.' | b':' | b'/' | b'-')
+}
+
+/// Whether these are 1 to 64 name bytes.
+pub fn is_name(bytes: &[u8]) -> bool
+    ensures { result ≡ is_name bytes.now }
+{
+    !bytes.is_empty() && bytes.len() <= MAX_NAME_LEN && bytes.iter().all(|byte| is_name_byte(*byte))
+}
+
+fn is_reserved(bytes: &[u8]) -> bool
+    ensures { result ≡ is_reserved bytes.now }
+{
+    bytes == b"drop".as_slice() || bytes == b"loop".as_slice()
+}
+
+impl Name {
+    /// The name of these bytes.
+    ///
+    /// # Errors
+    ///
+    /// `Bad` where they are not 1 to 64 name bytes; `Memory`.
+    pub fn from_bytes(alloc: Global, bytes: &[u8]) -> Result<Name, NameError>
+        ensures ok { IfOk result (λ name. name ≡ bytes.now) }
+        ensures name { OnOk result (IsName bytes.now) }
+        ensures bad { IsErrOf result NameError.Bad ↔ (is_name bytes.now ≡ false) }
+        ensures unreserved { result ≢ Err NameError.Reserved }
+    {
+        if !is_name(bytes) {
+            return Err(NameError::Bad);
+        }
+        let bytes = Vec::from_slice(alloc, bytes)?;
+        Ok(Name { bytes })
+    }
+
+    /// The name of these bytes, which a location may have.
+    ///
+    /// # Errors
+    ///
+    /// `Bad` where they are not 1 to 64 name bytes; else `Reserved` where they are `drop` or `loop`;
+    /// `Memory`.
+    pub fn location(alloc: Global, bytes: &[u8]) -> Result<Name, NameError>
+        ensures ok { IfOk result (λ name. name ≡ bytes.now) }
+        ensures location_name { OnOk result (IsLocationName bytes.now) }
+        ensures bad { IsErrOf result NameError.Bad ↔ (is_name bytes.now ≡ false) }
+        ensures reserved { IsErrOf result NameError.Reserved ↔ IsTrue (is_reserved bytes.now) }
+    {
+        if is_reserved(bytes) {
+            return Err(NameError::Reserved);
+        }
+        Name::from_bytes(alloc, bytes)
+    }
+
+    /// The bytes of the name.
+    pub fn as_bytes(&self) -> &[u8]
+        ensures bytes { result.now ≡ self.now }
+        ensures name { IsName self.now }
+    {
+        self.bytes.as_slice()
+    }
+
+    /// The same name once more.
+    pub fn copy(&self, alloc: Global) -> Result<Name, AllocError>
+        ensures { IfOk result (λ name. name ≡ self.now) }
+    {
+        let bytes = Vec::from_slice(alloc, self.bytes.as_slice())?;
+        Ok(Name { bytes })
+    }
+}
+
+impl PartialEq for Name {
+    ghost use Rattle.std.specs.Str.{bytes_eq};
+    ghost use Rattle.std.specs.Cmp.{partial_equiv_from_equiv};
+    ghost use Rattle.std.proofs.lemmas.Cmp.{nat_list_eq_equiv};
+
+    ghost eq = { bytes_eq };
+
+    ghost laws = { partial_equiv_from_equiv nat_list_eq_equiv };
+
+    fn eq(&self, other: &Name) -> bool {
+        self.as_bytes() == other.as_bytes()
+    }
+}
+
+impl Eq for Name {
+    ghost use Rattle.std.proofs.lemmas.Cmp.{nat_list_eq_equiv};
+
+    ghost laws = { nat_list_eq_equiv };
+}
+
+impl PartialOrd for Name {
+    ghost use Rattle.std.specs.Ordering.{as_partial_cmp};
+    ghost use Rattle.rela_names.specs.Name.{bytes_cmp};
+    ghost use Rattle.std.specs.Cmp.{partial_order_from_own_ties};
+    ghost use Rattle.std.specs.Cmp.Rules.{comparing};
+    ghost use Rattle.std.proofs.Common.{rules};
+
+    ghost partial_cmp = { as_partial_cmp bytes_cmp };
+
+    ghost laws = { partial_order_from_own_ties (Prim.search (comparing, rules)) (Prim.search (comparing, rules)) };
+
+    fn partial_cmp(&self, other: &Name) -> Option<Ordering> {
+        Some(self.cmp(other))
+    }
+}
+
+impl Ord for Name {
+    ghost use Rattle.rela_names.specs.Name.{bytes_cmp};
+    ghost use Rattle.std.specs.Cmp.Rules.{comparing};
+    ghost use Rattle.std.proofs.Common.{rules};
+
+    ghost cmp = { bytes_cmp };
+
+    ghost total = { Prim.search (comparing, rules) };
+
+    ghost matches_partial_cmp = { Prim.search (comparing, rules) };
+
+    ghost matches_eq = { Prim.search (comparing, rules) };
+
+    fn cmp(&self, other: &Name) -> Ordering {
+        self.as_bytes().cmp(other.as_bytes())
+    }
+}
+
+/// Names that were sorted and of which no two neighbours are equal ascend strictly.
+pub fn ascending_when_sorted(names: &[Name])
+    requires sorted { IsSorted bytes_cmp names.now }
+    requires distinct { AllPairs (λ a b. a ≢ b) names.now }
+    ensures { IsAscending names.now }
+{}
