@@ -1,6 +1,6 @@
 ghost use Rattle.std.specs.Prelude.{◌≡◌, ◌≢◌, ℕ, ◌<◌, ◌+◌, ◌↔◌, true, false, IsTrue, IfOk, OnOk, IsErrOf, length};
 ghost use Rattle.std.specs.List.Sorted.{IsSorted};
-ghost use Rattle.std.specs.List.{AllPairs};
+ghost use Rattle.std.specs.List.{AllAdjacentBelow, list_all};
 ghost use Rattle.rela_names.specs.Name.{is_name_byte, is_name, IsName, is_reserved, IsLocationName, bytes_cmp, IsAscending};
 
 use std::alloc::{AllocError, AllocFailed, Global};
@@ -61,7 +61,13 @@ pub fn is_name_byte(byte: u8) -> bool
 pub fn is_name(bytes: &[u8]) -> bool
     ensures { result ≡ is_name bytes.now }
 {
-    !bytes.is_empty() && bytes.len() <= MAX_NAME_LEN && bytes.iter().all(|byte| is_name_byte(*byte))
+    1 <= bytes.len() && bytes.len() <= MAX_NAME_LEN && has_name_bytes_only(bytes)
+}
+
+fn has_name_bytes_only(bytes: &[u8]) -> bool
+    ensures { result ≡ list_all is_name_byte bytes.now }
+{
+    bytes.iter().all(|byte| is_name_byte(*byte))
 }
 
 fn is_reserved(bytes: &[u8]) -> bool
@@ -178,9 +184,10 @@ impl Ord for Name {
     }
 }
 
-/// Names that were sorted and of which no two neighbours are equal ascend strictly.
+/// Names that were sorted, as by `Vec::sort`, and of which no two neighbours are equal ascend
+/// strictly.
 pub fn ascending_when_sorted(names: &[Name])
     requires sorted { IsSorted bytes_cmp names.now }
-    requires distinct { AllPairs (λ a b. a ≢ b) names.now }
+    requires distinct { AllAdjacentBelow (λ a b. a ≢ b) names.now (length names.now) }
     ensures { IsAscending names.now }
 {}
