@@ -46,12 +46,19 @@ pub fn read_all<F: Files>(
     ensures count_fits { F.faults files.new < 2 ^ 64 }
 {
     files.open(name)?;
-    read_rest(alloc, files, limit)
+    let mut piece = vec![in alloc; 0; PIECE.min(limit + 1)]?;
+    read_rest(alloc, files, &mut piece, limit)
 }
 
-// Reads the open file to its end, if it has at most `limit` bytes left.
-fn read_rest<F: Files>(alloc: Global, files: &mut F, limit: usize) -> Result<Vec<u8>, ReadError>
+// Reads the open file to its end, if it has at most `limit` bytes left, a piece at a time.
+fn read_rest<F: Files>(
+    alloc: Global,
+    files: &mut F,
+    piece: &mut [u8],
+    limit: usize,
+) -> Result<Vec<u8>, ReadError>
     requires small { limit < 2 ^ 32 }
+    requires piece { 0 < length piece.old }
     requires at_start { F.given files.old ≡ 0 }
     requires counts { F.faults files.old < 2 ^ 64 }
 
@@ -72,7 +79,6 @@ fn read_rest<F: Files>(alloc: Global, files: &mut F, limit: usize) -> Result<Vec
     ensures count_fits { F.faults files.new < 2 ^ 64 }
 {
     let mut bytes = Vec::new(alloc);
-    let mut piece = vec![in alloc; 0u8; PIECE.min(limit + 1)]?;
     loop {
         let room = limit - bytes.len();
         let asked = piece.len().min(room + 1);

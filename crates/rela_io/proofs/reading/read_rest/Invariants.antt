@@ -3,8 +3,8 @@ use Rattle.rela_io.specs.Bytes.{before_told}
 use Rattle.rela_io.proofs.reading.read_rest.Given as goal
 
 -- The bytes so far are what the file gave, and no read has failed.
-abbrev pub invariant-loop-piece : goal.invariant-loop-piece
-invariant-loop-piece g l = record {
+abbrev pub invariant-loop-bytes : goal.invariant-loop-bytes
+invariant-loop-bytes g l = record {
   within : vec_len l.bytes ≤ l.limit;
   taken : g.F.Files.left l.initial.files ≡ before_told l.bytes.items (g.F.Files.left l.files);
   given : g.F.Files.given l.files ≡ vec_len l.bytes;
@@ -14,5 +14,5 @@ invariant-loop-piece g l = record {
   same_steady : g.F.Files.steady l.files ≡ g.F.Files.steady l.initial.files
 }
 
-abbrev pub decreases-loop-piece : goal.decreases-loop-piece
-decreases-loop-piece g l = l.limit + 1 - vec_len l.bytes
+abbrev pub decreases-loop-bytes : goal.decreases-loop-bytes
+decreases-loop-bytes g l = l.limit + 1 - vec_len l.bytes
