@@ -1,3 +1,6 @@
 pub mod Count
 pub mod Bytes
 pub mod Held
+pub mod Calls
+pub mod MemoryFiles
+pub mod MemoryFilesInside

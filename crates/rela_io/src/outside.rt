@@ -1,7 +1,7 @@
 //! The outside as two traits, for which a test or a proof can stand in something that tells all
 //! its bytes.
-ghost use Rattle.std.specs.Prelude.{◌≡◌, ℕ, ◌+◌, ◌^◌, ◌<◌, ◌≤◌, ◌↔◌, List, [], length, take, Option, Some, None, Bool, true, Ok, IsTrue, IsFalse, IsSome, IsErr, IfSome, IfOk, OnOk, OnErr};
-ghost use Rattle.rela_io.specs.Count.{Rose};
+ghost use Rattle.std.specs.Prelude.{◌≡◌, ℕ, ◌+◌, ◌<◌, ◌≤◌, ◌↔◌, List, [], length, take, Option, Some, None, Bool, true, Ok, IsTrue, IsFalse, IsSome, IsErr, IfSome, IfOk, OnOk, OnErr};
+ghost use Rattle.rela_io.specs.Count.{Rose, full};
 ghost use Rattle.rela_io.specs.Bytes.{before_told, after_told};
 ghost use Rattle.rela_io.specs.Held.{FilesByName, Lacks};
 
@@ -52,7 +52,7 @@ pub trait Files {
         ensures same_holds { holds self.new ≡ holds self.old }
         ensures same_steady { steady self.new ≡ steady self.old }
         ensures count_never_falls { faults self.old ≤ faults self.new }
-        ensures count_fits { faults self.new < 2 ^ 64 };
+        ensures count_stops_at_full { faults self.old ≤ full → faults self.new ≤ full };
 
     /// Reads the next bytes of the open file into the front of `into`, and says how many. It gives
     /// none at the end of the file, and for an empty slice.
@@ -81,7 +81,7 @@ pub trait Files {
         ensures same_holds { holds self.new ≡ holds self.old }
         ensures same_steady { steady self.new ≡ steady self.old }
         ensures count_never_falls { faults self.old ≤ faults self.new }
-        ensures count_fits { faults self.new < 2 ^ 64 };
+        ensures count_stops_at_full { faults self.old ≤ full → faults self.new ≤ full };
 
     // Only an open file has a rest.
     ghost left_of_open: { (s : Self) → IsSome (left s) → IsTrue (is_open s) };
@@ -121,5 +121,5 @@ pub trait Sink {
         ensures empty_changes_nothing { length bytes.now ≡ 0 → self.new ≡ self.old }
 
         ensures count_never_falls { faults self.old ≤ faults self.new }
-        ensures count_fits { faults self.new < 2 ^ 64 };
+        ensures count_stops_at_full { faults self.old ≤ full → faults self.new ≤ full };
 }

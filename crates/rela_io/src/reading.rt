@@ -1,6 +1,6 @@
 //! Reading a whole file.
 ghost use Rattle.std.specs.Prelude.{◌≡◌, ◌≢◌, ◌+◌, ◌^◌, ◌<◌, ◌≤◌, ◌↔◌, length, Some, Err, IsTrue, IfOk, IfSome, OnOk, IsErrOf, vec_len};
-ghost use Rattle.rela_io.specs.Count.{Rose};
+ghost use Rattle.rela_io.specs.Count.{Rose, full};
 ghost use Rattle.rela_io.specs.Held.{HoldsName, Lacks};
 
 use crate::errors::ReadError;
@@ -43,7 +43,7 @@ pub fn read_all<F: Files>(
     ensures same_holds { F.holds files.new ≡ F.holds files.old }
     ensures same_steady { F.steady files.new ≡ F.steady files.old }
     ensures count_never_falls { F.faults files.old ≤ F.faults files.new }
-    ensures count_fits { F.faults files.new < 2 ^ 64 }
+    ensures count_stops_at_full { F.faults files.old ≤ full → F.faults files.new ≤ full }
 {
     files.open(name)?;
     let mut piece = vec![in alloc; 0; PIECE.min(limit + 1)]?;
@@ -60,7 +60,6 @@ fn read_rest<F: Files>(
     requires small { limit < 2 ^ 32 }
     requires piece { 0 < length piece.old }
     requires at_start { F.given files.old ≡ 0 }
-    requires counts { F.faults files.old < 2 ^ 64 }
 
     ensures ok_within { IfOk result (λ bytes. vec_len bytes ≤ limit) }
     ensures ok_is_rest { IfOk result (λ bytes. IfSome (F.left files.old) (λ rest. rest ≡ bytes.items)) }
@@ -76,7 +75,7 @@ fn read_rest<F: Files>(
     ensures same_holds { F.holds files.new ≡ F.holds files.old }
     ensures same_steady { F.steady files.new ≡ F.steady files.old }
     ensures count_never_falls { F.faults files.old ≤ F.faults files.new }
-    ensures count_fits { F.faults files.new < 2 ^ 64 }
+    ensures count_stops_at_full { F.faults files.old ≤ full → F.faults files.new ≤ full }
 {
     let mut bytes = Vec::new(alloc);
     loop {

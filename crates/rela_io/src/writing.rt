@@ -1,6 +1,6 @@
 //! Writing a whole text.
-ghost use Rattle.std.specs.Prelude.{◌≡◌, ◌^◌, ◌<◌, ◌≤◌, OnOk, OnErr};
-ghost use Rattle.rela_io.specs.Count.{Rose};
+ghost use Rattle.std.specs.Prelude.{◌≡◌, ◌≤◌, OnOk, OnErr};
+ghost use Rattle.rela_io.specs.Count.{Rose, full};
 ghost use Rattle.rela_io.specs.Bytes.{after_told, GrewByPart};
 
 use crate::errors::Fault;
@@ -18,7 +18,8 @@ pub fn write_all<K: Sink>(sink: &mut K, bytes: &[u8]) -> Result<(), Fault>
     ensures fault_appends_part { OnErr result (GrewByPart (K.taken sink.old) (K.taken sink.new) bytes.now) }
     ensures fault_counted { OnErr result (Rose (K.faults sink.old) (K.faults sink.new)) }
 
-    ensures fault_count_fits { OnErr result (K.faults sink.new < 2 ^ 64) }
+    ensures count_never_falls { K.faults sink.old ≤ K.faults sink.new }
+    ensures count_stops_at_full { K.faults sink.old ≤ full → K.faults sink.new ≤ full }
 {
     let mut written = 0;
     while written < bytes.len() {

@@ -19,5 +19,5 @@ loop-bytes-preserved g c =
       no_fault = c.in_ok-given.ensures.ok_keeps_count ∙ c.loop-bytes.invariant.no_fault;
       same_open = c.in_ok-given.ensures.same_open ∙ c.loop-bytes.invariant.same_open;
       same_holds = c.in_ok-given.ensures.same_holds ∙ c.loop-bytes.invariant.same_holds;
-      same_steady = c.in_ok-given.ensures.same_steady ∙ c.loop-bytes.invariant.same_steady
+      same_steady = c.in_ok-given.ensures.same_steady ∙ c.loop-bytes.invariant.same_steady;
     }

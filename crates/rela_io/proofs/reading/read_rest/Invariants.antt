@@ -11,7 +11,7 @@ invariant-loop-bytes g l = record {
   no_fault : g.F.Files.faults l.files ≡ g.F.Files.faults l.initial.files;
   same_open : g.F.Files.is_open l.files ≡ g.F.Files.is_open l.initial.files;
   same_holds : g.F.Files.holds l.files ≡ g.F.Files.holds l.initial.files;
-  same_steady : g.F.Files.steady l.files ≡ g.F.Files.steady l.initial.files
+  same_steady : g.F.Files.steady l.files ≡ g.F.Files.steady l.initial.files;
 }
 
 abbrev pub decreases-loop-bytes : goal.decreases-loop-bytes

@@ -7,7 +7,7 @@ abbrev pub invariant-loop-written : goal.invariant-loop-written
 invariant-loop-written g l = record {
   within : l.written ≤ length l.bytes;
   appended : g.K.Sink.taken l.sink ≡ after_told (g.K.Sink.taken l.initial.sink) (take l.written l.bytes);
-  no_fault : g.K.Sink.faults l.sink ≡ g.K.Sink.faults l.initial.sink
+  no_fault : g.K.Sink.faults l.sink ≡ g.K.Sink.faults l.initial.sink;
 }
 
 abbrev pub decreases-loop-written : goal.decreases-loop-written
