@@ -1,5 +1,5 @@
 //! Files that stand in memory, some calls on which are made to fail.
-ghost use Rattle.std.specs.Prelude.{◌≡◌, ◌⊎◌, ◌↔◌, ◌+◌, ◌^◌, ◌<◌, ◌≤◌, ◌++◌, length, take, drop, map, Some, None, true, Ok, IsErr, IsSomeAnd, IfOk, OnOk, OnErr, MatchOption, slice_index_or, is_some, ◌==◌, refl};
+ghost use Rattle.std.specs.Prelude.{◌≡◌, ◌⊎◌, ◌↔◌, ◌+◌, ◌^◌, ◌<◌, ◌≤◌, [], ◌++◌, length, take, drop, map, Some, None, true, Ok, IsErr, IsSomeAnd, IfSome, IfOk, OnOk, OnErr, MatchOption, slice_index_or, is_some, ◌==◌, refl};
 ghost use Rattle.rela_io.specs.Calls.{NextFails, no_calls};
 ghost use Rattle.rela_io.specs.MemoryFiles.{held_in, entries_of, bytes_at, given_of, opened, not_opened, after_read, not_read};
 
@@ -105,6 +105,8 @@ impl Files for MemoryFiles {
             (n ≡ given_of self.old.piece (length into.old) (length left))
             × (into.new ≡ take n left ++ drop n into.old)
             × (self.new ≡ after_read self.old left n))) }
+        ensures ok_none_only_at_end { 0 < length into.old → IfOk result (λ n.
+            IfSome self.old.left (λ left. (n ≡ 0) ↔ (left ≡ []))) }
         ensures fault { OnErr result ((self.new ≡ not_read self.old) × (into.new ≡ into.old)) }
         ensures fails { 0 < length into.old → IsErr result ↔ (NextFails self.old.calls ⊎ (self.old.left ≡ None)) }
     {
