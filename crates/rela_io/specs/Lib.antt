@@ -1,6 +1,8 @@
-pub mod Count
 pub mod Bytes
-pub mod Held
 pub mod Calls
+pub mod Count
+pub mod Disk
+pub mod Held
 pub mod MemoryFiles
 pub mod MemoryFilesInside
+pub mod MemorySink
