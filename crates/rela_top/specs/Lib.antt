@@ -1,6 +1,5 @@
 pub mod Words
 pub mod Refusal
-pub mod Answer
 pub mod Reading
 pub use Rattle.rela_io.specs.Count
 pub use Rattle.rela_io.specs.Bytes
