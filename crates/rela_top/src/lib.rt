@@ -1,10 +1,16 @@
 //! What the program does, from its words and the files they name to the bytes it writes.
 #![tactic(auto)]
 
+mod answer;
 mod reading;
 mod refusal;
+mod reporting;
+mod running;
 mod words;
 
+pub use answer::{Answer, BAD_WORDS, MET, NO_MEMORY, READ_FAULT, REFUSED, UNDECIDED, VIOLATED, WRITE_FAULT, deliver};
 pub use reading::{Halt, MAX_FILE_BYTES, read_input};
 pub use refusal::{Input, Refusal, refusal_line};
-pub use words::{CheckFiles, read_words};
+pub use reporting::report;
+pub use running::run;
+pub use words::{Operands, read_words};

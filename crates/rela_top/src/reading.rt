@@ -1,11 +1,11 @@
 //! Reading the files that a command names.
 
-ghost use Rattle.std.specs.Prelude.{◌≡◌, ◌≢◌, ◌<◌, ◌≤◌, Err, IsTrue, IfOk, IfErr, OnOk, vec_len};
-ghost use Rattle.rela_io.specs.Held.{HoldsName};
-ghost use Rattle.rela_top.specs.Words.{CheckFiles};
-ghost use Rattle.rela_top.specs.Reading.{max_file_bytes, name_of, HoldsFiles, HaltsBy};
+ghost use Rattle.std.specs.Prelude.{◌≡◌, ◌≢◌, ◌≤◌, Err, IsTrue, IfOk, IfErr, OnOk, vec_len};
+ghost use Rattle.rela_top.specs.Operands.{files_of};
+ghost use Rattle.rela_top.specs.Reading.{max_file_bytes, HoldsFiles, HaltsBy};
 
 use crate::refusal::{Input, Refusal};
+use crate::words::Operands;
 use rela_io::{Files, ReadError, read_all};
 use std::alloc::{AllocError, Global};
 
@@ -37,20 +37,20 @@ impl From<AllocError> for Halt {
 pub fn read_input<F: Files>(
     alloc: Global,
     files: &mut F,
+    operands: &Operands<'_>,
     input: Input,
-    name: &str,
 ) -> Result<Vec<u8>, Halt>
-    ghost names: { CheckFiles }
-    requires { name.now ≡ name_of names input }
     ensures ok_within { IfOk result (λ bytes. vec_len bytes ≤ max_file_bytes) }
     ensures ok_given { OnOk result (F.given files.new ≤ max_file_bytes) }
     ensures ok_keeps_count { OnOk result (F.faults files.new ≡ F.faults files.old) }
-    ensures halts { IfErr result (HaltsBy (F.holds files.old) names (F.faults files.old) (F.faults files.new) (F.given files.new)) }
-    ensures steady_is_no_fault { IsTrue (F.steady files.old) → HoldsName (F.holds files.old) name.now → result ≢ Err Halt.ReadFault }
+    ensures halts { IfErr result (HaltsBy (F.holds files.old) (files_of operands.now)
+        (F.faults files.old) (F.faults files.new) (F.given files.new)) }
+    ensures steady_is_no_fault { IsTrue (F.steady files.old) → HoldsFiles (F.holds files.old) (files_of operands.now) →
+        result ≢ Err Halt.ReadFault }
     ensures same_holds { F.holds files.new ≡ F.holds files.old }
     ensures same_steady { F.steady files.new ≡ F.steady files.old }
 {
-    match read_all(alloc, files, name, MAX_FILE_BYTES) {
+    match read_all(alloc, files, operands.name_of(input), MAX_FILE_BYTES) {
         Ok(bytes) => Ok(bytes),
         Err(ReadError::Fault) => Err(Halt::ReadFault),
         Err(ReadError::TooLong) => Err(Halt::Refused(Refusal::TooLong(input))),
