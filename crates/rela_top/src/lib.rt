@@ -2,6 +2,7 @@
 #![tactic(auto)]
 
 mod answer;
+mod plain;
 mod reading;
 mod refusal;
 mod reporting;
@@ -9,6 +10,7 @@ mod running;
 mod words;
 
 pub use answer::{Answer, BAD_WORDS, MET, NO_MEMORY, READ_FAULT, REFUSED, UNDECIDED, VIOLATED, WRITE_FAULT, deliver};
+pub use plain::{PlainCheck, read_plain};
 pub use reading::{Halt, MAX_FILE_BYTES, read_input};
 pub use refusal::{Input, Refusal, refusal_line};
 pub use reporting::report;

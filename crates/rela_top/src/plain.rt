@@ -1,9 +1,8 @@
 //! The one form of a specification that is decided today: a single check whose zone is one word of
 //! interfaces that has to be kept, `check NAME : { NAME NAME* : preserve };`.
 
-ghost use Rattle.std.specs.Prelude.{◌≡◌, ◌<◌, ◌≤◌, All, IfOk, IfErr, OnOk, length};
+ghost use Rattle.std.specs.Prelude.{◌≡◌, ◌<◌, ◌≤◌, All, IfOk, IfSome, length};
 ghost use Rattle.rela_names.specs.Alphabet.{path_symbols};
-ghost use Rattle.rela_lex.specs.declared.error.SpecError.{SpecError};
 
 use rela_lex::{SpecError, Token, TokenKind, tokens};
 use rela_names::{Alphabet, Name, Symbol, Word};
@@ -66,11 +65,19 @@ fn plain_parts(tokens: &[Token]) -> Option<(&Name, &[Token])> {
 fn symbol_of(token: &Token, interfaces: &Alphabet) -> Result<Symbol, SpecError>
     ensures { IfOk result (λ s. s < path_symbols interfaces.now) }
 {
-    let found = match name_of(token) {
-        Some(name) => interfaces.find(name.as_bytes()),
-        None => None,
-    };
-    found.ok_or(SpecError::UnknownLocation { at: token.at })
+    let at = token.at;
+    let name = name_of(token).ok_or(SpecError::UnknownLocation { at })?;
+    match find(name.as_bytes(), interfaces) {
+        Some(symbol) => Ok(symbol),
+        None => Err(SpecError::UnknownLocation { at }),
+    }
+}
+
+// The interface of this name.
+fn find(name: &[u8], interfaces: &Alphabet) -> Option<Symbol>
+    ensures { IfSome result (λ s. s < length interfaces.now) }
+{
+    interfaces.find(name)
 }
 
 fn is_mark(token: &Token, mark: u8) -> bool {
@@ -89,12 +96,12 @@ fn name_of(token: &Token) -> Option<&Name> {
     }
 }
 
-const KEYWORDS: [&str; 29] = [
+const KEYWORDS: [&str; 30] = [
     "level", "path", "spec", "check", "for", "interface", "device", "group", "tag", "preserve", "add", "remove",
     "replace", "drop", "any", "loop", "then", "else", "all", "dst", "src", "in", "overlaps", "flow", "class", "not",
-    "and", "or", "atmost",
+    "and", "or", "atmost", "ignore",
 ];
 
 fn is_keyword(word: &[u8]) -> bool {
-    word == b"ignore" || KEYWORDS.iter().any(|keyword| keyword.as_bytes() == word)
+    KEYWORDS.iter().any(|keyword| keyword.as_bytes() == word)
 }
