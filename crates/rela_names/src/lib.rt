@@ -2,6 +2,7 @@
 #![tactic(auto)]
 
 mod alphabet;
+mod boxed;
 mod level;
 mod list;
 mod name;
@@ -9,6 +10,7 @@ mod shortlex;
 mod word;
 
 pub use alphabet::{Alphabet, MAX_LOCATIONS, MAX_MARKERS};
+pub use boxed::Boxed;
 pub use level::Level;
 pub use list::List;
 pub use name::{MAX_NAME_LEN, Name, NameError, ascending_when_sorted, is_name, is_name_byte};
