@@ -5,6 +5,7 @@ ghost use Rattle.rela_names.specs.Name.{is_name_byte, is_name, IsName, is_reserv
 
 use std::alloc::{AllocError, AllocFailed, Global};
 use std::cmp::Ordering;
+use std::hash::{Hash, Hasher};
 use std::marker::Model;
 use thiserror::Error;
 
@@ -12,7 +13,7 @@ use thiserror::Error;
 pub const MAX_NAME_LEN: usize = 64;
 
 /// Why bytes are not taken as a name.
-#[derive(Debug, Drop, Error)]
+#[derive(Debug, PartialEq, Eq, Drop, Error)]
 pub enum NameError {
     #[error("a name has 1 to 64 letters, digits and the marks _ . : / -")]
     Bad,
@@ -28,6 +29,16 @@ impl From<AllocError> for NameError {
     ghost from_gives = { λ _ e. e ≡ Memory };
 
     fn from(_error: AllocError) -> NameError {
+        NameError::Memory
+    }
+}
+
+impl<T: Drop> From<AllocFailed<T>> for NameError {
+    ghost use Rattle.rela_names.specs.declared.name.NameError.TheVariants.{Memory};
+
+    ghost from_gives = { λ _ e. e ≡ Memory };
+
+    fn from(_error: AllocFailed<T>) -> NameError {
         NameError::Memory
     }
 }
@@ -181,6 +192,20 @@ impl Ord for Name {
 
     fn cmp(&self, other: &Name) -> Ordering {
         self.as_bytes().cmp(other.as_bytes())
+    }
+}
+
+impl Hash for Name {
+    ghost use Rattle.std.specs.Hash as fed;
+    ghost use Rattle.std.specs.Cmp.Rules.{hashing};
+    ghost use Rattle.std.proofs.Common.{rules};
+
+    ghost hash_input = { fed.slice fed.u8 };
+
+    ghost respects_eq = { Prim.search (hashing, rules) };
+
+    fn hash<H: Hasher>(&self, state: &mut H) {
+        self.as_bytes().hash(state);
     }
 }
 
