@@ -55,6 +55,12 @@ fn sorts_names_by_bytes(rt: HostRuntime) -> Result<(), Fail> {
     assert!(rt; first < second);
     assert!(rt; third < first);
     assert!(rt; first != second);
+    let mut names = Vec::new(alloc);
+    names.push(second)?;
+    names.push(first)?;
+    let sorted = sort_names(names)?;
+    assert_eq!(rt; sorted.len(), 2);
+    assert_eq!(rt; sorted[0].as_bytes(), b"r10".as_slice());
     Ok(())
 }
 
