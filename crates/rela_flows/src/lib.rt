@@ -1,0 +1,6 @@
+//! Flow classes, the address prefixes that they hold, and the predicates that pick them.
+#![tactic(auto)]
+
+mod prefix;
+
+pub use prefix::{Ipv4Prefix, Ipv6Prefix, Prefix};
