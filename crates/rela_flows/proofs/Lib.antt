@@ -1,2 +1,5 @@
 pub mod FirstBits
 pub mod PrefixSets
+pub mod Parts
+pub mod Numerals
+pub mod Exactly

@@ -1,6 +1,8 @@
 //! Address prefixes of both families, and how they lie to one another.
 ghost use Rattle.std.specs.Prelude.{◌≡◌, ◌<◌, ◌≤◌, ◌-◌, ◌/◌, ◌%◌, ◌^◌, ◌↔◌, IsTrue};
 
+mod reading;
+
 /// An IPv4 prefix (RFC 4632, section 3.1): the addresses that agree with `address` in the first
 /// `length` of their 32 bits. The bits past them are zero, so that each set of addresses has one
 /// such value.
