@@ -3,3 +3,4 @@ pub mod PrefixSets
 pub mod Parts
 pub mod Numerals
 pub mod Exactly
+pub mod FieldRuns

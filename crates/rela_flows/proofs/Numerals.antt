@@ -1,5 +1,7 @@
 -- Digits and decimals.
 use Rattle.std.proofs.Common.{◌≡◌, ◌≢◌, ℕ, ◌+◌, ◌*◌, ◌^◌, ◌<◌, ◌≤◌, zero, suc, le_trans, List, [], ◌∷◌, length, get_or, take, refl, sym, ◌∙◌, ap, subst, ⊎_elim, lit<, arith}
+use Rattle.std.specs.List.{All}
+use Rattle.rela_flows.proofs.Parts.{IsNot}
 use Rattle.std.specs.Char.{digit_value}
 use Rattle.std.specs.Str.Parse.{AllDigits, digits_value, IsNumeral}
 use Rattle.std.specs.Fmt.{decimal}
@@ -52,3 +54,12 @@ no_leading_zero text n long first octet = ⊎_elim
       absurd (omega (arith, ap length one)))
     (λ positive. absurd (omega (arith, ap (λ t. get_or t 0 0) octet.written, first_decimal n (omega arith) (omega (arith, octet.fits)))))
     (cases_lt n 1)
+
+-- digits hold no byte that is none
+pub digits_avoid : (radix s : ℕ) (text : List ℕ) → radix ≤ digit_value s → AllDigits radix text → All (IsNot s) text
+digits_avoid radix s [] none digits k d inside same = omega arith
+digits_avoid radix s (c ∷ cs) none digits zero d inside same =
+    let here : digit_value c < radix = digits.0 in
+    let there : digit_value c ≡ digit_value s = ap digit_value same in
+    omega arith
+digits_avoid radix s (c ∷ cs) none digits (suc k) d inside same = digits_avoid radix s cs none digits.1 k d (omega arith) same
