@@ -23,11 +23,11 @@ pub record Continues (notation : Notation) (count number : ℕ) (parts : List (L
   pub value : fields.number ≡ number_from_digits_after (2 ^ bits_of notation) number numbers
 
 -- a field holds no separator, and is not empty
-field_avoids : (notation : Notation) (part : List ℕ) (n : ℕ) → IsField notation part n → All (IsNot (separator_of notation)) part
+pub field_avoids : (notation : Notation) (part : List ℕ) (n : ℕ) → IsField notation part n → All (IsNot (separator_of notation)) part
 field_avoids Dotted part n octet = digits_avoid 10 46 part (lit≤ tt) (numeral_of_octet part n octet).0.1
 field_avoids Colons part n group = digits_avoid 16 58 part (lit≤ tt) group.numeral.1
 
-field_some : (notation : Notation) (part : List ℕ) (n : ℕ) → IsField notation part n → 0 < length part
+pub field_some : (notation : Notation) (part : List ℕ) (n : ℕ) → IsField notation part n → 0 < length part
 field_some Dotted part n octet = (numeral_of_octet part n octet).0.0
 field_some Colons part n group = group.numeral.0
 
@@ -173,7 +173,7 @@ runs_out notation text left fields runs none few other =
       λ write. ap Some (end.1 (rw none at ((runs other).0 write))) )
 
 -- a field fits its bits
-field_fits : (notation : Notation) (part : List ℕ) (n : ℕ) → IsField notation part n → n < 2 ^ bits_of notation
+pub field_fits : (notation : Notation) (part : List ℕ) (n : ℕ) → IsField notation part n → n < 2 ^ bits_of notation
 field_fits Dotted part n octet = octet.fits
 field_fits Colons part n group =
     let below : digits_value 16 part < 16 ^ length part = digits_value-lt 16 part group.numeral.1 in

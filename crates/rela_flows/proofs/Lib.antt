@@ -4,3 +4,7 @@ pub mod Parts
 pub mod Numerals
 pub mod Exactly
 pub mod FieldRuns
+pub mod Addresses
+pub mod Gaps
+pub mod Elided
+pub mod Ipv6Addresses

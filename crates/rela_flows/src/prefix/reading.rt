@@ -1,6 +1,6 @@
 //! The texts of prefixes, read: dotted decimal (RFC 4632, section 3.1) and colon hexadecimal
 //! (RFC 4291, section 2.2), each with a slash and a length.
-ghost use Rattle.std.specs.Prelude.{◌≡◌, ℕ, ◌+◌, ◌<◌, ◌≤◌, ◌^◌, ◌↔◌, ◌==◌, ◌∷◌, Option, Some, MatchOption, length, option_copied, slice_index};
+ghost use Rattle.std.specs.Prelude.{◌≡◌, ℕ, ◌+◌, ◌*◌, ◌<◌, ◌≤◌, ◌^◌, ◌↔◌, ◌==◌, ◌∷◌, Option, Some, MatchOption, length, option_copied, slice_index};
 ghost use Rattle.std.specs.List.{slice_split};
 ghost use Rattle.std.specs.Str.Parse.{IsNumeral, digits_value};
 ghost use Rattle.rela_flows.specs.Notation.{IsOctet, IsIpv4Address, IsIpv6Address};
@@ -134,6 +134,15 @@ fn gap(text: &[u8]) -> Option<usize>
     None
 }
 
+// A shift to the left that loses nothing, which may be by all 128 bits if there is nothing to shift.
+fn shifted(number: u128, bits: u32) -> u128
+    requires width { bits ≤ 128 }
+    requires room { number * 2 ^ bits < 2 ^ 128 }
+    ensures { result ≡ number * 2 ^ bits }
+{
+    number.checked_shl(bits).unwrap_or(0)
+}
+
 // The address that eight groups write, or fewer round two colons, which stand for zeros.
 pub(super) fn ipv6_address(text: &[u8]) -> Option<u128>
     ensures { (a : ℕ) → (result ≡ Some a) ↔ IsIpv6Address text.now a }
@@ -147,7 +156,5 @@ pub(super) fn ipv6_address(text: &[u8]) -> Option<u128>
     if left.count + right.count > 7 {
         return None;
     }
-    // Where nothing stands on the left, its number is 0, and stays so under any shift.
-    let high = left.number.checked_shl(16 * (8 - left.count)).unwrap_or(0);
-    Some(high | right.number)
+    Some(shifted(left.number, 16 * (8 - left.count)) | right.number)
 }
