@@ -14,7 +14,7 @@ pub number_after : (b n : ℕ) (ds : List ℕ) → number_from_digits_after b n 
 number_after b n [] = rw (pow-zero b) (omega arith)
 number_after b n (d ∷ ds) =
     rw (pow-succ' b (length ds))
-      (shift_step b (b ^ length ds) n d _ _ (number_from_digits b ds) (number_after b (n * b + d) ds) (number_after b (0 * b + d) ds))
+    (shift_step b (b ^ length ds) n d _ _ (number_from_digits b ds) (number_after b (n * b + d) ds) (number_after b (0 * b + d) ds))
 
 zero_step : (n b p x : ℕ) → x ≡ (n * b + 0) * p → x ≡ n * (b * p)
 zero_step n b p x e = omega arith
@@ -31,9 +31,9 @@ pub number_elided : (b z : ℕ) (left right : List ℕ) → number_from_digits b
 number_elided b z left right =
     let n : ℕ = number_from_digits b left in
     let zeros : number_from_digits b (left ++ replicate z 0) ≡ n * b ^ z =
-        number_after_append b 0 left (replicate z 0) ∙ number_zeros b n z in
+    number_after_append b 0 left (replicate z 0) ∙ number_zeros b n z in
     let all : number_from_digits b (left ++ replicate z 0 ++ right) ≡ number_from_digits b (left ++ replicate z 0) * b ^ length right + number_from_digits b right =
-        number_after_append b 0 (left ++ replicate z 0) right ∙ number_after b (number_from_digits b (left ++ replicate z 0)) right in
+    number_after_append b 0 (left ++ replicate z 0) right ∙ number_after b (number_from_digits b (left ++ replicate z 0)) right in
     shift_by n (b ^ z) (b ^ length right) (b ^ (z + length right)) _ _ _ zeros all (pow-add b z (length right))
 
 -- a power of a power of two

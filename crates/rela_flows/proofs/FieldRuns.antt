@@ -54,7 +54,7 @@ parts_of_joined notation [] numbers each = refl
 parts_of_joined notation (part ∷ parts) [] each = absurd each
 parts_of_joined notation (part ∷ parts) (n ∷ ns) each =
     all_parts_some (separator_of notation) (join_with_byte (separator_of notation) (part ∷ parts))
-      (joined_some (separator_of notation) part parts (field_some notation part n each.0))
+    (joined_some (separator_of notation) part parts (field_some notation part n each.0))
     ∙ splits_joined (separator_of notation) part parts (fields_avoid notation (part ∷ parts) (n ∷ ns) each)
 
 joined_parts : (s : ℕ) (text : List ℕ) → text ≡ join_with_byte s (all_parts s text)
@@ -63,23 +63,24 @@ joined_parts s (c ∷ cs) = joined_splits s (c ∷ cs)
 
 -- no fields are read yet
 pub run_start : (notation : Notation) (text : List ℕ) (fields : Fields) → Write notation text fields ↔ Continues notation 0 0 (all_parts (separator_of notation) text) fields
-run_start notation text fields =
-    ( (λ write. record {
-        numbers = write.numbers;
-        each = let parts : all_parts (separator_of notation) text ≡ write.written.fields =
-          ap (all_parts (separator_of notation)) write.written.joined ∙ parts_of_joined notation write.written.fields write.numbers write.written.each in
-          rw parts write.written.each;
-        few = omega (arith, write.few);
-        total = omega (arith, write.count);
-        value = write.number;
-      }),
-      λ run. record {
-        numbers = run.numbers;
-        written = record { fields = all_parts (separator_of notation) text; joined = joined_parts (separator_of notation) text; each = run.each };
-        few = omega (arith, run.few);
-        count = omega (arith, run.total);
-        number = run.value;
-      } )
+run_start notation text fields = (
+  (λ write. record {
+    numbers = write.numbers;
+    each = let parts : all_parts (separator_of notation) text ≡ write.written.fields =
+        ap (all_parts (separator_of notation)) write.written.joined ∙ parts_of_joined notation write.written.fields write.numbers write.written.each in
+        rw parts write.written.each;
+    few = omega (arith, write.few);
+    total = omega (arith, write.count);
+    value = write.number;
+  }),
+  λ run. record {
+    numbers = run.numbers;
+    written = record { fields = all_parts (separator_of notation) text; joined = joined_parts (separator_of notation) text; each = run.each };
+    few = omega (arith, run.few);
+    count = omega (arith, run.total);
+    number = run.value;
+  },
+)
 
 field_value : (notation : Notation) (part : List ℕ) (m n : ℕ) → IsField notation part m → IsField notation part n → m ≡ n
 field_value Dotted part m n one two = (numeral_of_octet part m one).2 ∙ sym (numeral_of_octet part n two).2
@@ -133,10 +134,11 @@ ended notation fields other (n ∷ ns) each total value = absurd each
 
 -- no part is left
 pub run_end : (notation : Notation) (fields other : Fields) → fields.count ≤ 8 → (fields ≡ other) ↔ Continues notation fields.count fields.number [] other
-run_end notation fields other few =
-    ( (λ same. subst (Continues notation fields.count fields.number []) same
-        (record { numbers = []; each = tt; few = omega arith; total = omega arith; value = refl })),
-      λ run. ended notation fields other run.numbers run.each run.total run.value )
+run_end notation fields other few = (
+  (λ same. subst (Continues notation fields.count fields.number []) same
+      (record { numbers = []; each = tt; few = omega arith; total = omega arith; value = refl })),
+  λ run. ended notation fields other run.numbers run.each run.total run.value,
+)
 
 -- the first part, and the others, of a rest that is cut
 pub cut_parts : (s t : ℕ) (rest : Option (Bor (List ℕ))) (more : Bor (List ℕ)) (part : List ℕ) (after : Option (Bor (List ℕ))) → rest ≡ Some more → s ≡ t → splits s more.now ≡ part ∷ parts_of s (option_copied after) → parts_of t (option_copied rest) ≡ part ∷ parts_of t (option_copied after)
@@ -162,15 +164,17 @@ none_at_no_field notation text count number left part parts runs cut refused fie
 pub runs_on : (notation : Notation) (text : List ℕ) (count number : ℕ) (left : List (List ℕ)) (part : List ℕ) (parts : List (List ℕ)) (n m : ℕ) → Runs notation text count number left → left ≡ part ∷ parts → IsField notation part n → m ≡ number * 2 ^ bits_of notation + n → Runs notation text (count + 1) m parts
 runs_on notation text count number left part parts n m runs cut field is fields =
     let step : Continues notation count number (part ∷ parts) fields ↔ Continues notation (count + 1) (number * 2 ^ bits_of notation + n) parts fields = run_step notation count number n part parts fields field in
-    rw is
-      ( (λ write. step.0 (rw cut at ((runs fields).0 write))),
-        λ run. (runs fields).1 (rw cut (step.1 run)) )
+    rw is (
+      (λ write. step.0 (rw cut at ((runs fields).0 write))),
+      λ run. (runs fields).1 (rw cut (step.1 run)),
+    )
 
 pub runs_out : (notation : Notation) (text : List ℕ) (left : List (List ℕ)) (fields : Fields) → Runs notation text fields.count fields.number left → left ≡ [] → fields.count ≤ 8 → (other : Fields) → (Some fields ≡ Some other) ↔ Write notation text other
 runs_out notation text left fields runs none few other =
-    let end : (fields ≡ other) ↔ Continues notation fields.count fields.number [] other = run_end notation fields other few in
-    ( (λ some. let same : fields ≡ other = cc in (runs other).1 (rw none (end.0 same))),
-      λ write. ap Some (end.1 (rw none at ((runs other).0 write))) )
+    let end : (fields ≡ other) ↔ Continues notation fields.count fields.number [] other = run_end notation fields other few in (
+      (λ some. let same : fields ≡ other = cc in (runs other).1 (rw none (end.0 same))),
+      λ write. ap Some (end.1 (rw none at ((runs other).0 write))),
+    )
 
 -- a field fits its bits
 pub field_fits : (notation : Notation) (part : List ℕ) (n : ℕ) → IsField notation part n → n < 2 ^ bits_of notation
@@ -188,16 +192,16 @@ bits_fit Colons count few = omega arith
 pub shifted_in : (notation : Notation) (count number bits n : ℕ) (part : List ℕ) → count < 8 → number < 2 ^ (bits_of notation * count) → bits ≡ bits_of notation → IsField notation part n → bit_or (number * 2 ^ bits % 2 ^ 128) n ≡ number * 2 ^ bits_of notation + n
 shifted_in notation count number bits n part few small same field =
     rw same
-      ( ap (λ a. bit_or a n) (shl_whole number (bits_of notation * count) (bits_of notation) 128 small (bits_fit notation count few))
-        ∙ or_shifted number (bits_of notation) n (field_fits notation part n field) )
+    (ap (λ a. bit_or a n) (shl_whole number (bits_of notation * count) (bits_of notation) 128 small (bits_fit notation count few))
+    ∙ or_shifted number (bits_of notation) n (field_fits notation part n field))
 
 pub shifted_fits : (notation : Notation) (count number n : ℕ) (part : List ℕ) → number < 2 ^ (bits_of notation * count) → IsField notation part n → number * 2 ^ bits_of notation + n < 2 ^ (bits_of notation * (count + 1))
 shifted_fits notation count number n part small field =
     let below : number * 2 ^ bits_of notation + n < 2 ^ bits_of notation * 2 ^ (bits_of notation * count) =
-        mul-add-lt number (2 ^ bits_of notation) n (2 ^ (bits_of notation * count)) small (field_fits notation part n field) in
+    mul-add-lt number (2 ^ bits_of notation) n (2 ^ (bits_of notation * count)) small (field_fits notation part n field) in
     let power : 2 ^ (bits_of notation * (count + 1)) ≡ 2 ^ bits_of notation * 2 ^ (bits_of notation * count) =
-        ap (λ k. 2 ^ k) (let e : bits_of notation * (count + 1) ≡ bits_of notation + bits_of notation * count = omega arith in e)
-        ∙ pow-add 2 (bits_of notation) (bits_of notation * count) in
+    ap (λ k. 2 ^ k) (let e : bits_of notation * (count + 1) ≡ bits_of notation + bits_of notation * count = omega arith in e)
+    ∙ pow-add 2 (bits_of notation) (bits_of notation * count) in
     rw power below
 
 pub all_of_empty : (s : ℕ) (text : List ℕ) (rest : Option (Bor (List ℕ))) → length text ≡ 0 → rest ≡ None → parts_of s (option_copied rest) ≡ all_parts s text

@@ -31,7 +31,7 @@ no_gap_at_group : (group : List ℕ) (groups : List (List ℕ)) (n : ℕ) (ns : 
 no_gap_at_group group [] n ns each tail gap = opens group tail n each.0 gap.second
 no_gap_at_group group (next ∷ more) n ns each tail gap =
     opens group (58 ∷ (join_with_byte 58 (next ∷ more) ++ tail)) n each.0
-      (subst (λ t. get_or t 0 0 ≡ 58) (append_assoc group (58 ∷ join_with_byte 58 (next ∷ more)) tail) gap.second)
+    (subst (λ t. get_or t 0 0 ≡ 58) (append_assoc group (58 ∷ join_with_byte 58 (next ∷ more)) tail) gap.second)
 
 -- no gap begins within groups
 pub gap_after : (groups : List (List ℕ)) (numbers : List ℕ) → AllZip IsGroup groups numbers → (tail : List ℕ) (k : ℕ) → IsGap (join_with_byte 58 groups ++ tail) k → length (join_with_byte 58 groups) ≤ k
@@ -45,19 +45,19 @@ gap_after (group ∷ next ∷ more) (n ∷ m ∷ ms) each tail k gap =
     let regrouped : (group ++ (58 ∷ rest)) ++ tail ≡ group ++ (58 ∷ (rest ++ tail)) = append_assoc group (58 ∷ rest) tail in
     let there : IsGap (group ++ (58 ∷ (rest ++ tail))) k = subst (λ t. IsGap t k) regrouped gap in
     ⊎_elim
-      (λ inside. absurd (not_inside group (58 ∷ (rest ++ tail)) n k each.0 inside there))
-      (λ past.
-        let j : ℕ = k - length group in
-        let here : IsGap (58 ∷ (rest ++ tail)) j = before group (58 ∷ (rest ++ tail)) j (subst (IsGap (group ++ (58 ∷ (rest ++ tail)))) (let e : k ≡ length group + j = omega arith in e) there) in
-        ⊎_elim
-          (λ at. absurd (no_gap_at_group next more m ms each.1 tail (subst (IsGap (58 ∷ (rest ++ tail))) (let e : j ≡ 0 = omega arith in e) here)))
-          (λ beyond.
-            let i : ℕ = j - 1 in
-            let in_rest : IsGap (rest ++ tail) i = before (58 ∷ []) (rest ++ tail) i (subst (IsGap (58 ∷ (rest ++ tail))) (let e : j ≡ 1 + i = omega arith in e) here) in
-            let less : length rest ≤ i = gap_after (next ∷ more) (m ∷ ms) each.1 tail i in_rest in
-            omega (arith, length-append group (58 ∷ rest)))
-          (cases_lt j 1))
-      (cases_lt k (length group))
+    (λ inside. absurd (not_inside group (58 ∷ (rest ++ tail)) n k each.0 inside there))
+    (λ past.
+    let j : ℕ = k - length group in
+    let here : IsGap (58 ∷ (rest ++ tail)) j = before group (58 ∷ (rest ++ tail)) j (subst (IsGap (group ++ (58 ∷ (rest ++ tail)))) (let e : k ≡ length group + j = omega arith in e) there) in
+    ⊎_elim
+    (λ at. absurd (no_gap_at_group next more m ms each.1 tail (subst (IsGap (58 ∷ (rest ++ tail))) (let e : j ≡ 0 = omega arith in e) here)))
+    (λ beyond.
+    let i : ℕ = j - 1 in
+    let in_rest : IsGap (rest ++ tail) i = before (58 ∷ []) (rest ++ tail) i (subst (IsGap (58 ∷ (rest ++ tail))) (let e : j ≡ 1 + i = omega arith in e) here) in
+    let less : length rest ≤ i = gap_after (next ∷ more) (m ∷ ms) each.1 tail i in_rest in
+    omega (arith, length-append group (58 ∷ rest)))
+    (cases_lt j 1))
+    (cases_lt k (length group))
 
 -- eight groups hold no gap
 pub whole_no_gap : (text : List ℕ) (a k : ℕ) → IsWholeIpv6Address text a → IsGap text k → ⊥
@@ -82,11 +82,11 @@ short_gap text a short =
 pub short_at : (text : List ℕ) (a i : ℕ) (short : IsShortIpv6Address text a) → IsGap text i → ((k : ℕ) → k < i → ¬ IsGap text k) → length short.left_text ≡ i
 short_at text a i short gap first =
     let left : length (join_with_byte 58 short.left_written.fields) ≤ i =
-        gap_after short.left_written.fields short.left short.left_written.each (58 ∷ 58 ∷ short.right_text) i
-          (subst (λ t. IsGap (t ++ 58 ∷ 58 ∷ short.right_text) i) short.left_written.joined (rw short.joined at gap)) in
+    gap_after short.left_written.fields short.left short.left_written.each (58 ∷ 58 ∷ short.right_text) i
+    (subst (λ t. IsGap (t ++ 58 ∷ 58 ∷ short.right_text) i) short.left_written.joined (rw short.joined at gap)) in
     let within : length short.left_text ≤ i = rw short.left_written.joined left in
     ⊎_elim (λ earlier. absurd (first (length short.left_text) earlier (short_gap text a short))) (λ later. omega arith)
-      (cases_lt (length short.left_text) i)
+    (cases_lt (length short.left_text) i)
 
 pub short_left : (text : List ℕ) (a i : ℕ) (short : IsShortIpv6Address text a) → length short.left_text ≡ i → take i text ≡ short.left_text
 short_left text a i short at = rw short.joined (take_at short.left_text (58 ∷ 58 ∷ short.right_text) i at)
@@ -94,15 +94,15 @@ short_left text a i short at = rw short.joined (take_at short.left_text (58 ∷ 
 pub short_right : (text : List ℕ) (a i : ℕ) (short : IsShortIpv6Address text a) → length short.left_text ≡ i → drop (i + 2) text ≡ short.right_text
 short_right text a i short at =
     rw short.joined
-      ( sym (drop-drop 2 i (short.left_text ++ 58 ∷ 58 ∷ short.right_text))
-        ∙ ap (drop 2) (drop_at short.left_text (58 ∷ 58 ∷ short.right_text) i at) )
+    (sym (drop-drop 2 i (short.left_text ++ 58 ∷ 58 ∷ short.right_text))
+    ∙ ap (drop 2) (drop_at short.left_text (58 ∷ 58 ∷ short.right_text) i at))
 
 pub gap_room : (text : List ℕ) (i : ℕ) → IsGap text i → i + 2 ≤ length text
 gap_room text i gap = ⊎_elim
     (λ short.
-      let zero_is : get_or text (i + 1) 0 ≡ 0 = get_or_past text (i + 1) 0 (omega arith) in
-      let colon : get_or text (i + 1) 0 ≡ 58 = gap.second in
-      absurd (omega arith))
+    let zero_is : get_or text (i + 1) 0 ≡ 0 = get_or_past text (i + 1) 0 (omega arith) in
+    let colon : get_or text (i + 1) 0 ≡ 58 = gap.second in
+    absurd (omega arith))
     (λ long. long)
     (cases_lt (length text) (i + 2))
 
@@ -112,7 +112,7 @@ around_gap text i gap =
     let room : i + 2 ≤ length text = gap_room text i gap in
     sym (take-append-drop i text)
     ∙ ap (λ l. take i text ++ l)
-      ( drop_more text i 0 (omega arith) ∙ ap (λ b. b ∷ drop (i + 1) text) gap.first
-        ∙ ap (λ l. 58 ∷ l)
-          ( drop_more text (i + 1) 0 (omega arith) ∙ ap (λ b. b ∷ drop (i + 1 + 1) text) gap.second
-            ∙ ap (λ j. 58 ∷ drop j text) (let e : i + 1 + 1 ≡ i + 2 = omega arith in e) ) )
+    (drop_more text i 0 (omega arith) ∙ ap (λ b. b ∷ drop (i + 1) text) gap.first
+    ∙ ap (λ l. 58 ∷ l)
+    (drop_more text (i + 1) 0 (omega arith) ∙ ap (λ b. b ∷ drop (i + 1 + 1) text) gap.second
+    ∙ ap (λ j. 58 ∷ drop j text) (let e : i + 1 + 1 ≡ i + 2 = omega arith in e)))

@@ -70,10 +70,11 @@ only_short text a i gap (inr short) = short
 pub left_run : (text : List ℕ) (a i : ℕ) → IsFirstGap text i → IsIpv6Address text a → (short : IsShortIpv6Address text a) × Write Colons (take i text) (run_of (length short.left) (number_from_digits (2 ^ 16) short.left)) × Write Colons (drop (i + 2) text) (run_of (length short.right) (number_from_digits (2 ^ 16) short.right))
 left_run text a i at is =
     let short : IsShortIpv6Address text a = only_short text a i at.gap is in
-    let ends : length short.left_text ≡ i = short_at text a i short at.gap at.first in
-    ( short,
+    let ends : length short.left_text ≡ i = short_at text a i short at.gap at.first in (
+      short,
       rw (short_left text a i short ends) (record { numbers = short.left; written = short.left_written; few = omega (arith, short.eight); count = refl; number = refl }),
-      rw (short_right text a i short ends) (record { numbers = short.right; written = short.right_written; few = omega (arith, short.eight); count = refl; number = refl }) )
+      rw (short_right text a i short ends) (record { numbers = short.right; written = short.right_written; few = omega (arith, short.eight); count = refl; number = refl }),
+    )
 
 pub left_refused : (text : List ℕ) (i : ℕ) → IsFirstGap text i → Reads (take i text) None → (a : ℕ) → IsIpv6Address text a → ⊥
 left_refused text i at reads a is =
@@ -136,9 +137,9 @@ short_of_writes text i left right at one two few =
       eight = eight;
       joined = around_gap text i at.gap;
       value = ap (λ m. m * 2 ^ (16 * (8 - left.count)) + right.number) one.number
-        ∙ ap (λ k. n * 2 ^ (16 * (8 - k)) + right.number) one.count
-        ∙ ap (λ m. n * 2 ^ (16 * (8 - length one.numbers)) + m) two.number
-        ∙ sym (elided_number one.numbers two.numbers zeros eight);
+          ∙ ap (λ k. n * 2 ^ (16 * (8 - k)) + right.number) one.count
+          ∙ ap (λ m. n * 2 ^ (16 * (8 - length one.numbers)) + m) two.number
+          ∙ sym (elided_number one.numbers two.numbers zeros eight);
     })
 
 pub short_read : (text : List ℕ) (i : ℕ) (left right : Fields) → IsFirstGap text i → Reads (take i text) (Some left) → Reads (drop (i + 2) text) (Some right) → left.count + right.count ≤ 7 → IsIpv6Address text (left.number * 2 ^ (16 * (8 - left.count)) + right.number)

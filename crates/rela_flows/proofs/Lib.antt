@@ -8,3 +8,5 @@ pub mod Addresses
 pub mod Gaps
 pub mod Elided
 pub mod Ipv6Addresses
+pub mod SamePrefix
+pub mod PrefixTexts

@@ -50,8 +50,8 @@ numeral_of_octet text n octet =
 pub no_leading_zero : (text : List ℕ) (n : ℕ) → 1 < length text → get_or text 0 0 ≡ 48 → IsOctet text n → ⊥
 no_leading_zero text n long first octet = ⊎_elim
     (λ zero_is.
-      let one : text ≡ (48 + n) ∷ [] = octet.written ∙ decimal_digit n (omega arith) in
-      absurd (omega (arith, ap length one)))
+    let one : text ≡ (48 + n) ∷ [] = octet.written ∙ decimal_digit n (omega arith) in
+    absurd (omega (arith, ap length one)))
     (λ positive. absurd (omega (arith, ap (λ t. get_or t 0 0) octet.written, first_decimal n (omega arith) (omega (arith, octet.fits)))))
     (cases_lt n 1)
 

@@ -17,9 +17,9 @@ splits_none s text none = slice_split_none (λ b. nat_eq b s) text (λ k d insid
 pub splits_at : (s : ℕ) (text : List ℕ) (i : ℕ) → i < length text → get_or text i 0 ≡ s → ((k : ℕ) → k < i → get_or text k 0 ≢ s) → splits s text ≡ take i text ∷ splits s (drop (i + 1) text)
 splits_at s text i inside here before =
     let first : position_or_len (λ b. nat_eq b s) text ≡ i =
-        position_or_len_is (λ b. nat_eq b s) text i 0 (omega arith)
-        (λ k under. ne_eqb (get_or text k 0) s (before k under))
-        (λ _. eq-eqb (get_or text i 0) s here) in
+    position_or_len_is (λ b. nat_eq b s) text i 0 (omega arith)
+    (λ k under. ne_eqb (get_or text k 0) s (before k under))
+    (λ _. eq-eqb (get_or text i 0) s here) in
     slice_split_first (λ b. nat_eq b s) text 0 (omega arith)
     ∙ ap (λ j. take j text ∷ splits s (drop (j + 1) text)) first
 

@@ -1,3 +1,4 @@
 pub mod Address
 pub mod Fields
 pub mod Notation
+pub mod Network

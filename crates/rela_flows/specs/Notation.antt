@@ -4,6 +4,7 @@ use Rattle.std.specs.List.{AllZip, join_with_byte}
 use Rattle.std.specs.Fmt.{decimal, digits}
 use Rattle.std.specs.Int.Digits.{number_from_digits}
 use Rattle.std.specs.Str.Parse.{IsNumeral, digits_value}
+use Rattle.rela_flows.specs.Network.{network}
 use Rattle.rela_flows.specs.declared.prefix.Prefix.{Prefix}
 use Rattle.rela_flows.specs.declared.prefix.Prefix.TheVariants.{V4, V6}
 
@@ -60,10 +61,6 @@ pub record IsShortIpv6Address (text : List ℕ) (address : ℕ) : Type 0 where
 
 abbrev pub IsIpv6Address : List ℕ → ℕ → Type 0
 IsIpv6Address text address = IsWholeIpv6Address text address ⊎ IsShortIpv6Address text address
-
--- The address with the bits past the first `length` of its `width` put to zero.
-abbrev pub network : ℕ → ℕ → ℕ → ℕ
-network width length address = address / 2 ^ (width - length) * 2 ^ (width - length)
 
 -- An address, a slash, and the length in decimal. Host bits may be written, and are put to zero.
 pub record IsPrefixText (IsAddress : List ℕ → ℕ → Type 0) (width : ℕ) (text : List ℕ) (address length : ℕ) : Type 0 where

@@ -1,7 +1,11 @@
 //! Address prefixes of both families, and how they lie to one another.
-ghost use Rattle.std.specs.Prelude.{◌≡◌, ◌<◌, ◌≤◌, ◌-◌, ◌/◌, ◌%◌, ◌^◌, ◌↔◌, IsTrue};
+ghost use Rattle.std.specs.Prelude.{◌≡◌, ◌<◌, ◌≤◌, ◌-◌, ◌%◌, ◌^◌, ◌↔◌, IsTrue, Some};
+ghost use Rattle.rela_flows.specs.Network.{network};
 
+mod bits;
 mod reading;
+
+use bits::{leading_v4, leading_v6, network_v4, network_v6};
 
 /// An IPv4 prefix (RFC 4632, section 3.1): the addresses that agree with `address` in the first
 /// `length` of their 32 bits. The bits past them are zero, so that each set of addresses has one
@@ -34,27 +38,59 @@ pub enum Prefix {
 }
 
 impl Ipv4Prefix {
-    // The number that the first `bits` bits of the address write.
-    fn leading(&self, bits: u8) -> u32
-        requires { bits ≤ 32 }
-        ensures { result ≡ self.now.address / 2 ^ (32 - bits) }
+    /// The prefix of this length that has the address in it. None where the length is above 32.
+    pub fn new(address: u32, length: u8) -> Option<Ipv4Prefix>
+        ensures { (p : Ipv4Prefix) → (result ≡ Some p) ↔ ((p.length ≡ length) × (p.address ≡ network 32 length address)) }
     {
-        // A shift by all 32 bits leaves nothing.
-        self.address.checked_shr(32 - u32::from(bits)).unwrap_or(0)
+        if length > 32 {
+            return None;
+        }
+        Some(Ipv4Prefix {
+            address: network_v4(address, length),
+            length,
+        })
     }
 }
 
 impl Ipv6Prefix {
-    fn leading(&self, bits: u8) -> u128
-        requires { bits ≤ 128 }
-        ensures { result ≡ self.now.address / 2 ^ (128 - bits) }
+    /// The prefix of this length that has the address in it. None where the length is above 128.
+    pub fn new(address: u128, length: u8) -> Option<Ipv6Prefix>
+        ensures { (p : Ipv6Prefix) → (result ≡ Some p) ↔ ((p.length ≡ length) × (p.address ≡ network 128 length address)) }
     {
-        self.address.checked_shr(128 - u32::from(bits)).unwrap_or(0)
+        if length > 128 {
+            return None;
+        }
+        Some(Ipv6Prefix {
+            address: network_v6(address, length),
+            length,
+        })
     }
 }
 
 impl Prefix {
     ghost use Rattle.rela_flows.specs.Address.{IsWithin, Overlap};
+    ghost use Rattle.rela_flows.specs.Notation.{IsTextOf, text_of};
+
+    /// The prefix that a text writes: an address, a slash, and the length in decimal. An IPv4
+    /// address is four octets in decimal joined by dots, an IPv6 address eight groups of one to four
+    /// hexadecimal digits joined by colons, or fewer round `::`, which stands for zero groups. Bits
+    /// past the length may be set, and are put to zero. None exactly where the text is none.
+    pub fn parse(text: &[u8]) -> Option<Prefix>
+        ensures { (p : Prefix) → (result ≡ Some p) ↔ IsTextOf text.now p }
+    {
+        let (address, length) = reading::cut(text, b'/');
+        let Some(length) = length else {
+            return None;
+        };
+        let length = reading::octet(length)? as u8;
+        match reading::ipv4_address(address) {
+            Some(v4) => Some(Prefix::V4(Ipv4Prefix::new(v4, length)?)),
+            None => {
+                let v6 = reading::ipv6_address(address)?;
+                Some(Prefix::V6(Ipv6Prefix::new(v6, length)?))
+            }
+        }
+    }
 
     /// Whether each address of the prefix is one of `other`.
     pub fn within(&self, other: &Prefix) -> bool
@@ -63,11 +99,13 @@ impl Prefix {
         match (self, other) {
             (Prefix::V4(inner), Prefix::V4(outer)) => {
                 outer.length <= inner.length
-                    && inner.leading(outer.length) == outer.leading(outer.length)
+                    && leading_v4(inner.address, outer.length)
+                        == leading_v4(outer.address, outer.length)
             }
             (Prefix::V6(inner), Prefix::V6(outer)) => {
                 outer.length <= inner.length
-                    && inner.leading(outer.length) == outer.leading(outer.length)
+                    && leading_v6(inner.address, outer.length)
+                        == leading_v6(outer.address, outer.length)
             }
             (Prefix::V4(_), Prefix::V6(_)) => false,
             (Prefix::V6(_), Prefix::V4(_)) => false,
@@ -81,11 +119,11 @@ impl Prefix {
         match (self, other) {
             (Prefix::V4(one), Prefix::V4(two)) => {
                 let bits = one.length.min(two.length);
-                one.leading(bits) == two.leading(bits)
+                leading_v4(one.address, bits) == leading_v4(two.address, bits)
             }
             (Prefix::V6(one), Prefix::V6(two)) => {
                 let bits = one.length.min(two.length);
-                one.leading(bits) == two.leading(bits)
+                leading_v6(one.address, bits) == leading_v6(two.address, bits)
             }
             (Prefix::V4(_), Prefix::V6(_)) => false,
             (Prefix::V6(_), Prefix::V4(_)) => false,

@@ -70,7 +70,7 @@ fn short_numeral(text: &[u8], radix: u32) -> Option<u16>
 }
 
 // The number below 256 that a decimal with no leading zero writes.
-fn octet(text: &[u8]) -> Option<u16>
+pub(super) fn octet(text: &[u8]) -> Option<u16>
     ensures { (n : ℕ) → (result ≡ Some n) ↔ IsOctet text.now n }
 {
     if text.len() > 1 && text[0] == b'0' {
@@ -81,7 +81,7 @@ fn octet(text: &[u8]) -> Option<u16>
 }
 
 // What stands before the first separator, and what after it if there is one.
-fn cut(text: &[u8], separator: u8) -> (&[u8], Option<&[u8]>)
+pub(super) fn cut(text: &[u8], separator: u8) -> (&[u8], Option<&[u8]>)
     ensures { slice_split (λ b. b == separator) text.now ≡ result.0.now ∷ parts_of separator (option_copied result.1) }
 {
     match text.iter().position(|&b| b == separator) {
@@ -94,7 +94,10 @@ fn cut(text: &[u8], separator: u8) -> (&[u8], Option<&[u8]>)
 fn read_fields(text: &[u8], notation: Notation) -> Option<Fields>
     ensures { (fields : Fields) → (result ≡ Some fields) ↔ Write notation text.now fields }
 {
-    let mut read = Fields { count: 0, number: 0 };
+    let mut read = Fields {
+        count: 0,
+        number: 0,
+    };
     let mut rest = if text.is_empty() { None } else { Some(text) };
     while let Some(more) = rest {
         let (field, after) = cut(more, notation.separator());
@@ -149,7 +152,11 @@ pub(super) fn ipv6_address(text: &[u8]) -> Option<u128>
 {
     let Some(gap) = gap(text) else {
         let groups = read_fields(text, Notation::Colons)?;
-        return if groups.count == 8 { Some(groups.number) } else { None };
+        return if groups.count == 8 {
+            Some(groups.number)
+        } else {
+            None
+        };
     };
     let left = read_fields(&text[..gap], Notation::Colons)?;
     let right = read_fields(&text[gap + 2..], Notation::Colons)?;

@@ -18,8 +18,8 @@ pub returns-then-octets-eq4 : goal.returns-then-octets-eq4
 returns-then-octets-eq4 c =
     let octets = c.in_ok-octets.octets in
     given _ _ octets.number refl
-      (ipv4_of_write c.args.text.now octets ((c.in_ok-octets.ensures octets).0 refl) c.if-octets-eq4.true)
-      (λ a is. ap (λ f. f.number) (sym (ipv4_only c.args.text.now octets c.in_ok-octets.ensures a is)))
+    (ipv4_of_write c.args.text.now octets ((c.in_ok-octets.ensures octets).0 refl) c.if-octets-eq4.true)
+    (λ a is. ap (λ f. f.number) (sym (ipv4_only c.args.text.now octets c.in_ok-octets.ensures a is)))
 
 pub returns-else-octets-eq4 : goal.returns-else-octets-eq4
 returns-else-octets-eq4 c = refused _ _ refl (λ a is.

@@ -11,8 +11,8 @@ pub returns-then-groups-eq8 : goal.returns-then-groups-eq8
 returns-then-groups-eq8 c =
     let groups = c.in_ok-groups.groups in
     given _ _ groups.number refl
-      (whole_read c.args.text.now groups c.in_ok-groups.ensures c.if-groups-eq8.true)
-      (λ a is. ap (λ f. f.number) (sym (whole_only c.args.text.now groups c.in_default.ensures c.in_ok-groups.ensures a is)))
+    (whole_read c.args.text.now groups c.in_ok-groups.ensures c.if-groups-eq8.true)
+    (λ a is. ap (λ f. f.number) (sym (whole_only c.args.text.now groups c.in_default.ensures c.in_ok-groups.ensures a is)))
 
 pub returns-else-groups-eq8 : goal.returns-else-groups-eq8
 returns-else-groups-eq8 c = refused _ _ refl (λ a is.
@@ -49,7 +49,7 @@ returns c =
     let at : IsFirstGap c.args.text.now c.in-Some.gap = record { gap = c.in-Some.ensures.0; first = c.in-Some.ensures.1 } in
     let reads : Reads (drop (c.in-Some.gap + 2) c.args.text.now) (Some right) = subst (λ t. Reads t (Some right)) (take_rest c.args.text.now (c.in-Some.gap + 2)) c.in_ok-right.ensures in
     let number : bit_or c.shifted.result right.number ≡ left.number * 2 ^ (16 * (8 - left.count)) + right.number =
-        ap (λ k. bit_or k right.number) c.shifted.ensures ∙ joined_number _ left right reads c.if-left-right-gt7.false in
+    ap (λ k. bit_or k right.number) c.shifted.ensures ∙ joined_number _ left right reads c.if-left-right-gt7.false in
     given _ _ (left.number * 2 ^ (16 * (8 - left.count)) + right.number) (ap Some number)
-      (short_read c.args.text.now c.in-Some.gap left right at c.in_ok-left.ensures reads c.if-left-right-gt7.false)
-      (short_only c.args.text.now c.in-Some.gap left right at c.in_ok-left.ensures reads)
+    (short_read c.args.text.now c.in-Some.gap left right at c.in_ok-left.ensures reads c.if-left-right-gt7.false)
+    (short_only c.args.text.now c.in-Some.gap left right at c.in_ok-left.ensures reads)

@@ -22,10 +22,10 @@ pub returns-then-number-lt256 : goal.returns-then-number-lt256
 returns-then-number-lt256 c =
     let text : List ℕ = c.args.text.now in
     let plain : get_or text 0 0 ≡ 48 → length text ≤ 1 =
-        λ first. elim c.else-text-gt1.branch [ else-text-gt1-via-then-text-gt1+else-text-eq48 w ↦ absurd (w.if-text-eq48.false first) | else-text-gt1-via-else-text-gt1 w ↦ w.if-text-gt1.false ] in
+    λ first. elim c.else-text-gt1.branch [ else-text-gt1-via-then-text-gt1+else-text-eq48 w ↦ absurd (w.if-text-eq48.false first) | else-text-gt1-via-else-text-gt1 w ↦ w.if-text-gt1.false ] in
     given _ _ c.in_ok-number.number refl
-      (octet_of_numeral text c.in_ok-number.number plain c.if-number-lt256.true ((c.in_ok-number.ensures c.in_ok-number.number).0 refl))
-      (only text c.in_ok-number.number c.in_ok-number.ensures)
+    (octet_of_numeral text c.in_ok-number.number plain c.if-number-lt256.true ((c.in_ok-number.ensures c.in_ok-number.number).0 refl))
+    (only text c.in_ok-number.number c.in_ok-number.ensures)
 
 pub returns-else-number-lt256 : goal.returns-else-number-lt256
 returns-else-number-lt256 c = refused _ _ refl (λ n octet.

@@ -18,7 +18,7 @@ small c = rw c.in_ok-digit.ensures.value.1 c.in_ok-digit.ensures.value.0
 room : (c : In_ok-digit) → c.loop-byte.number * c.args.radix + c.in_ok-digit.digit < 2 ^ 16
 room c =
     let fits : digits_value c.args.radix (take c.loop-byte.byte-index c.args.text.now) * c.args.radix + c.in_ok-digit.digit < 2 ^ 16 =
-        digit_fits c.args.radix c.args.text.now c.loop-byte.byte-index c.in_ok-digit.digit c.requires.high (omega arith) (omega arith) c.loop-byte.invariant.digits (small c) in
+    digit_fits c.args.radix c.args.text.now c.loop-byte.byte-index c.in_ok-digit.digit c.requires.high (omega arith) (omega arith) c.loop-byte.invariant.digits (small c) in
     rw c.loop-byte.invariant.value fits
 
 pub overflow_mul-number : goal.overflow_mul-number
@@ -31,6 +31,6 @@ pub loop-byte-preserved : goal.loop-byte-preserved
 loop-byte-preserved c =
     record {
       digits = digits_more c.args.radix c.args.text.now c.loop-byte.byte-index (omega arith) c.loop-byte.invariant.digits
-        (rw (← c.from.ensures) c.in_ok-digit.ensures.value.0);
+          (rw (← c.from.ensures) c.in_ok-digit.ensures.value.0);
       value = rw (digits_value_more c.args.radix c.args.text.now c.loop-byte.byte-index (omega arith), ← c.loop-byte.invariant.value, c.in_ok-digit.ensures.value.1, c.from.ensures) refl;
     }

@@ -5,5 +5,5 @@ use Rattle.rela_flows.proofs.prefix.reading.short_numeral.Given as goal
 abbrev pub invariant-loop-byte : goal.invariant-loop-byte
 invariant-loop-byte l = record {
   digits : AllDigits l.radix (take l.byte-index l.text);
-  value : l.number ≡ digits_value l.radix (take l.byte-index l.text)
+  value : l.number ≡ digits_value l.radix (take l.byte-index l.text);
 }
