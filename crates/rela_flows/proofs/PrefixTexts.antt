@@ -28,7 +28,7 @@ joined_avoids s c [] apart each = All-nil (IsNot c)
 joined_avoids s c (part ∷ []) apart each = each.0
 joined_avoids s c (part ∷ next ∷ more) apart each =
     All-append (IsNot c) part (s ∷ join_with_byte s (next ∷ more)) each.0
-      (All-cons (IsNot c) s (join_with_byte s (next ∷ more)) apart (joined_avoids s c (next ∷ more) apart each.1))
+    (All-cons (IsNot c) s (join_with_byte s (next ∷ more)) apart (joined_avoids s c (next ∷ more) apart each.1))
 
 -- no field holds a byte that is no digit of its radix
 field_avoids_byte : (notation : Notation) (c : ℕ) (part : List ℕ) (n : ℕ) → 16 ≤ digit_value c → IsField notation part n → All (IsNot c) part
@@ -52,9 +52,9 @@ ipv6_avoids : (c : ℕ) (text : List ℕ) (a : ℕ) → 58 ≢ c → 16 ≤ digi
 ipv6_avoids c text a apart none (inl whole) = groups_avoid c text whole.groups apart none whole.written
 ipv6_avoids c text a apart none (inr short) =
     rw short.joined
-      (All-append (IsNot c) short.left_text (58 ∷ 58 ∷ short.right_text) (groups_avoid c short.left_text short.left apart none short.left_written)
-        (All-cons (IsNot c) 58 (58 ∷ short.right_text) apart
-          (All-cons (IsNot c) 58 short.right_text apart (groups_avoid c short.right_text short.right apart none short.right_written))))
+    (All-append (IsNot c) short.left_text (58 ∷ 58 ∷ short.right_text) (groups_avoid c short.left_text short.left apart none short.left_written)
+    (All-cons (IsNot c) 58 (58 ∷ short.right_text) apart
+    (All-cons (IsNot c) 58 short.right_text apart (groups_avoid c short.right_text short.right apart none short.right_written))))
 
 -- a byte in the middle is there
 not_avoided : (c : ℕ) (front back : List ℕ) → All (IsNot c) (front ++ c ∷ back) → ⊥
@@ -91,9 +91,9 @@ decimal_avoids n small = digits_avoid 10 47 (decimal n) (lit≤ tt) (decimal_is_
 text_parts : (IsAddress : List ℕ → ℕ → Type 0) (avoids : (t : List ℕ) (a : ℕ) → IsAddress t a → All (IsNot 47) t) (width : ℕ) (text : List ℕ) (address n : ℕ) → n < 256 → (is : IsPrefixText IsAddress width text address n) → splits 47 text ≡ is.address_text ∷ decimal n ∷ []
 text_parts IsAddress avoids width text address n small is =
     rw is.joined
-      ( slice_split_at (λ b. nat_eq b 47) is.address_text 47 (decimal n)
-          (λ k d inside. ne_eqb (get_or is.address_text k d) 47 (avoids is.address_text is.host is.written k d inside)) (eq-eqb 47 47 refl)
-        ∙ ap (λ parts. is.address_text ∷ parts) (splits_none 47 (decimal n) (decimal_avoids n small)) )
+    (slice_split_at (λ b. nat_eq b 47) is.address_text 47 (decimal n)
+    (λ k d inside. ne_eqb (get_or is.address_text k d) 47 (avoids is.address_text is.host is.written k d inside)) (eq-eqb 47 47 refl)
+    ∙ ap (λ parts. is.address_text ∷ parts) (splits_none 47 (decimal n) (decimal_avoids n small)))
 
 head_same : (x y : List ℕ) (xs ys : List (List ℕ)) → x ∷ xs ≡ y ∷ ys → (x ≡ y) × (xs ≡ ys)
 head_same x y xs ys e = (cc, cc)
@@ -108,7 +108,7 @@ pub record IsRead (IsAddress : List ℕ → ℕ → Type 0) (width : ℕ) (befor
 read_of_text : (IsAddress : List ℕ → ℕ → Type 0) (avoids : (t : List ℕ) (a : ℕ) → IsAddress t a → All (IsNot 47) t) (width : ℕ) (text before after : List ℕ) (address n : ℕ) → IsSlashed text before after → n < 256 → IsPrefixText IsAddress width text address n → IsRead IsAddress width before after address n
 read_of_text IsAddress avoids width text before after address n slashed small is =
     let same : (before ≡ is.address_text) × (splits 47 after ≡ decimal n ∷ []) =
-        head_same _ _ _ _ (sym slashed ∙ text_parts IsAddress avoids width text address n small is) in
+    head_same _ _ _ _ (sym slashed ∙ text_parts IsAddress avoids width text address n small is) in
     let behind : after ≡ decimal n = joined_splits 47 after ∙ ap (join_with_byte 47) same.1 in
     record {
       host = is.host;
@@ -123,8 +123,8 @@ text_of_read IsAddress width text before after address n slashed is = record {
   address_text = before;
   written = is.written;
   joined = joined_splits 47 text ∙ ap (join_with_byte 47) slashed
-    ∙ ap (λ t. join_with_byte 47 (before ∷ splits 47 t)) is.length.written
-    ∙ ap (λ parts. join_with_byte 47 (before ∷ parts)) (splits_none 47 (decimal n) (decimal_avoids n is.length.fits));
+      ∙ ap (λ t. join_with_byte 47 (before ∷ splits 47 t)) is.length.written
+      ∙ ap (λ parts. join_with_byte 47 (before ∷ parts)) (splits_none 47 (decimal n) (decimal_avoids n is.length.fits));
   value = is.value;
 }
 

@@ -48,12 +48,14 @@ network_zeros w n a k is =
 
 -- the one prefix of its numbers
 pub only4 : (made : Ipv4Prefix) (a n : ℕ) → made.length ≡ n → made.address ≡ network 32 n a → (p : Ipv4Prefix) → (Some made ≡ Some p) ↔ ((p.length ≡ n) × (p.address ≡ network 32 n a))
-only4 made a n length address p =
-    ( (λ some. let is : made ≡ p = cc in (ap (λ q. q.length) (sym is) ∙ length, ap (λ q. q.address) (sym is) ∙ address)),
-      λ numbers. ap Some (same4 made p (length ∙ sym numbers.0) (address ∙ sym numbers.1)) )
+only4 made a n length address p = (
+  (λ some. let is : made ≡ p = cc in (ap (λ q. q.length) (sym is) ∙ length, ap (λ q. q.address) (sym is) ∙ address)),
+  λ numbers. ap Some (same4 made p (length ∙ sym numbers.0) (address ∙ sym numbers.1)),
+)
 
 -- the one prefix of its numbers
 pub only6 : (made : Ipv6Prefix) (a n : ℕ) → made.length ≡ n → made.address ≡ network 128 n a → (p : Ipv6Prefix) → (Some made ≡ Some p) ↔ ((p.length ≡ n) × (p.address ≡ network 128 n a))
-only6 made a n length address p =
-    ( (λ some. let is : made ≡ p = cc in (ap (λ q. q.length) (sym is) ∙ length, ap (λ q. q.address) (sym is) ∙ address)),
-      λ numbers. ap Some (same6 made p (length ∙ sym numbers.0) (address ∙ sym numbers.1)) )
+only6 made a n length address p = (
+  (λ some. let is : made ≡ p = cc in (ap (λ q. q.length) (sym is) ∙ length, ap (λ q. q.address) (sym is) ∙ address)),
+  λ numbers. ap Some (same6 made p (length ∙ sym numbers.0) (address ∙ sym numbers.1)),
+)

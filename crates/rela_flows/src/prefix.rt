@@ -1,11 +1,13 @@
 //! Address prefixes of both families, and how they lie to one another.
-ghost use Rattle.std.specs.Prelude.{◌≡◌, ◌<◌, ◌≤◌, ◌-◌, ◌%◌, ◌^◌, ◌↔◌, IsTrue, Some};
+ghost use Rattle.std.specs.Prelude.{◌≡◌, ◌<◌, ◌≤◌, ◌-◌, ◌%◌, ◌^◌, ◌↔◌, IsTrue, Some, IfOk};
 ghost use Rattle.rela_flows.specs.Network.{network};
 
 mod bits;
 mod reading;
+mod writing;
 
 use bits::{leading_v4, leading_v6, network_v4, network_v6};
+use std::alloc::{AllocError, Global};
 
 /// An IPv4 prefix (RFC 4632, section 3.1): the addresses that agree with `address` in the first
 /// `length` of their 32 bits. The bits past them are zero, so that each set of addresses has one
@@ -89,6 +91,18 @@ impl Prefix {
                 let v6 = reading::ipv6_address(address)?;
                 Some(Prefix::V6(Ipv6Prefix::new(v6, length)?))
             }
+        }
+    }
+
+    /// The canonical text. Of an IPv6 address it has all eight groups, in lower case with no leading
+    /// zeros. `parse` reads it as this prefix again.
+    pub fn text(&self, alloc: Global) -> Result<Vec<u8>, AllocError>
+        ensures canonical { IfOk result (λ v. v.items ≡ text_of self.now) }
+        ensures reads_back { IfOk result (λ v. IsTextOf v.items self.now) }
+    {
+        match self {
+            Prefix::V4(prefix) => writing::ipv4_text(alloc, prefix),
+            Prefix::V6(prefix) => writing::ipv6_text(alloc, prefix),
         }
     }
 
