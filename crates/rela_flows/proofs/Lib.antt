@@ -10,3 +10,4 @@ pub mod Elided
 pub mod Ipv6Addresses
 pub mod SamePrefix
 pub mod PrefixTexts
+pub mod OwnText
