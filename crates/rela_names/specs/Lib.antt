@@ -1,0 +1,5 @@
+pub mod Alphabet
+pub mod Name
+pub mod Shortlex
+pub mod Symbol
+pub mod formers
