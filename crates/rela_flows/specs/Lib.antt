@@ -2,3 +2,4 @@ pub mod Address
 pub mod Fields
 pub mod Notation
 pub mod Network
+pub mod Selects
