@@ -1,0 +1,4 @@
+pub mod Adjacency
+pub mod Paths
+pub mod Topology
+pub mod Walk

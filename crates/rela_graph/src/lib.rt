@@ -1,0 +1,14 @@
+//! Forwarding graphs: their walks, their cycles and the paths that they allow.
+#![tactic(auto)]
+
+mod cycle;
+mod graph;
+mod node;
+mod node_set;
+mod path;
+
+pub use graph::{Graph, MAX_EDGES, MAX_NODES};
+pub use node::{Link, Node};
+
+#[cfg(test)]
+mod tests;
