@@ -14,25 +14,27 @@ abbrev pub squeeze : List ℕ → List ℕ
 squeeze [] = []
 squeeze (x ∷ xs) = x ∷ squeeze_after x xs
 
--- the location of node n
-abbrev pub location : Topology → Level → ℕ → ℕ
-location g level n = slice_index (map (symbol_at level) g.nodes) n
+-- the location of each node at the level
+abbrev pub locations : Topology → Level → List ℕ
+locations g level = map (symbol_at level) g.nodes
 
 -- the locations of a walk's nodes, each run of equal neighbours written once
-abbrev pub base : Topology → Level → List ℕ → List ℕ
-base g level walk = squeeze (map (location g level) walk)
+abbrev pub base : List ℕ → List ℕ → List ℕ
+base places walk = squeeze (map (λ n. slice_index places n) walk)
 
 -- some walk ends at n and has this base word
-abbrev pub Arrives : Topology → Level → ℕ → List ℕ → Type 0
-Arrives g level n word = (before : List ℕ) × IsWalk g (before ++ n ∷ []) × (base g level (before ++ n ∷ []) ≡ word)
+abbrev pub Arrives : Topology → List ℕ → ℕ → List ℕ → Type 0
+Arrives g places n word = (before : List ℕ) × IsWalk g (before ++ n ∷ []) × (base places (before ++ n ∷ []) ≡ word)
 
--- what follows the base word of a walk that ends at n: nothing where n delivers, `drop` where it drops,
--- and `loop` where it lies on a cycle
+-- what may follow the base word of a walk that ends at n: nothing where n delivers, `drop` where it
+-- drops, and `loop` where it lies on a cycle
 abbrev pub IsEnding : Topology → List (List ℕ) → ℕ → List ℕ → Type 0
 IsEnding g alphabet n ending =
-    (IsDelivered g n × (ending ≡ [])) ⊎ ((IsDropNode g n × (ending ≡ length alphabet ∷ [])) ⊎ (IsCyclic g n × (ending ≡ (length alphabet + 1) ∷ [])))
+    (IsDelivered g n × (ending ≡ []))
+    ⊎ ((IsDropNode g n × (ending ≡ length alphabet ∷ []))
+    ⊎ (IsCyclic g n × (ending ≡ (length alphabet + 1) ∷ [])))
 
--- the word is the base word of some walk, with what its last node lets follow
+-- the word is the base word of some walk, and then what its last node lets follow
 abbrev pub Paths : Topology → Level → List (List ℕ) → List ℕ → Type 0
 Paths g level alphabet word =
-    (n : ℕ) × (front : List ℕ) × (ending : List ℕ) × Arrives g level n front × IsEnding g alphabet n ending × (word ≡ front ++ ending)
+    (n : ℕ) × (front : List ℕ) × (ending : List ℕ) × Arrives g (locations g level) n front × IsEnding g alphabet n ending × (word ≡ front ++ ending)

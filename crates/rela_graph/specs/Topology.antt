@@ -35,6 +35,10 @@ IsDropped g n = HasFlag g.dropped n
 abbrev pub JoinsNodes : ℕ → Link → Type 0
 JoinsNodes count link = (link.a < count) × (link.b < count)
 
+-- an edge from n to a node
+abbrev pub IsEdgeFrom : Topology → ℕ → Link → Type 0
+IsEdgeFrom g n link = (link.a ≡ n) × (link.b < length g.nodes) × HasEdge g n link.b
+
 -- at most 10,000 nodes, with a flag of each kind for each, and at most 100,000 edges between them
 pub record IsTopology (g : Topology) : Type 0 where
   pub few_nodes : length g.nodes ≤ 10000

@@ -13,9 +13,13 @@ abbrev pub IsWalk : Topology → List ℕ → Type 0
 IsWalk g [] = ⊥
 IsWalk g (a ∷ rest) = IsStart g a × FollowsEdges g (a ∷ rest)
 
--- some list of at least two nodes begins and ends with n, and its neighbouring pairs are edges
+-- some list of at least two nodes, each neighbouring pair an edge, begins with a and ends with b
+abbrev pub Leads : Topology → ℕ → ℕ → Type 0
+Leads g a b = (between : List ℕ) × FollowsEdges g (a ∷ (between ++ b ∷ []))
+
+-- some list of at least two nodes, each neighbouring pair an edge, begins and ends with n
 abbrev pub IsCyclic : Topology → ℕ → Type 0
-IsCyclic g n = (between : List ℕ) × FollowsEdges g (n ∷ between ++ n ∷ [])
+IsCyclic g n = Leads g n n
 
 -- listed as one that drops, or with no edge out and not listed as one that delivers
 abbrev pub IsDropNode : Topology → ℕ → Type 0

@@ -1,6 +1,8 @@
-ghost use Rattle.std.specs.Prelude.{◌≡◌, ℕ, ◌<◌, ◌≤◌, ◌↔◌, IsTrue, IfOk, Contains, length, slice_index_or, map};
+ghost use Rattle.std.specs.Prelude.{◌≡◌, ℕ, ◌<◌, ◌≤◌, ◌↔◌, IsTrue, IfOk, Contains, length, vec_len};
 ghost use Rattle.std.specs.List.{All};
-ghost use Rattle.rela_graph.specs.Topology.{Topology, IsTopology, JoinsNodes, HasEdge, IsStart, IsDelivered, IsDropped, HasFlag};
+ghost use Rattle.std.specs.List.Sorted.{IsSorted, IsPartitionPoint};
+ghost use Rattle.rela_graph.specs.Adjacency.{IsIndexed, link_cmp};
+ghost use Rattle.rela_graph.specs.Topology.{IsTopology, JoinsNodes, IsEdgeFrom, HasEdge, IsStart, IsDelivered, IsDropped, HasFlag};
 ghost use Rattle.rela_graph.specs.declared.node.Link.{Link};
 
 use crate::node::{Link, Node};
@@ -30,14 +32,15 @@ pub struct Graph {
 }
 
 impl Model for Graph {
-    ghost use Rattle.rela_graph.specs.Topology.{Topology, IsTopology};
-    ghost use Rattle.rela_graph.specs.Adjacency.{IsIndexed};
+    ghost use Rattle.rela_graph.specs.Topology.{Topology};
 
     ghost Value = { Topology };
 
-    ghost view = { λ g. record { nodes = g.nodes.items; edges = g.edges.items; starts = g.starts.items; delivered = g.delivered.items; dropped = g.dropped.items } };
+    ghost use Rattle.rela_graph.specs.Stored.{topology, IsStored};
 
-    ghost invariant = { λ g. IsTopology (record { nodes = g.nodes.items; edges = g.edges.items; starts = g.starts.items; delivered = g.delivered.items; dropped = g.dropped.items }) × IsIndexed g.edges.items g.offsets.items };
+    ghost view = { topology };
+
+    ghost invariant = { IsStored };
 }
 
 impl Graph {
@@ -122,6 +125,8 @@ impl Graph {
     /// The edges that come from a node.
     pub(crate) fn edges_from(&self, n: u32) -> &[Link]
         requires { n < length self.now.nodes }
+        ensures each { All (IsEdgeFrom self.now n) result.now }
+        ensures all { (b : ℕ) → HasEdge self.now n b → Contains result.now (record { a = n; b = b }) }
     {
         let from = self.offsets[n as usize] as usize;
         let to = self.offsets[n as usize + 1] as usize;
@@ -129,22 +134,47 @@ impl Graph {
     }
 }
 
-fn sorted(alloc: Global, edges: &[Link]) -> Result<Vec<Link>, AllocError> {
+/// The edges in ascending order, each once.
+fn sorted(alloc: Global, edges: &[Link]) -> Result<Vec<Link>, AllocError>
+    ensures same { IfOk result (λ v. (link : Link) → Contains v.items link ↔ Contains edges.now link) }
+    ensures ordered { IfOk result (λ v. IsSorted link_cmp v.items) }
+    ensures few { IfOk result (λ v. vec_len v ≤ length edges.now) }
+{
     let mut edges = Vec::from_slice(alloc, edges)?;
     edges.sort_unstable();
     edges.dedup();
     Ok(edges)
 }
 
-fn offsets_of(alloc: Global, edges: &[Link], count: usize) -> Result<Vec<u32>, AllocError> {
+/// For each node, and for the number after the last, how many edges come from nodes before it.
+fn offsets_of(alloc: Global, edges: &[Link], count: usize) -> Result<Vec<u32>, AllocError>
+    requires ordered { IsSorted link_cmp edges.now }
+    requires few_edges { length edges.now ≤ MAX_EDGES }
+    requires few_nodes { count ≤ MAX_NODES }
+    ensures { IfOk result (λ v. IsIndexed count edges.now v.items) }
+{
     let mut offsets = Vec::with_capacity(alloc, count + 1)?;
     for n in 0..count + 1 {
-        offsets.push(edges.partition_point(|edge| (edge.a as usize) < n) as u32)?;
+        offsets.push(edges_before(edges, n) as u32)?;
     }
     Ok(offsets)
 }
 
-fn flags_of(alloc: Global, listed: &[u32], count: usize) -> Result<Vec<bool>, AllocError> {
+/// How many edges come from nodes before n.
+fn edges_before(edges: &[Link], n: usize) -> usize
+    requires { IsSorted link_cmp edges.now }
+    ensures parted { IsPartitionPoint (λ link. link.a < n) (λ link. n ≤ link.a) edges.now result }
+    ensures within { result ≤ length edges.now }
+{
+    edges.partition_point(|edge| (edge.a as usize) < n)
+}
+
+/// A flag for each number below `count`, which is set for those that are listed.
+fn flags_of(alloc: Global, listed: &[u32], count: usize) -> Result<Vec<bool>, AllocError>
+    requires { All (λ n. n < count) listed.now }
+    ensures len { IfOk result (λ v. vec_len v ≡ count) }
+    ensures flags { IfOk result (λ v. (n : ℕ) → HasFlag v.items n ↔ Contains listed.now n) }
+{
     let mut flags = vec![in alloc; false; count]?;
     for n in listed {
         flags[*n as usize] = true;

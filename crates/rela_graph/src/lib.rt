@@ -6,6 +6,7 @@ mod graph;
 mod node;
 mod node_set;
 mod path;
+mod reach;
 
 pub use graph::{Graph, MAX_EDGES, MAX_NODES};
 pub use node::{Link, Node};
