@@ -124,10 +124,11 @@ impl Graph {
         ensures count { IfOk result (λ starts. starts.count ≡ length self.now.nodes) }
         ensures starts { IfOk result (λ starts. (n : ℕ) → Contains starts.nodes n ↔ StartsAt self.now places.now symbol n) }
     {
-        let mut starts = NodeSet::new(alloc, places.len())?;
-        for (n, place) in places.iter().enumerate() {
-            if *place == symbol && self.is_start(n as u32) {
-                starts.insert(n as u32)?;
+        let count = self.nodes().len();
+        let mut starts = NodeSet::new(alloc, count)?;
+        for n in 0..count as u32 {
+            if places[n as usize] == symbol && self.is_start(n) {
+                starts.insert(n)?;
             }
         }
         Ok(starts)
