@@ -11,4 +11,4 @@ pub mod Ipv6Addresses
 pub mod SamePrefix
 pub mod PrefixTexts
 pub mod OwnText
-pub mod Selection
+pub mod SelectionLemmas

@@ -3,6 +3,8 @@
 
 mod predicate;
 mod prefix;
+mod selection;
 
 pub use predicate::{FlowClass, Predicate};
 pub use prefix::{Ipv4Prefix, Ipv6Prefix, Prefix};
+pub use selection::selects;

@@ -1,6 +1,9 @@
 //! Flow classes, and the predicates that pick them.
+ghost use Rattle.std.specs.Prelude.{◌≡◌, IfOk};
+
 use crate::prefix::Prefix;
 use rela_names::{Boxed, List, Name};
+use std::alloc::{AllocError, Global};
 
 /// What is said of a flow: where it goes, where it comes from, and how it is treated.
 #[derive(Debug, PartialEq, Eq, Drop)]
@@ -34,4 +37,36 @@ pub enum Predicate {
     And(List<Predicate>),
     /// Some part holds.
     Or(List<Predicate>),
+}
+
+impl Predicate {
+    /// The same predicate once more. It goes as deep into the stack as the predicate is deep.
+    #[cycle(copy)]
+    pub fn copy(&self, alloc: Global) -> Result<Predicate, AllocError>
+        ensures { IfOk result (λ p. p ≡ self.now) }
+    {
+        Ok(match self {
+            Predicate::All => Predicate::All,
+            Predicate::DstIn(prefix) => Predicate::DstIn(*prefix),
+            Predicate::DstOverlaps(prefix) => Predicate::DstOverlaps(*prefix),
+            Predicate::SrcIn(prefix) => Predicate::SrcIn(*prefix),
+            Predicate::SrcOverlaps(prefix) => Predicate::SrcOverlaps(*prefix),
+            Predicate::Flow(name) => Predicate::Flow(name.copy(alloc)?),
+            Predicate::Class(name) => Predicate::Class(name.copy(alloc)?),
+            Predicate::Not(part) => Predicate::Not(Boxed::new(alloc, part.get().copy(alloc)?)?),
+            Predicate::And(parts) => Predicate::And(copies(alloc, parts.as_slice())?),
+            Predicate::Or(parts) => Predicate::Or(copies(alloc, parts.as_slice())?),
+        })
+    }
+}
+
+#[cycle(copy)]
+fn copies(alloc: Global, parts: &[Predicate]) -> Result<List<Predicate>, AllocError>
+    ensures { IfOk result (λ copies. copies ≡ parts.now) }
+{
+    let mut copies = Vec::with_capacity(alloc, parts.len())?;
+    for part in parts {
+        copies.push(part.copy(alloc)?)?;
+    }
+    Ok(List::from_vec(copies))
 }
