@@ -2,6 +2,7 @@
 //! file.
 #![tactic(auto)]
 
+mod alphabets;
 mod locations;
 mod members;
 mod name_set;

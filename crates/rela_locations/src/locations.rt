@@ -1,25 +1,40 @@
 //! The locations of a network, and what is asked of them.
 
-ghost use Rattle.std.specs.Prelude.{◌≤◌, length};
+ghost use Rattle.std.specs.Prelude.{◌≡◌, ◌≢◌, ◌≤◌, Ok, Err, IfOk, IfErr, length};
 
+use crate::alphabets::Alphabets;
 use crate::members::{By, MemberError};
-use crate::name_set::NameSet;
-use crate::network::Group;
-use crate::tables::{Alphabets, Tables};
-use crate::walk::{Seen, read_network};
+use crate::network::GroupEntry;
+use crate::tables::Tables;
+use crate::walk::read_network;
 use rela_json::{LoadError, read};
 use rela_names::{Alphabet, Level, List, Name, Symbol};
 use std::alloc::{AllocError, Global};
+use std::marker::Model;
 
 /// The locations of a network at its three levels, and the tags of its devices.
 #[derive(Drop)]
 pub struct Locations {
-    groups: List<Group>,
+    groups: List<GroupEntry>,
     alphabets: Alphabets,
     tables: Tables,
 }
 
+impl Model for Locations {
+    ghost use Rattle.rela_locations.specs.Network.{Network};
+    ghost use Rattle.rela_locations.specs.Tables.{AreAlphabets};
+
+    ghost Value = { Network };
+
+    ghost view = { λ locations. locations.groups };
+
+    ghost invariant = { λ locations. AreAlphabets locations.groups locations.alphabets };
+}
+
 impl Locations {
+    ghost use Rattle.rela_locations.specs.Network.{alphabet_of};
+    ghost use Rattle.rela_locations.specs.Load.{Load};
+
     /// The locations that a file in JSON lists.
     ///
     /// # Errors
@@ -27,20 +42,13 @@ impl Locations {
     /// `NotJson`; else the first fault of a walk of the file, with its row; `Memory`.
     pub fn decode(alloc: Global, bytes: &[u8]) -> Result<Locations, LoadError>
         requires { length bytes.now ≤ 33554432 }
+        ensures network { IfOk result (λ locations. Load bytes.now ≡ Ok locations) }
+        ensures fault { IfErr result (λ e. e ≢ LoadError.Memory → Load bytes.now ≡ Err e) }
     {
         let root = read(alloc, bytes)?;
-        let mut seen = Seen {
-            groups: NameSet::new(alloc),
-            devices: NameSet::new(alloc),
-            interfaces: NameSet::new(alloc),
-        };
-        let groups = read_network(alloc, &mut seen, &root)?;
+        let (groups, seen) = read_network(alloc, &root)?;
         drop(root);
-        let alphabets = Alphabets {
-            interfaces: seen.interfaces.into_alphabet(alloc)?,
-            devices: seen.devices.into_alphabet(alloc)?,
-            groups: seen.groups.into_alphabet(alloc)?,
-        };
+        let alphabets = seen.into_alphabets(alloc)?;
         let tables = Tables::new(alloc, &alphabets, groups.as_slice())?;
         Ok(Locations {
             groups: List::from_vec(groups),
@@ -50,7 +58,9 @@ impl Locations {
     }
 
     /// The locations of a level.
-    pub fn alphabet(&self, level: Level) -> &Alphabet {
+    pub fn alphabet(&self, level: Level) -> &Alphabet
+        ensures { result.now ≡ alphabet_of level self.now }
+    {
         match level {
             Level::Interface => &self.alphabets.interfaces,
             Level::Device => &self.alphabets.devices,

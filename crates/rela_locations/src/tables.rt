@@ -1,6 +1,7 @@
 //! Which locations lie in which, by their symbols.
 
-use crate::network::{Device, Group};
+use crate::alphabets::Alphabets;
+use crate::network::{DeviceEntry, GroupEntry};
 use rela_names::{Alphabet, Name, Symbol};
 use std::alloc::{AllocError, Global};
 use std::collections::BTreeMap;
@@ -22,20 +23,12 @@ pub(crate) struct Tables {
     pub(crate) tagged: BTreeMap<Name, Vec<Symbol>>,
 }
 
-/// The alphabets of the three levels.
-#[derive(Drop)]
-pub(crate) struct Alphabets {
-    pub(crate) interfaces: Alphabet,
-    pub(crate) devices: Alphabet,
-    pub(crate) groups: Alphabet,
-}
-
 impl Tables {
     /// The tables of these groups.
     pub(crate) fn new(
         alloc: Global,
         alphabets: &Alphabets,
-        groups: &[Group],
+        groups: &[GroupEntry],
     ) -> Result<Tables, AllocError> {
         let interfaces = alphabets.interfaces.drop_symbol() as usize;
         let device_count = alphabets.devices.drop_symbol() as usize;
@@ -58,7 +51,7 @@ impl Tables {
         &mut self,
         alloc: Global,
         alphabets: &Alphabets,
-        group: &Group,
+        group: &GroupEntry,
     ) -> Result<(), AllocError> {
         let Some(at) = alphabets.groups.find(group.name.as_bytes()) else {
             return Ok(());
@@ -90,7 +83,7 @@ impl Tables {
     fn add_tags(
         &mut self,
         alloc: Global,
-        device: &Device,
+        device: &DeviceEntry,
         symbol: Symbol,
     ) -> Result<(), AllocError> {
         for tag in device.tags.as_slice() {
