@@ -1,5 +1,5 @@
 -- What the readers of fields answer, in the words of the grammar.
-use Rattle.std.specs.Prelude.{◌≡◌, ℕ, ◌+◌, ◌*◌, ◌^◌, ◌≤◌, ◌==◌, Option, None, Some, slice_index, List, [], ◌∷◌, length}
+use Rattle.std.specs.Prelude.{◌≡◌, ℕ, ◌+◌, ◌^◌, ◌≤◌, ◌==◌, Option, None, Some, slice_index, List, [], length}
 use Rattle.std.specs.List.{slice_split}
 use Rattle.std.specs.Int.Digits.{number_from_digits}
 use Rattle.rela_flows.specs.declared.prefix.reading.Notation.{Notation}

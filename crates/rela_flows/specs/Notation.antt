@@ -1,5 +1,5 @@
 -- How an address is written as fields, and a prefix as an address and its length.
-use Rattle.std.specs.Prelude.{◌≡◌, ℕ, ◌+◌, ◌-◌, ◌*◌, ◌/◌, ◌%◌, ◌^◌, ◌<◌, ◌≤◌, ◌⊎◌, false, List, [], ◌∷◌, ◌++◌, length, map, replicate}
+use Rattle.std.specs.Prelude.{◌≡◌, ℕ, ◌+◌, ◌/◌, ◌%◌, ◌^◌, ◌<◌, ◌≤◌, ◌⊎◌, false, List, [], ◌∷◌, ◌++◌, length, map, replicate}
 use Rattle.std.specs.List.{AllZip, join_with_byte}
 use Rattle.std.specs.Fmt.{decimal, digits}
 use Rattle.std.specs.Int.Digits.{number_from_digits}
