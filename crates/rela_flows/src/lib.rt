@@ -10,3 +10,6 @@ pub use planning::{PlannedRow, plan};
 pub use predicate::{FlowClass, Predicate};
 pub use prefix::{Ipv4Prefix, Ipv6Prefix, Prefix};
 pub use selection::selects;
+
+#[cfg(test)]
+mod tests;
