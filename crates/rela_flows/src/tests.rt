@@ -1,5 +1,8 @@
+ghost use Rattle.std.specs.Prelude.{◌≤◌, IfOk};
+ghost use Rattle.rela_flows.specs.Selects.{depth};
+
 use super::*;
-use rela_names::{Boxed, List, Name};
+use rela_names::{List, Name};
 use std::alloc::{AllocError, Global};
 use std::test::Fail;
 
@@ -79,24 +82,54 @@ fn class_to(alloc: Global, name: &[u8], dst: &[u8]) -> Result<FlowClass, Fail> {
     })
 }
 
+fn to_ten() -> Result<Predicate, Fail>
+    ensures { IfOk result (λ p. depth p ≤ 10) }
+{
+    Ok(Predicate::DstIn(prefix(b"10.0.0.0/8")?))
+}
+
+fn named(alloc: Global, name: &[u8]) -> Result<Predicate, Fail>
+    ensures { IfOk result (λ p. depth p ≤ 10) }
+{
+    Ok(Predicate::Flow(Name::from_bytes(alloc, name)?))
+}
+
 #[test]
-fn selects_and_plans(rt: HostRuntime) -> Result<(), Fail> {
+fn selects_by_form(rt: HostRuntime) -> Result<(), Fail> {
+    let alloc = rt.alloc();
+    let class = class_to(alloc, b"f1", b"10.1.0.0/16")?;
+    let other = Predicate::negated(alloc, named(alloc, b"f2")?)?;
+    assert!(rt; selects(&other, &class));
+    let nothing = Predicate::any_of(List::from_vec(Vec::new(alloc)));
+    assert!(rt; !selects(&nothing, &class));
+    let anything = Predicate::all_of(List::from_vec(Vec::new(alloc)));
+    assert!(rt; selects(&anything, &class));
+    assert_eq!(rt; other.copy(alloc)?, other);
+    Ok(())
+}
+
+fn plan_of_two(
+    alloc: Global,
+    classes: &[&FlowClass],
+    one: &Predicate,
+    two: &Predicate,
+) -> Result<Vec<PlannedRow>, AllocError>
+    requires one { depth one.now ≤ 10 }
+    requires two { depth two.now ≤ 10 }
+{
+    plan(alloc, classes, &[one, two])
+}
+
+#[test]
+fn plans_rows(rt: HostRuntime) -> Result<(), Fail> {
     let alloc = rt.alloc();
     let first = class_to(alloc, b"f1", b"10.1.0.0/16")?;
     let second = class_to(alloc, b"f2", b"192.168.0.0/16")?;
-    let mut parts = Vec::new(alloc);
-    parts.push(Predicate::DstIn(prefix(b"10.0.0.0/8")?))?;
-    parts.push(Predicate::Class(Name::from_bytes(alloc, b"default")?))?;
-    let both = Predicate::And(List::from_vec(parts));
-    let named = Predicate::Flow(Name::from_bytes(alloc, b"f1")?);
-    let other = Predicate::Not(Boxed::new(alloc, Predicate::All)?);
-    assert!(rt; selects(&both, &first));
-    assert!(rt; !selects(&both, &second));
-    assert_eq!(rt; both.copy(alloc)?, both);
-    let rows = plan(alloc, &[&first, &second], &[&both, &other, &named])?;
+    let within = to_ten()?;
+    let absent = named(alloc, b"f3")?;
+    let rows = plan_of_two(alloc, &[&first, &second], &absent, &within)?;
     let expected = [
-        PlannedRow::Checked { flow: 0, check: 0 },
-        PlannedRow::Checked { flow: 0, check: 2 },
+        PlannedRow::Checked { flow: 0, check: 1 },
         PlannedRow::Unselected { flow: 1 },
     ];
     assert_eq!(rt; rows.as_slice(), expected.as_slice());
