@@ -1,10 +1,10 @@
 -- Addresses from their fields.
-use Rattle.std.proofs.Common.{◌≡◌, ◌≢◌, ◌↔◌, ℕ, ◌+◌, ◌*◌, ◌^◌, ◌<◌, ◌≤◌, List, [], ◌∷◌, ◌++◌, length, Option, Some, None, refl, sym, ◌∙◌, ap, subst, lit≤, arith}
+use Rattle.std.proofs.Common.{◌≡◌, ◌↔◌, ℕ, ◌^◌, ◌<◌, List, [], ◌∷◌, Some, None, sym, ◌∙◌, arith}
 use Rattle.std.specs.List.{AllZip}
-use Rattle.std.specs.Int.Digits.{number_from_digits, number_from_digits_after, AllBelowBase}
+use Rattle.std.specs.Int.Digits.{AllBelowBase}
 use Rattle.std.proofs.lemmas.Int.Digits.{number_lt}
 use Rattle.rela_flows.specs.declared.prefix.reading.Notation.{Notation}
-use Rattle.rela_flows.specs.declared.prefix.reading.Notation.TheVariants.{Dotted, Colons}
+use Rattle.rela_flows.specs.declared.prefix.reading.Notation.TheVariants.{Dotted}
 use Rattle.rela_flows.specs.declared.prefix.reading.Fields.{Fields}
 use Rattle.rela_flows.specs.Notation.{IsIpv4Address}
 use Rattle.rela_flows.specs.Fields.{bits_of, IsField, Write}

@@ -1,10 +1,9 @@
 -- The number of digits with zeros between.
-use Rattle.std.proofs.Common.{◌≡◌, ℕ, ◌+◌, ◌-◌, ◌*◌, ◌^◌, ◌<◌, ◌≤◌, zero, suc, List, [], ◌∷◌, ◌++◌, length, replicate, refl, sym, ◌∙◌, ap, arith, length-append}
+use Rattle.std.proofs.Common.{◌≡◌, ℕ, ◌+◌, ◌*◌, ◌^◌, zero, suc, List, [], ◌∷◌, ◌++◌, length, replicate, sym, ◌∙◌, ap, arith}
 use Rattle.std.specs.Int.Digits.{number_from_digits, number_from_digits_after}
 use Rattle.std.proofs.lemmas.Int.Digits.{number_after_append}
 use Rattle.std.proofs.Math.Nat.{pow-zero, pow-suc, pow-succ'}
 use Rattle.std.proofs.lemmas.Nat.{pow-add}
-use Rattle.std.proofs.lemmas.List.{length-replicate}
 
 shift_step : (b p n d x y z : ℕ) → x ≡ (n * b + d) * p + z → y ≡ (0 * b + d) * p + z → x ≡ n * (b * p) + y
 shift_step b p n d x y z e f = omega arith

@@ -1,15 +1,14 @@
 -- A run of fields, read from the left.
-use Rattle.std.proofs.Common.{◌≡◌, ◌≢◌, ◌↔◌, ℕ, ◌+◌, ◌*◌, ◌^◌, ◌<◌, ◌≤◌, List, [], ◌∷◌, length, length-append, lit≤, lit<, option_copied, Bor, bit_or, ◌%◌, Option, Some, None, refl, sym, ◌∙◌, ap, subst, arith}
+use Rattle.std.proofs.Common.{◌≡◌, ◌↔◌, ℕ, ◌+◌, ◌*◌, ◌^◌, ◌<◌, ◌≤◌, List, [], ◌∷◌, length, length-append, lit≤, lit<, option_copied, Bor, bit_or, ◌%◌, Option, Some, None, refl, sym, ◌∙◌, ap, subst, arith}
 use Rattle.std.specs.List.{AllZip, AllByRecursion, All, join_with_byte}
-use Rattle.std.specs.Int.Digits.{number_from_digits, number_from_digits_after}
-use Rattle.std.specs.Str.Parse.{digits_value, AllDigits}
+use Rattle.std.specs.Int.Digits.{number_from_digits_after}
+use Rattle.std.specs.Str.Parse.{digits_value}
 use Rattle.std.proofs.lemmas.Int.Digits.{digits_value-lt}
 use Rattle.std.proofs.lemmas.Nat.{pow-add, mul-add-lt, shl_whole, or_shifted}
 use Rattle.std.proofs.Math.Nat.{pow-le-pow_right}
 use Rattle.rela_flows.specs.declared.prefix.reading.Notation.{Notation}
 use Rattle.rela_flows.specs.declared.prefix.reading.Notation.TheVariants.{Dotted, Colons}
 use Rattle.rela_flows.specs.declared.prefix.reading.Fields.{Fields}
-use Rattle.rela_flows.specs.Notation.{IsOctet, IsGroup, IsFields}
 use Rattle.rela_flows.specs.Fields.{separator_of, bits_of, IsField, parts_of, Write}
 use Rattle.rela_flows.proofs.Parts.{IsNot, splits, splits_joined, joined_splits}
 use Rattle.rela_flows.proofs.Numerals.{numeral_of_octet, digits_avoid}

@@ -1,10 +1,10 @@
 -- Where two colons stand in the text of an IPv6 address.
-use Rattle.std.proofs.Common.{◌≡◌, ◌≢◌, ℕ, ◌+◌, ◌-◌, ◌*◌, ◌^◌, ◌<◌, ◌≤◌, List, [], ◌∷◌, ◌++◌, length, get_or, take, drop, refl, sym, ◌∙◌, ap, subst, ⊎_elim, append_assoc, length-append, arith}
-use Rattle.std.specs.List.{AllZip, All, join_with_byte}
+use Rattle.std.proofs.Common.{◌≡◌, ◌≢◌, ℕ, ◌+◌, ◌-◌, ◌<◌, ◌≤◌, List, [], ◌∷◌, ◌++◌, length, get_or, take, drop, sym, ◌∙◌, ap, subst, ⊎_elim, append_assoc, length-append, arith}
+use Rattle.std.specs.List.{AllZip, join_with_byte}
 use Rattle.std.proofs.lemmas.Bool.{cases_lt}
 use Rattle.std.proofs.lemmas.List.{get_or_append_left, get_or-append-add, get_or_past, append-nil, take_at, drop_at, drop-drop, drop_more, take-append-drop}
 use Rattle.rela_flows.specs.declared.prefix.reading.Notation.TheVariants.{Colons}
-use Rattle.rela_flows.specs.Notation.{IsGroup, AreGroups, IsWholeIpv6Address, IsShortIpv6Address}
+use Rattle.rela_flows.specs.Notation.{IsGroup, IsWholeIpv6Address, IsShortIpv6Address}
 use Rattle.rela_flows.specs.Fields.{IsGap}
 use Rattle.rela_flows.proofs.FieldRuns.{field_avoids, field_some}
 

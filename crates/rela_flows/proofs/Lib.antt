@@ -12,3 +12,4 @@ pub mod SamePrefix
 pub mod PrefixTexts
 pub mod OwnText
 pub mod SelectionLemmas
+pub mod PlanLemmas

@@ -1,5 +1,5 @@
 -- Digits and decimals.
-use Rattle.std.proofs.Common.{◌≡◌, ◌≢◌, ℕ, ◌+◌, ◌*◌, ◌^◌, ◌<◌, ◌≤◌, zero, suc, le_trans, List, [], ◌∷◌, length, get_or, take, refl, sym, ◌∙◌, ap, subst, ⊎_elim, lit<, arith}
+use Rattle.std.proofs.Common.{◌≡◌, ℕ, ◌+◌, ◌*◌, ◌^◌, ◌<◌, ◌≤◌, zero, suc, le_trans, List, [], ◌∷◌, length, get_or, take, sym, ◌∙◌, ap, subst, ⊎_elim, lit<, arith}
 use Rattle.std.specs.List.{All}
 use Rattle.rela_flows.proofs.Parts.{IsNot}
 use Rattle.std.specs.Char.{digit_value}

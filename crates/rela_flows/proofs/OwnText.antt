@@ -1,12 +1,12 @@
 -- The canonical text of a prefix is one of its texts.
-use Rattle.std.proofs.Common.{◌≡◌, ◌≢◌, ℕ, ◌+◌, ◌-◌, ◌*◌, ◌/◌, ◌%◌, ◌^◌, ◌<◌, ◌≤◌, zero, suc, Bool, false, List, [], ◌∷◌, ◌++◌, length, IfOk, Result, Ok, Err, refl, sym, ◌∙◌, ap, subst, inl, lit≤, lit<, arith, ⊎_elim, eq-eqb}
+use Rattle.std.proofs.Common.{◌≡◌, ◌≢◌, ℕ, ◌+◌, ◌-◌, ◌*◌, ◌/◌, ◌%◌, ◌^◌, ◌<◌, ◌≤◌, zero, suc, Bool, false, List, [], ◌∷◌, length, IfOk, Result, Ok, Err, refl, sym, ◌∙◌, ap, subst, inl, lit≤, lit<, arith, ⊎_elim, eq-eqb}
 use Rattle.std.specs.List.{join_with_byte}
 use Rattle.std.specs.Fmt.{decimal, digits, digits_onto, digit_glyph}
 use Rattle.std.specs.Int.Digits.{number_from_digits}
 use Rattle.std.proofs.lemmas.Bool.{cases_lt, ne_eqb}
 use Rattle.std.proofs.lemmas.Fmt.{digits_is_IsNumeral}
-use Rattle.std.proofs.lemmas.Nat.{shr-shr, shr_split, div_below, pow_pos, mod_below, shr_below}
-use Rattle.std.proofs.Math.Nat.{pow-suc, pow-succ'}
+use Rattle.std.proofs.lemmas.Nat.{shr-shr, shr_split, div_below, mod_below, shr_below}
+use Rattle.std.proofs.Math.Nat.{pow-suc}
 use Rattle.rela_flows.specs.Network.{network}
 use Rattle.rela_flows.specs.Notation.{IsOctet, IsGroup, AreOctets, AreGroups, IsTextOf, text_of}
 use Rattle.rela_flows.specs.declared.prefix.Prefix.{Prefix}
@@ -19,14 +19,14 @@ length_onto (suc k) zero n upper acc some small = absurd (omega arith)
 length_onto (suc k) (suc j) n upper acc some small = ⊎_elim
     (λ (last : n < 16). let none : n / 16 ≡ 0 = omega arith in rw (eq-eqb (n / 16) 0 none) (omega arith))
     (λ (more : 16 ≤ n).
-      let another : n / 16 ≢ 0 = omega arith in
-      let below : n / 16 < 16 ^ j = div_below n 16 (16 ^ j) (lit< tt) (subst (λ p. n < p) (pow-suc 16 j) small) in
-      let left : 0 < j = ⊎_elim (λ yes. yes)
-          (λ none. let one : j ≡ 0 = omega arith in let under : n / 16 < 1 = subst (λ i. n / 16 < 16 ^ i) one below in absurd (omega arith))
-          (cases_lt 0 j) in
-      let rest : length (digits_onto k 16 upper (n / 16) (digit_glyph upper (n % 16) ∷ acc)) ≤ j + length (digit_glyph upper (n % 16) ∷ acc) =
-          length_onto k j (n / 16) upper (digit_glyph upper (n % 16) ∷ acc) left below in
-      rw (ne_eqb (n / 16) 0 another) (omega (arith, rest)))
+    let another : n / 16 ≢ 0 = omega arith in
+    let below : n / 16 < 16 ^ j = div_below n 16 (16 ^ j) (lit< tt) (subst (λ p. n < p) (pow-suc 16 j) small) in
+    let left : 0 < j = ⊎_elim (λ yes. yes)
+    (λ none. let one : j ≡ 0 = omega arith in let under : n / 16 < 1 = subst (λ i. n / 16 < 16 ^ i) one below in absurd (omega arith))
+    (cases_lt 0 j) in
+    let rest : length (digits_onto k 16 upper (n / 16) (digit_glyph upper (n % 16) ∷ acc)) ≤ j + length (digit_glyph upper (n % 16) ∷ acc) =
+    length_onto k j (n / 16) upper (digit_glyph upper (n % 16) ∷ acc) left below in
+    rw (ne_eqb (n / 16) 0 another) (omega (arith, rest)))
     (cases_lt n 16)
 
 group_short : (n : ℕ) → n < 2 ^ 16 → length (digits 16 false n) ≤ 4

@@ -1,8 +1,8 @@
 -- Two prefixes of one family, as sets of addresses.
-use Rattle.std.proofs.Common.{◌≡◌, ℕ, ◌-◌, ◌/◌, ◌^◌, ◌≤◌, ◌<◌, ◌↔◌, Bool, false, nat_le, refl, sym, ◌∙◌, arith, ⊎_elim, subst, eq-eqb}
+use Rattle.std.proofs.Common.{◌≡◌, ℕ, ◌-◌, ◌/◌, ◌^◌, ◌≤◌, ◌<◌, ◌↔◌, Bool, false, nat_le, sym, ◌∙◌, arith, ⊎_elim, subst, eq-eqb}
 use Rattle.std.specs.Prelude.{IsTrue, ◌==◌, min}
 use Rattle.std.proofs.lemmas.Bool.{eqb-true, lt-leb, cases_lt}
-use Rattle.rela_flows.specs.Address.{AgreeInFirst, Address, HasAddress, IsWithin, Overlap}
+use Rattle.rela_flows.specs.Address.{AgreeInFirst, IsWithin, Overlap}
 use Rattle.rela_flows.specs.Address.Address.{Ipv4, Ipv6}
 use Rattle.rela_flows.specs.declared.prefix.Prefix.{Prefix}
 use Rattle.rela_flows.specs.declared.prefix.Prefix.TheVariants.{V4, V6}

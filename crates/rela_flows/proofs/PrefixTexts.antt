@@ -9,7 +9,7 @@ use Rattle.std.proofs.lemmas.List.{get_or-append-add, length-append}
 use Rattle.std.proofs.lemmas.List.Elements.{All-append, All-cons, All-nil}
 use Rattle.std.proofs.lemmas.List.Splits.{slice_split_at}
 use Rattle.rela_flows.specs.Network.{network}
-use Rattle.rela_flows.specs.Notation.{IsOctet, IsGroup, AreGroups, IsFields, IsIpv4Address, IsIpv6Address, IsPrefixText, IsTextOf}
+use Rattle.rela_flows.specs.Notation.{IsOctet, IsGroup, AreGroups, IsIpv4Address, IsIpv6Address, IsPrefixText, IsTextOf}
 use Rattle.rela_flows.specs.Fields.{parts_of, IsField}
 use Rattle.rela_flows.specs.declared.prefix.Prefix.{Prefix}
 use Rattle.rela_flows.specs.declared.prefix.Prefix.TheVariants.{V4, V6}
@@ -17,9 +17,9 @@ use Rattle.rela_flows.specs.declared.prefix.Ipv4Prefix.{Ipv4Prefix}
 use Rattle.rela_flows.specs.declared.prefix.Ipv6Prefix.{Ipv6Prefix}
 use Rattle.rela_flows.specs.declared.prefix.reading.Notation.{Notation}
 use Rattle.rela_flows.specs.declared.prefix.reading.Notation.TheVariants.{Dotted, Colons}
-use Rattle.rela_flows.proofs.Parts.{IsNot, splits, splits_none, splits_joined, joined_splits}
+use Rattle.rela_flows.proofs.Parts.{IsNot, splits, splits_none, joined_splits}
 use Rattle.rela_flows.proofs.Numerals.{numeral_of_octet, digits_avoid}
-use Rattle.rela_flows.proofs.Exactly.{refused, given}
+use Rattle.rela_flows.proofs.Exactly.{given}
 
 -- ---- which bytes an address holds
 

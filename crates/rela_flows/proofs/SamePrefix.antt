@@ -1,5 +1,5 @@
 -- Prefixes are the same where their numbers are.
-use Rattle.std.proofs.Common.{◌≡◌, ℕ, ◌<◌, ◌≤◌, ◌-◌, ◌*◌, ◌/◌, ◌+◌, ◌%◌, ◌^◌, ◌↔◌, Some, sym, ◌∙◌, ap, subst, arith}
+use Rattle.std.proofs.Common.{◌≡◌, ℕ, ◌<◌, ◌≤◌, ◌-◌, ◌/◌, ◌+◌, ◌%◌, ◌^◌, ◌↔◌, Some, sym, ◌∙◌, ap, subst, arith}
 use Rattle.std.proofs.lemmas.Nat.{mod-mul-add, pow_pos}
 use Rattle.rela_flows.specs.Network.{network}
 use Rattle.std.specs.Coded.{Coded-set, coded_ℕ, le_prop}

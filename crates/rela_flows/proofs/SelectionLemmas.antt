@@ -13,7 +13,7 @@ use Rattle.rela_flows.specs.declared.predicate.Predicate.{Predicate}
 use Rattle.rela_flows.specs.declared.predicate.Predicate.TheVariants as V
 use Rattle.rela_flows.specs.declared.predicate.Predicate.TheOpen.{Predicate-F, All, DstIn, DstOverlaps, SrcIn, SrcOverlaps, Flow, Class, Not, And, Or}
 use Rattle.rela_flows.specs.declared.predicate.Predicate.TheViews.{roll-Predicate}
-use Rattle.rela_flows.specs.declared.predicate.Predicate.TheFolds.{rec-Predicate, rec-roll-Predicate, map-Predicate, fold-roll-Predicate}
+use Rattle.rela_flows.specs.declared.predicate.Predicate.TheFolds.{rec-roll-Predicate, map-Predicate, fold-roll-Predicate}
 
 all_map : {X Y : Type 0} (v : X → Y) (k : Y → Type 0) (xs : List X) → AllByRecursion (λ x. k (v x)) xs ≡ AllByRecursion k (map v xs)
 all_map v k [] = refl

@@ -1,15 +1,15 @@
 -- What the readers of fields answer, in the words of the grammar.
-use Rattle.std.specs.Prelude.{◌≡◌, ℕ, ◌+◌, ◌*◌, ◌^◌, ◌≤◌, ◌==◌, Option, None, Some, slice_index, List, [], ◌∷◌, length}
+use Rattle.std.specs.Prelude.{◌≡◌, ℕ, ◌+◌, ◌^◌, ◌≤◌, ◌==◌, Option, None, Some, slice_index, List, [], length}
 use Rattle.std.specs.List.{slice_split}
 use Rattle.std.specs.Int.Digits.{number_from_digits}
 use Rattle.rela_flows.specs.declared.prefix.reading.Notation.{Notation}
 use Rattle.rela_flows.specs.declared.prefix.reading.Notation.TheVariants.{Dotted, Colons}
 use Rattle.rela_flows.specs.declared.prefix.reading.Fields.{Fields}
-use Rattle.rela_flows.specs.Notation.{IsOctet, IsGroup, IsFields}
+use Rattle.rela_flows.specs.Notation.{dot, colon, IsOctet, IsGroup, IsFields}
 
 abbrev pub separator_of : Notation → ℕ
-separator_of Dotted = 46
-separator_of Colons = 58
+separator_of Dotted = dot
+separator_of Colons = colon
 
 abbrev pub bits_of : Notation → ℕ
 bits_of Dotted = 8
@@ -34,5 +34,5 @@ pub record Write (notation : Notation) (text : List ℕ) (fields : Fields) : Typ
 
 -- two colons stand at the place k of the text
 pub record IsGap (text : List ℕ) (k : ℕ) : Type 0 where
-  pub first : slice_index text k ≡ 58
-  pub second : slice_index text (k + 1) ≡ 58
+  pub first : slice_index text k ≡ colon
+  pub second : slice_index text (k + 1) ≡ colon

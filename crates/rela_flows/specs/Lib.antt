@@ -3,3 +3,4 @@ pub mod Fields
 pub mod Notation
 pub mod Network
 pub mod Selects
+pub mod Plan

@@ -1,5 +1,5 @@
 -- How an address is written as fields, and a prefix as an address and its length.
-use Rattle.std.specs.Prelude.{◌≡◌, ℕ, ◌+◌, ◌-◌, ◌*◌, ◌/◌, ◌%◌, ◌^◌, ◌<◌, ◌≤◌, ◌⊎◌, false, List, [], ◌∷◌, ◌++◌, length, map, replicate}
+use Rattle.std.specs.Prelude.{◌≡◌, ℕ, ◌+◌, ◌/◌, ◌%◌, ◌^◌, ◌<◌, ◌≤◌, ◌⊎◌, false, List, [], ◌∷◌, ◌++◌, length, map, replicate}
 use Rattle.std.specs.List.{AllZip, join_with_byte}
 use Rattle.std.specs.Fmt.{decimal, digits}
 use Rattle.std.specs.Int.Digits.{number_from_digits}
@@ -7,6 +7,15 @@ use Rattle.std.specs.Str.Parse.{IsNumeral, digits_value}
 use Rattle.rela_flows.specs.Network.{network}
 use Rattle.rela_flows.specs.declared.prefix.Prefix.{Prefix}
 use Rattle.rela_flows.specs.declared.prefix.Prefix.TheVariants.{V4, V6}
+
+abbrev pub dot : ℕ
+dot = 46
+
+abbrev pub slash : ℕ
+slash = 47
+
+abbrev pub colon : ℕ
+colon = 58
 
 -- A field of dotted decimal: a number of 8 bits, with no leading zero but in `0` itself.
 pub record IsOctet (text : List ℕ) (n : ℕ) : Type 0 where
@@ -26,10 +35,10 @@ pub record IsFields (separator : ℕ) (IsField : List ℕ → ℕ → Type 0) (t
   pub each : AllZip IsField fields numbers
 
 abbrev pub AreOctets : List ℕ → List ℕ → Type 0
-AreOctets = IsFields 46 IsOctet
+AreOctets = IsFields dot IsOctet
 
 abbrev pub AreGroups : List ℕ → List ℕ → Type 0
-AreGroups = IsFields 58 IsGroup
+AreGroups = IsFields colon IsGroup
 
 -- RFC 4632, section 3.1: four octets joined by dots.
 pub record IsIpv4Address (text : List ℕ) (address : ℕ) : Type 0 where
@@ -56,7 +65,7 @@ pub record IsShortIpv6Address (text : List ℕ) (address : ℕ) : Type 0 where
   pub right_written : AreGroups right_text right
   pub some : 0 < zeros
   pub eight : length left + zeros + length right ≡ 8
-  pub joined : text ≡ left_text ++ 58 ∷ 58 ∷ right_text
+  pub joined : text ≡ left_text ++ colon ∷ colon ∷ right_text
   pub value : address ≡ number_from_digits (2 ^ 16) (left ++ replicate zeros 0 ++ right)
 
 abbrev pub IsIpv6Address : List ℕ → ℕ → Type 0
@@ -67,7 +76,7 @@ pub record IsPrefixText (IsAddress : List ℕ → ℕ → Type 0) (width : ℕ) 
   pub host : ℕ
   pub address_text : List ℕ
   pub written : IsAddress address_text host
-  pub joined : text ≡ address_text ++ 47 ∷ decimal length
+  pub joined : text ≡ address_text ++ slash ∷ decimal length
   pub value : address ≡ network width length host
 
 abbrev pub IsTextOf : List ℕ → Prefix → Type 0
@@ -76,5 +85,5 @@ IsTextOf text (V6 p) = IsPrefixText IsIpv6Address 128 text p.address p.length
 
 -- The canonical text: of an IPv6 address all eight groups, in lower case with no leading zeros.
 abbrev pub text_of : Prefix → List ℕ
-text_of (V4 p) = join_with_byte 46 (map (λ k. decimal (p.address / 2 ^ k % 2 ^ 8)) (24 ∷ 16 ∷ 8 ∷ 0 ∷ [])) ++ 47 ∷ decimal p.length
-text_of (V6 p) = join_with_byte 58 (map (λ k. digits 16 false (p.address / 2 ^ k % 2 ^ 16)) (112 ∷ 96 ∷ 80 ∷ 64 ∷ 48 ∷ 32 ∷ 16 ∷ 0 ∷ [])) ++ 47 ∷ decimal p.length
+text_of (V4 p) = join_with_byte dot (map (λ k. decimal (p.address / 2 ^ k % 2 ^ 8)) (24 ∷ 16 ∷ 8 ∷ 0 ∷ [])) ++ slash ∷ decimal p.length
+text_of (V6 p) = join_with_byte colon (map (λ k. digits 16 false (p.address / 2 ^ k % 2 ^ 16)) (112 ∷ 96 ∷ 80 ∷ 64 ∷ 48 ∷ 32 ∷ 16 ∷ 0 ∷ [])) ++ slash ∷ decimal p.length

@@ -40,6 +40,34 @@ pub enum Predicate {
 }
 
 impl Predicate {
+    ghost use Rattle.std.specs.Prelude.{◌+◌, map};
+    ghost use Rattle.rela_flows.specs.Selects.{depth, greatest};
+    ghost use Rattle.rela_flows.specs.declared.predicate.Predicate.TheVariants.{Not, And, Or};
+
+    /// What holds where the part does not.
+    pub fn negated(alloc: Global, part: Predicate) -> Result<Predicate, AllocError>
+        ensures negated { IfOk result (λ p. p ≡ Not part) }
+        ensures deep { IfOk result (λ p. depth p ≡ depth part + 1) }
+    {
+        Ok(Predicate::Not(Boxed::new(alloc, part)?))
+    }
+
+    /// What holds where each part does.
+    pub fn all_of(parts: List<Predicate>) -> Predicate
+        ensures all { result ≡ And parts }
+        ensures deep { depth result ≡ greatest (map depth parts) + 1 }
+    {
+        Predicate::And(parts)
+    }
+
+    /// What holds where some part does.
+    pub fn any_of(parts: List<Predicate>) -> Predicate
+        ensures any { result ≡ Or parts }
+        ensures deep { depth result ≡ greatest (map depth parts) + 1 }
+    {
+        Predicate::Or(parts)
+    }
+
     /// The same predicate once more. It goes as deep into the stack as the predicate is deep.
     #[cycle(copy)]
     pub fn copy(&self, alloc: Global) -> Result<Predicate, AllocError>

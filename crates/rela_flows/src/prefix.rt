@@ -1,5 +1,5 @@
 //! Address prefixes of both families, and how they lie to one another.
-ghost use Rattle.std.specs.Prelude.{◌≡◌, ◌<◌, ◌≤◌, ◌-◌, ◌%◌, ◌^◌, ◌↔◌, IsTrue, Some, IfOk};
+ghost use Rattle.std.specs.Prelude.{◌≡◌, ◌<◌, ◌≤◌, ◌-◌, ◌%◌, ◌^◌, ◌↔◌, IsTrue, IsSome, Some, IfOk};
 ghost use Rattle.rela_flows.specs.Network.{network};
 
 mod bits;
@@ -40,9 +40,21 @@ pub enum Prefix {
 }
 
 impl Ipv4Prefix {
+    /// The prefix of all IPv4 addresses.
+    pub fn all() -> Ipv4Prefix
+        ensures address { result.address ≡ 0 }
+        ensures length { result.length ≡ 0 }
+    {
+        Ipv4Prefix {
+            address: 0,
+            length: 0,
+        }
+    }
+
     /// The prefix of this length that has the address in it. None where the length is above 32.
     pub fn new(address: u32, length: u8) -> Option<Ipv4Prefix>
-        ensures { (p : Ipv4Prefix) → (result ≡ Some p) ↔ ((p.length ≡ length) × (p.address ≡ network 32 length address)) }
+        ensures fits { IsSome result ↔ (length ≤ 32) }
+        ensures exact { (p : Ipv4Prefix) → (result ≡ Some p) ↔ ((p.length ≡ length) × (p.address ≡ network 32 length address)) }
     {
         if length > 32 {
             return None;
@@ -55,9 +67,21 @@ impl Ipv4Prefix {
 }
 
 impl Ipv6Prefix {
+    /// The prefix of all IPv6 addresses.
+    pub fn all() -> Ipv6Prefix
+        ensures address { result.address ≡ 0 }
+        ensures length { result.length ≡ 0 }
+    {
+        Ipv6Prefix {
+            address: 0,
+            length: 0,
+        }
+    }
+
     /// The prefix of this length that has the address in it. None where the length is above 128.
     pub fn new(address: u128, length: u8) -> Option<Ipv6Prefix>
-        ensures { (p : Ipv6Prefix) → (result ≡ Some p) ↔ ((p.length ≡ length) × (p.address ≡ network 128 length address)) }
+        ensures fits { IsSome result ↔ (length ≤ 128) }
+        ensures exact { (p : Ipv6Prefix) → (result ≡ Some p) ↔ ((p.length ≡ length) × (p.address ≡ network 128 length address)) }
     {
         if length > 128 {
             return None;

@@ -106,7 +106,7 @@ fn read_fields(text: &[u8], notation: Notation) -> Option<Fields>
         }
         read = Fields {
             count: read.count + 1,
-            number: read.number << notation.bits() | u128::from(notation.field(field)?),
+            number: (read.number << notation.bits()) | u128::from(notation.field(field)?),
         };
         rest = after;
     }

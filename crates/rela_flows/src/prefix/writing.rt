@@ -2,7 +2,7 @@
 ghost use Rattle.std.specs.Prelude.{◌≡◌, ◌<◌, ◌/◌, ◌%◌, ◌^◌, ◌∷◌, ◌++◌, false, IfOk};
 ghost use Rattle.std.specs.String.{string_bytes};
 ghost use Rattle.std.specs.Fmt.{digits};
-ghost use Rattle.rela_flows.specs.Notation.{text_of};
+ghost use Rattle.rela_flows.specs.Notation.{colon, text_of};
 ghost use Rattle.rela_flows.specs.declared.prefix.Prefix.TheVariants.{V4, V6};
 
 use super::{Ipv4Prefix, Ipv6Prefix};
@@ -13,7 +13,7 @@ fn octet(address: u32, shift: u32) -> u8
     requires { shift < 32 }
     ensures { result ≡ address / 2 ^ shift % 2 ^ 8 }
 {
-    (address >> shift & 0xff) as u8
+    ((address >> shift) & 0xff) as u8
 }
 
 // The sixteen bits of the address from the place `shift` on.
@@ -21,7 +21,7 @@ fn group(address: u128, shift: u32) -> u16
     requires { shift < 128 }
     ensures { result ≡ address / 2 ^ shift % 2 ^ 16 }
 {
-    (address >> shift & 0xffff) as u16
+    ((address >> shift) & 0xffff) as u16
 }
 
 pub(super) fn ipv4_text(alloc: Global, prefix: &Ipv4Prefix) -> Result<Vec<u8>, AllocError>
@@ -38,7 +38,7 @@ pub(super) fn ipv4_text(alloc: Global, prefix: &Ipv4Prefix) -> Result<Vec<u8>, A
 
 // Four groups, joined by colons.
 fn four_groups(alloc: Global, a: u16, b: u16, c: u16, d: u16) -> Result<String, AllocError>
-    ensures { IfOk result (λ text. string_bytes text ≡ digits 16 false a ++ 58 ∷ (digits 16 false b ++ 58 ∷ (digits 16 false c ++ 58 ∷ digits 16 false d))) }
+    ensures { IfOk result (λ text. string_bytes text ≡ digits 16 false a ++ colon ∷ (digits 16 false b ++ colon ∷ (digits 16 false c ++ colon ∷ digits 16 false d))) }
 {
     format!(in alloc; "{a:x}:{b:x}:{c:x}:{d:x}")
 }

@@ -1,4 +1,4 @@
-use Rattle.std.proofs.Common.{refl, rules, ◌≡◌, ◌∙◌, ap, subst, sym}
+use Rattle.std.proofs.Common.{refl, rules, subst, sym}
 use Rattle.rela_flows.specs.Selects.{Selects, SomeByRecursion, depth}
 use Rattle.std.specs.List.{All, AllByRecursion}
 use Rattle.rela_flows.proofs.SelectionLemmas as forms

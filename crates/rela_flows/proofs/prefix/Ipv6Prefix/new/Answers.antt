@@ -1,9 +1,9 @@
-use Rattle.std.proofs.Common.{refl, arith}
+use Rattle.std.proofs.Common.{refl}
 use Rattle.rela_flows.proofs.SamePrefix.{network_zeros, only6}
 use Rattle.rela_flows.proofs.prefix.Ipv6Prefix.new.Goals as goal
 
-pub returns : goal.returns
-returns c = only6 _ c.args.address c.args.length refl c.network_v6.ensures
+pub returns-clause-exact : goal.returns-clause-exact
+returns-clause-exact c = only6 _ c.args.address c.args.length refl c.network_v6.ensures
 
 pub invariant_of-result : goal.invariant_of-result
 invariant_of-result c = record {

@@ -24,22 +24,22 @@ pub returns-in_err-new-in-Some-ipv4_address : goal.returns-in_err-new-in-Some-ip
 returns-in_err-new-in-Some-ipv4_address c =
     let slashed : IsSlashed c.args.text.now c.cut.result.0.now c.in-Some.length.now = slashed_at c.args.text.now c.cut.result.0.now c.cut.result.1 c.in-Some.length c.in-Some.is c.cut.ensures in
     let cut : IsCut c.args.text.now c.cut.result.0.now c.in-Some.length.now c.in_ok-length.field-0 = record { slashed = slashed; length = (c.in_ok-length.ensures c.in_ok-length.field-0).0 refl } in
-    refused _ _ c.from_residual-in_err-new-in-Some-ipv4_address.ensures (too_long4 _ _ _ _ c.in-Some-ipv4_address.v4 cut c.in-Some-ipv4_address.ensures c.in_err-new-in-Some-ipv4_address.ensures)
+    refused _ _ c.from_residual-in_err-new-in-Some-ipv4_address.ensures (too_long4 _ _ _ _ c.in-Some-ipv4_address.v4 cut c.in-Some-ipv4_address.ensures c.in_err-new-in-Some-ipv4_address.ensures.exact)
 
 pub returns-in_err-new-in-None : goal.returns-in_err-new-in-None
 returns-in_err-new-in-None c =
     let slashed : IsSlashed c.args.text.now c.cut.result.0.now c.in-Some.length.now = slashed_at c.args.text.now c.cut.result.0.now c.cut.result.1 c.in-Some.length c.in-Some.is c.cut.ensures in
     let cut : IsCut c.args.text.now c.cut.result.0.now c.in-Some.length.now c.in_ok-length.field-0 = record { slashed = slashed; length = (c.in_ok-length.ensures c.in_ok-length.field-0).0 refl } in
-    refused _ _ c.from_residual-in_err-new-in-None.ensures (too_long6 _ _ _ _ c.in_ok-v6-in-None.v6 cut c.in_ok-v6-in-None.ensures c.in_err-new-in-None.ensures)
+    refused _ _ c.from_residual-in_err-new-in-None.ensures (too_long6 _ _ _ _ c.in_ok-v6-in-None.v6 cut c.in_ok-v6-in-None.ensures c.in_err-new-in-None.ensures.exact)
 
 pub returns-in_ok-new-in-Some-ipv4_address : goal.returns-in_ok-new-in-Some-ipv4_address
 returns-in_ok-new-in-Some-ipv4_address c =
     let slashed : IsSlashed c.args.text.now c.cut.result.0.now c.in-Some.length.now = slashed_at c.args.text.now c.cut.result.0.now c.cut.result.1 c.in-Some.length c.in-Some.is c.cut.ensures in
     let cut : IsCut c.args.text.now c.cut.result.0.now c.in-Some.length.now c.in_ok-length.field-0 = record { slashed = slashed; length = (c.in_ok-length.ensures c.in_ok-length.field-0).0 refl } in
-    read4 _ _ _ _ c.in-Some-ipv4_address.v4 c.in_ok-new-in-Some-ipv4_address.field-0 cut c.in-Some-ipv4_address.ensures c.in_ok-new-in-Some-ipv4_address.ensures
+    read4 _ _ _ _ c.in-Some-ipv4_address.v4 c.in_ok-new-in-Some-ipv4_address.field-0 cut c.in-Some-ipv4_address.ensures c.in_ok-new-in-Some-ipv4_address.ensures.exact
 
 pub returns-in_ok-new-in-None : goal.returns-in_ok-new-in-None
 returns-in_ok-new-in-None c =
     let slashed : IsSlashed c.args.text.now c.cut.result.0.now c.in-Some.length.now = slashed_at c.args.text.now c.cut.result.0.now c.cut.result.1 c.in-Some.length c.in-Some.is c.cut.ensures in
     let cut : IsCut c.args.text.now c.cut.result.0.now c.in-Some.length.now c.in_ok-length.field-0 = record { slashed = slashed; length = (c.in_ok-length.ensures c.in_ok-length.field-0).0 refl } in
-    read6 _ _ _ _ c.in_ok-v6-in-None.v6 c.in_ok-new-in-None.field-0 cut c.in_ok-v6-in-None.ensures c.in_ok-new-in-None.ensures
+    read6 _ _ _ _ c.in_ok-v6-in-None.v6 c.in_ok-new-in-None.field-0 cut c.in_ok-v6-in-None.ensures c.in_ok-new-in-None.ensures.exact

@@ -1,6 +1,6 @@
-use Rattle.std.proofs.Common.{◌≡◌, ◌^◌, ◌<◌, ℕ, refl, sym, ap, subst, arith}
+use Rattle.std.proofs.Common.{◌^◌, ◌<◌, refl, sym, ap, subst, arith}
 use Rattle.rela_flows.proofs.Exactly.{refused, given}
-use Rattle.rela_flows.proofs.Addresses.{four, write_fits, ipv4_of_write, ipv4_refused, ipv4_only}
+use Rattle.rela_flows.proofs.Addresses.{write_fits, ipv4_of_write, ipv4_refused, ipv4_only}
 use Rattle.rela_flows.specs.declared.prefix.reading.Notation.TheVariants.{Dotted}
 use Rattle.rela_flows.proofs.prefix.reading.ipv4_address.Goals as goal
 

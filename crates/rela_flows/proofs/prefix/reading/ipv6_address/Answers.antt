@@ -1,4 +1,4 @@
-use Rattle.std.proofs.Common.{◌≡◌, ◌^◌, ◌*◌, ◌+◌, ◌-◌, ◌<◌, ◌≤◌, ℕ, List, take, drop, length, Some, None, bit_or, refl, sym, ◌∙◌, ap, subst, arith}
+use Rattle.std.proofs.Common.{◌≡◌, ◌^◌, ◌*◌, ◌+◌, ◌-◌, drop, Some, None, bit_or, refl, sym, ◌∙◌, ap, subst, arith}
 use Rattle.std.proofs.lemmas.List.{take_rest}
 use Rattle.rela_flows.proofs.Exactly.{refused, given}
 use Rattle.rela_flows.proofs.Ipv6Addresses.{Reads, IsFirstGap, whole_refused, whole_only, whole_read, left_refused, right_refused, too_many, joined_number, short_read, short_only, left_room, few_read}

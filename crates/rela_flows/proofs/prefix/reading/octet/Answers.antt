@@ -1,4 +1,4 @@
-use Rattle.std.proofs.Common.{◌≡◌, ◌≤◌, ◌<◌, ◌↔◌, ℕ, List, Option, Some, None, length, get_or, arith, refl}
+use Rattle.std.proofs.Common.{◌≡◌, ◌≤◌, ◌<◌, ◌↔◌, ℕ, List, Some, None, length, get_or, arith, refl}
 use Rattle.std.specs.Str.Parse.{IsNumeral, digits_value}
 use Rattle.rela_flows.specs.Notation.{IsOctet}
 use Rattle.rela_flows.proofs.Numerals.{octet_of_numeral, numeral_of_octet, no_leading_zero}

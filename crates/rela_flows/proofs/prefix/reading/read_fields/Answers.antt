@@ -1,4 +1,4 @@
-use Rattle.std.proofs.Common.{◌≡◌, ◌↔◌, ℕ, List, length, [], ◌∷◌, ◌+◌, ◌*◌, ◌^◌, ◌<◌, ◌%◌, bit_or, option_copied, refl, sym, ◌∙◌, ap, lit<, lit≤, arith}
+use Rattle.std.proofs.Common.{◌≡◌, ℕ, length, ◌∷◌, ◌+◌, ◌*◌, ◌^◌, ◌<◌, ◌%◌, bit_or, option_copied, refl, sym, ◌∙◌, ap, lit≤, arith}
 use Rattle.rela_flows.specs.Fields.{separator_of, bits_of, IsField, parts_of}
 use Rattle.std.proofs.lemmas.Bool.{eqb-true, eqb-false}
 use Rattle.std.proofs.lemmas.Nat.{pow_pos}

@@ -1,4 +1,4 @@
-use Rattle.std.proofs.Common.{ℕ, ◌*◌, ◌^◌, ◌<◌, ◌≤◌, ◌↔◌, length, option_copied}
+use Rattle.std.proofs.Common.{◌*◌, ◌^◌, ◌<◌, ◌≤◌, ◌↔◌, length, option_copied}
 use Rattle.rela_flows.specs.declared.prefix.reading.Fields.{Fields}
 use Rattle.rela_flows.specs.Fields.{separator_of, bits_of, parts_of, Write}
 use Rattle.rela_flows.proofs.FieldRuns.{Continues}

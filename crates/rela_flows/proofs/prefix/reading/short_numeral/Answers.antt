@@ -1,5 +1,4 @@
-use Rattle.std.proofs.Common.{ℕ, ◌<◌, ◌*◌, ◌+◌, ◌≡◌, ◌^◌, length, get_or, take, refl, ap, sym, ◌∙◌, subst, arith, rules}
-use Rattle.std.specs.Char.{digit_value}
+use Rattle.std.proofs.Common.{◌<◌, ◌*◌, ◌+◌, ◌^◌, take, refl, arith}
 use Rattle.std.specs.Str.Parse.{digits_value}
 use Rattle.std.proofs.lemmas.Int.Digits.{digits_more, digits_value_more}
 use Rattle.rela_flows.proofs.Numerals.{digit_fits, digit_of_digits}
