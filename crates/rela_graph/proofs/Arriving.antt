@@ -1,5 +1,5 @@
 -- At which nodes the walks with a base word end.
-use Rattle.std.proofs.Common.{◌≡◌, ◌≢◌, ℕ, suc, zero, ◌+◌, ◌<◌, ◌↔◌, List, [], ◌∷◌, ◌++◌, length, map, refl, sym, ap, ◌∙◌, inl, inr, arith, length-append}
+use Rattle.std.proofs.Common.{◌≡◌, ◌≢◌, ℕ, suc, zero, ◌+◌, ◌<◌, ◌↔◌, List, [], ◌∷◌, ◌++◌, length, map, refl, sym, ap, subst, ◌∙◌, inl, inr, arith, length-append}
 use Rattle.std.specs.Prelude.{slice_index}
 use Rattle.std.specs.List.{Contains}
 use Rattle.std.proofs.lemmas.Bool.{cases_eq}
@@ -12,9 +12,6 @@ use Rattle.rela_graph.proofs.Squeezing.{squeeze_same, squeeze_other, squeeze_las
 use Rattle.rela_graph.proofs.Walking.{ending, walk_on, walk_back}
 
 module _ (g : Topology) (places : List ℕ) where
-  place : ℕ → ℕ
-  place n = slice_index places n
-
   base_same : (xs : List ℕ) (u n : ℕ) → slice_index places u ≡ slice_index places n → base places ((xs ++ u ∷ []) ++ n ∷ []) ≡ base places (xs ++ u ∷ [])
   base_same xs u n e =
       let p : ℕ → ℕ = λ m. slice_index places m in
@@ -58,14 +55,12 @@ module _ (g : Topology) (places : List ℕ) where
         → Spread g places s (StartsAt g places s) n
     first_arrives k [] n len w is = here (w.0, (same_from_push [] [] (slice_index places n) s is).1)
     first_arrives zero (x ∷ xs) n len w is = absurd (omega arith)
-    first_arrives (suc k) (x ∷ xs) n len w is = go (ending x xs)
-      where
-        go : (front : List ℕ) × (last : ℕ) × (x ∷ xs ≡ front ++ last ∷ []) → Spread g places s (StartsAt g places s) n
-        go e =
+    first_arrives (suc k) (x ∷ xs) n len w is =
+            let e = ending x xs in
             let ys : List ℕ = e.0 in
             let u : ℕ = e.1 in
-            let walk : IsWalk g ((ys ++ u ∷ []) ++ n ∷ []) = rw e.2 at w in
-            let word : base places ((ys ++ u ∷ []) ++ n ∷ []) ≡ s ∷ [] = rw e.2 at is in
+            let walk : IsWalk g ((ys ++ u ∷ []) ++ n ∷ []) = subst (λ (l : List ℕ). IsWalk g (l ++ n ∷ [])) e.2 w in
+            let word : base places ((ys ++ u ∷ []) ++ n ∷ []) ≡ s ∷ [] = ap (λ (l : List ℕ). base places (l ++ n ∷ [])) (sym e.2) ∙ is in
             let parts = walk_back g ys u n walk in
             let short : length ys ≡ k = let l = ap length e.2 in omega (arith, length-append ys (u ∷ [])) in
             elim (cases_eq (slice_index places u) (slice_index places n)) [
@@ -91,14 +86,12 @@ module _ (g : Topology) (places : List ℕ) where
         → Spread g places s (Enters g places s before) n
     next_arrives k [] n len w is = absurd (let l = ap length is in omega (arith, length-append word (s ∷ [])))
     next_arrives zero (y ∷ xs) n len w is = absurd (omega arith)
-    next_arrives (suc k) (y ∷ xs) n len w is = go (ending y xs)
-      where
-        go : (front : List ℕ) × (last : ℕ) × (y ∷ xs ≡ front ++ last ∷ []) → Spread g places s (Enters g places s before) n
-        go e =
+    next_arrives (suc k) (y ∷ xs) n len w is =
+            let e = ending y xs in
             let ys : List ℕ = e.0 in
             let u : ℕ = e.1 in
-            let walk : IsWalk g ((ys ++ u ∷ []) ++ n ∷ []) = rw e.2 at w in
-            let all : base places ((ys ++ u ∷ []) ++ n ∷ []) ≡ (x ∷ word) ++ s ∷ [] = rw e.2 at is in
+            let walk : IsWalk g ((ys ++ u ∷ []) ++ n ∷ []) = subst (λ (l : List ℕ). IsWalk g (l ++ n ∷ [])) e.2 w in
+            let all : base places ((ys ++ u ∷ []) ++ n ∷ []) ≡ (x ∷ word) ++ s ∷ [] = ap (λ (l : List ℕ). base places (l ++ n ∷ [])) (sym e.2) ∙ is in
             let parts = walk_back g ys u n walk in
             let short : length ys ≡ k = let l = ap length e.2 in omega (arith, length-append ys (u ∷ [])) in
             elim (cases_eq (slice_index places u) (slice_index places n)) [
@@ -112,3 +105,19 @@ module _ (g : Topology) (places : List ℕ) where
 
     pub next_place : (n : ℕ) → Spread g places s (Enters g places s before) n ↔ Arrives g places n ((x ∷ word) ++ s ∷ [])
     next_place n = (arrive_next, λ a. next_arrives (length a.0) a.0 n refl a.1 a.2)
+
+-- what is reached from some nodes is reached from the same nodes told otherwise
+pub spread_same : (g : Topology) (labels : List ℕ) (label : ℕ) (P Q : ℕ → Type 0) → ((m : ℕ) → P m ↔ Q m) → (n : ℕ)
+    → Spread g labels label P n ↔ Spread g labels label Q n
+spread_same g labels label P Q same n = (to, back)
+  where
+    to : {n : ℕ} → Spread g labels label P n → Spread g labels label Q n
+    to (here f) = here ((same _).0 f)
+    to (step r e has) = step (to r) e has
+
+    back : {n : ℕ} → Spread g labels label Q n → Spread g labels label P n
+    back (here f) = here ((same _).1 f)
+    back (step r e has) = step (back r) e has
+
+pub both_then : {A B C : Type 0} → A ↔ B → B ↔ C → A ↔ C
+both_then f g = (λ a. g.0 (f.0 a), λ c. f.1 (g.1 c))
