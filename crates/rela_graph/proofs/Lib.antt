@@ -6,3 +6,4 @@ pub mod Growing
 pub mod Arriving
 pub mod Squeezing
 pub mod Walking
+pub mod Ways
