@@ -1,8 +1,8 @@
 -- Lists that grow at the end.
-use Rattle.std.proofs.Common.{◌≡◌, ◌≢◌, ℕ, ◌+◌, ◌<◌, ◌≤◌, ◌⊎◌, ◌↔◌, List, [], ◌∷◌, ◌++◌, length, get_or, inl, inr, arith, refl, sym, ap, ◌∙◌, append_assoc, length-append}
+use Rattle.std.proofs.Common.{◌≡◌, ◌≢◌, ℕ, ◌+◌, ◌<◌, ◌≤◌, ◌⊎◌, ◌↔◌, List, [], ◌∷◌, ◌++◌, length, get_or, inl, inr, arith, sym, ap, ◌∙◌, append_assoc, length-append}
 use Rattle.std.specs.List.{Contains}
 use Rattle.std.proofs.lemmas.Bool.{cases_lt}
-use Rattle.std.proofs.lemmas.List.{append-nil, get_or_append_left, get_or_default}
+use Rattle.std.proofs.lemmas.List.{append-nil, get_or_append_left, get_or_default, get_or_push}
 use Rattle.std.proofs.lemmas.List.Elements.{Contains-append_left, Contains-push_cases}
 use Rattle.rela_graph.specs.NodeSet.{Inserts}
 use Rattle.rela_graph.specs.Spread.{Adds, Next, Spread, here, step, StartsAt, Enters}
@@ -20,9 +20,9 @@ insert_only old new n h m c = elim h.1 [ inl same ↦ inl (rw same at c) | inr m
 -- what was longer than the first list still is
 pub insert_longer : (first old new : List ℕ) (n : ℕ) → Inserts old new n → (more : List ℕ) × (old ≡ first ++ more) → (more : List ℕ) × (new ≡ first ++ more)
 insert_longer first old new n h longer = elim h.1 [
-    | inl same ↦ (longer.0, same ∙ longer.1)
-    | inr more ↦ (longer.0 ++ n ∷ [], more ∙ ap (λ l. l ++ n ∷ []) longer.1 ∙ append_assoc first longer.0 (n ∷ []))
-  ]
+  | inl same ↦ (longer.0, same ∙ longer.1)
+  | inr more ↦ (longer.0 ++ n ∷ [], more ∙ ap (λ l. l ++ n ∷ []) longer.1 ∙ append_assoc first longer.0 (n ∷ []))
+]
 
 pub added_keeps : {P : ℕ → Type 0} (old new : List ℕ) → Adds P old new → (m : ℕ) → Contains old m → Contains new m
 added_keeps old new adds m c = rw adds.longer.1 (Contains-append_left old adds.longer.0 m c)
@@ -34,6 +34,14 @@ added_length old new adds = let e = ap length adds.longer.1 in omega (arith, len
 -- the elements stand where they stood
 pub added_at : {P : ℕ → Type 0} (old new : List ℕ) → Adds P old new → (k : ℕ) → k < length old → get_or new k 0 ≡ get_or old k 0
 added_at old new adds k within = rw adds.longer.1 (get_or_append_left old adds.longer.0 0 k within)
+
+-- what holds of each element so far and of one more
+pub each_pushed : {X : Type 0} (d : X) (P : ℕ → X → Type 0) (xs : List X) (n : ℕ) (x : X) → length xs ≡ n → ((m : ℕ) → m < n → P m (get_or xs m d)) → P n x
+    → (m : ℕ) → m < n + 1 → P m (get_or (xs ++ x ∷ []) m d)
+each_pushed d P xs n x len so_far last m below = elim (cases_lt m n) [
+  | inl less ↦ rw (get_or_append_left xs (x ∷ []) d m (omega arith)) (so_far m less)
+  | inr more ↦ let same : m ≡ n = omega arith in rw (same, get_or_push xs x d n len) last
+]
 
 -- the first i of the edges from n have been followed: what they lead to with the label is among the nodes
 pub record Followed (g : Topology) (labels : List ℕ) (label n : ℕ) (out : List Link) (i : ℕ) (first now : List ℕ) : Type 0 where

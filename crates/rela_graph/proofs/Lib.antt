@@ -7,3 +7,4 @@ pub mod Arriving
 pub mod Squeezing
 pub mod Walking
 pub mod Ways
+pub mod Cycling

@@ -1,5 +1,5 @@
 -- How a path ends.
-use Rattle.std.proofs.Common.{◌≡◌, ◌≢◌, ℕ, ◌+◌, ◌<◌, ◌≤◌, ◌↔◌, ◌⊎◌, IsTrue, List, [], ◌∷◌, ◌++◌, length, get_or, map, refl, sym, ap, subst, ◌∙◌, inl, inr, arith, length-map, length-append}
+use Rattle.std.proofs.Common.{◌≡◌, ◌≢◌, ℕ, ◌+◌, ◌<◌, ◌↔◌, ◌⊎◌, List, [], ◌∷◌, ◌++◌, length, refl, sym, ap, subst, ◌∙◌, inl, inr, arith, length-append}
 use Rattle.std.specs.Prelude.{slice_index}
 use Rattle.std.specs.List.{All, Any, Contains}
 use Rattle.std.proofs.lemmas.List.{append-nil, same_from_push, get_or-map}
@@ -7,9 +7,8 @@ use Rattle.std.proofs.lemmas.List.Elements.{All-contains}
 use Rattle.rela_names.specs.declared.level.Level.{Level}
 use Rattle.rela_graph.specs.Topology.{Topology, IsTopology, JoinsNodes, HasEdge, IsDelivered, symbol_at}
 use Rattle.rela_graph.specs.Walk.{IsWalk, IsCyclic, IsDropNode}
-use Rattle.rela_graph.specs.Paths.{Paths, Arrives, IsEnding, locations, base}
+use Rattle.rela_graph.specs.Paths.{Paths, Arrives, locations}
 use Rattle.rela_graph.specs.declared.node.Node.{Node}
-use Rattle.rela_graph.specs.declared.node.Link.{Link}
 use Rattle.rela_graph.proofs.Arriving.{base_last}
 use Rattle.rela_graph.proofs.Flagged.{flag_within}
 use Rattle.rela_graph.proofs.Walking.{ending, walk_back}
@@ -43,7 +42,7 @@ module _ (g : Topology) (level : Level) (alphabet : List (List ℕ)) (is : IsTop
   -- a base word ends with a location
   last_below : (n : ℕ) → Arrives g (locations g level) n word → last < length alphabet
   last_below n a =
-      let end = base_last (locations g level) a.0 n in
+      let end = base_last g (locations g level) a.0 n in
       let same = same_from_push front end.0 last (slice_index (locations g level) n) (sym split ∙ sym a.2 ∙ end.1) in
       rw same.1 (place_below n (walk_node g is a.0 n a.1))
 
@@ -98,7 +97,10 @@ module _ (g : Topology) (level : Level) (alphabet : List (List ℕ)) (is : IsTop
 -- the empty word is no path
 pub none_empty : (g : Topology) (level : Level) (alphabet : List (List ℕ)) (word : List ℕ) → word ≡ [] → Paths g level alphabet word → ⊥
 none_empty g level alphabet word empty p =
-    let end = base_last (locations g level) p.3.0 p.0 in
+    let end = base_last g (locations g level) p.3.0 p.0 in
     let len = ap length (sym empty ∙ p.5) in
     let some = ap length (sym p.3.2 ∙ end.1) in
     omega (arith, length-append p.1 p.2, length-append end.0 (slice_index (locations g level) p.0 ∷ []))
+
+pub some_same : (Q P R : ℕ → Type 0) → ((n : ℕ) → P n ↔ R n) → ((n : ℕ) × Q n × P n) ↔ ((n : ℕ) × Q n × R n)
+some_same Q P R same = (λ s. (s.0, s.1, (same s.0).0 s.2), λ s. (s.0, s.1, (same s.0).1 s.2))

@@ -1,7 +1,6 @@
-use Rattle.std.proofs.Common.{◌≡◌, ◌<◌, Bool, true, false, length, get_or, arith, ◌∙◌, below_more}
+use Rattle.std.proofs.Common.{◌≡◌, true, false, get_or, arith, ◌∙◌, below_more}
 use Rattle.std.proofs.lemmas.Bool.{both_ways}
 use Rattle.std.proofs.lemmas.List.{get_or_default}
-use Rattle.rela_graph.specs.Walk.{IsDropNode}
 use Rattle.rela_graph.proofs.graph.Graph.any_drops.Goals as goal
 
 pub loop-n-preserved : goal.loop-n-preserved

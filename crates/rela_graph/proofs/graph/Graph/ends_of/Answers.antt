@@ -1,4 +1,4 @@
-use Rattle.std.proofs.Common.{◌≡◌, ◌∷◌, ◌++◌, [], ℕ, List, get_or, take, ap, sym, ◌∙◌, refl}
+use Rattle.std.proofs.Common.{◌≡◌, ◌∷◌, get_or, take, ap, sym, ◌∙◌}
 use Rattle.std.proofs.lemmas.List.{take_more, take_all}
 use Rattle.rela_graph.proofs.Arriving.{first_place, next_place, both_then}
 use Rattle.rela_graph.proofs.graph.Graph.ends_of.Goals as goal
@@ -19,7 +19,7 @@ loop-symbol-preserved c =
     record {
       count = c.in_ok-ends-2.ensures.count;
       ends = λ n. rw (take_more others i 0 c.loop-symbol-test.true)
-        (both_then (c.in_ok-ends-2.ensures.ends n)
+          (both_then (c.in_ok-ends-2.ensures.ends n)
           (next_place c.args.self.now c.args.places.now s (get_or c.args.word.now 0 0) (take i others) c.loop-symbol.ends.nodes c.loop-symbol.invariant.ends n));
     }
 

@@ -1,4 +1,4 @@
-use Rattle.std.proofs.Common.{◌≡◌, ◌≤◌, length, get_or, arith, ◌∙◌, rules}
+use Rattle.std.proofs.Common.{◌≡◌, length, get_or, rules}
 use Rattle.std.proofs.lemmas.List.Elements.{All-contains, Contains-get_or}
 use Rattle.rela_graph.specs.Topology.{JoinsNodes}
 use Rattle.rela_graph.specs.Adjacency.{IsIndexed}
