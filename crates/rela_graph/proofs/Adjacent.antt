@@ -1,15 +1,14 @@
 -- Finding edges in order by the node that they come from.
-use Rattle.std.proofs.Common.{◌≡◌, ◌≢◌, ℕ, ◌+◌, ◌-◌, ◌<◌, ◌≤◌, ◌↔◌, Bool, true, false, IsTrue, IfOk, Result, Ok, Err, List, [], ◌∷◌, ◌++◌, length, get_or, take, drop, inl, inr, arith, refl, sym, ap, ◌∙◌, length-take, length-drop}
+use Rattle.std.proofs.Common.{◌≡◌, ℕ, ◌+◌, ◌-◌, ◌<◌, ◌≤◌, ◌↔◌, Bool, true, false, IsTrue, IfOk, Result, Ok, Err, List, length, get_or, take, drop, inl, inr, arith, refl, sym, ap, ◌∙◌, length-take, length-drop}
 use Rattle.std.specs.Prelude.{nat_lt}
 use Rattle.std.specs.declared.cmp.Ordering.{Ordering}
 use Rattle.std.specs.declared.cmp.Ordering.TheVariants.{Less, Equal, Greater}
-use Rattle.std.specs.Ordering.{is_lt, nat_cmp, ordering_reverse, ordering_index}
+use Rattle.std.specs.Ordering.{is_lt, ordering_reverse}
 use Rattle.std.specs.List.{All, Contains, HoldsAt}
 use Rattle.std.specs.List.Sorted.{IsSorted, IsPartitionPoint, IsPartitionedBy, IsBinarySearchResult, IsSearchInRange}
 use Rattle.std.specs.Result.{is_ok}
 use Rattle.std.proofs.lemmas.Bool.{cases_lt, lt-ltb, ltb-true, ltb-false}
-use Rattle.std.proofs.lemmas.List.{get_or-take, get_or-drop, get_or_read_under, get_or_default, get_or_append_left, get_or_push}
-use Rattle.std.proofs.lemmas.List.Elements.{All-contains}
+use Rattle.std.proofs.lemmas.List.{get_or-take, get_or-drop, get_or_read_under, get_or_default}
 use Rattle.std.proofs.lemmas.List.Sorted.{sorted_far, ranks_by, searchable_from_sorted}
 use Rattle.rela_graph.specs.Adjacency.{IsIndexed, link_cmp}
 use Rattle.rela_graph.specs.Topology.{JoinsNodes}
@@ -18,9 +17,9 @@ use Rattle.rela_graph.proofs.Links.{links_total, same_links}
 
 below_or_less : (x y : Link) → is_lt (link_cmp y x) ≡ false → x.a ≤ y.a
 below_or_less x y h = elim (cases_lt y.a x.a) [
-    | inl below ↦ let t : nat_lt y.a x.a ≡ true = lt-ltb y.a x.a below in let no : true ≡ false = rw t at h in cc
-    | inr above ↦ above
-  ]
+  | inl below ↦ let t : nat_lt y.a x.a ≡ true = lt-ltb y.a x.a below in let no : true ≡ false = rw t at h in cc
+  | inr above ↦ above
+]
 
 -- the nodes that ordered edges come from do not fall
 pub rises : (edges : List Link) → IsSorted link_cmp edges → (i j : ℕ) (d : Link) → i ≤ j → j < length edges → (get_or edges i d).a ≤ (get_or edges j d).a
@@ -90,13 +89,13 @@ module _ (edges : List Link) (offsets : List ℕ) (count n from to : ℕ) (index
 
   pub from_before_to : from ≤ to
   from_before_to = elim (cases_lt to from) [
-      | inl below ↦
-          let d : Link = record { a = 0; b = 0 } in
-          let low = at_start.0 to d (omega arith) below in
-          let high = at_end.1 to d (omega arith) (let w = from_within in omega arith) in
-          absurd (omega arith)
-      | inr above ↦ above
-    ]
+    | inl below ↦
+        let d : Link = record { a = 0; b = 0 } in
+        let low = at_start.0 to d (omega arith) below in
+        let high = at_end.1 to d (omega arith) (let w = from_within in omega arith) in
+        absurd (omega arith)
+    | inr above ↦ above
+  ]
 
   pub part_length : length (take (to - from) (drop from edges)) ≡ to - from
   part_length = let w = to_within in let v = from_before_to in simp (length-take, length-drop) (omega arith)
@@ -130,11 +129,3 @@ module _ (edges : List Link) (offsets : List ℕ) (count n from to : ℕ) (index
       let small : h.0 - from < to - from = omega arith in
       let place : from + (h.0 - from) ≡ h.0 = omega arith in
       (h.0 - from, rw (part_length) small, part_at (h.0 - from) link small ∙ rw place h.2)
-
--- what holds of each offset so far and of one more
-pub each_offset : (P : ℕ → ℕ → Type 0) (offsets : List ℕ) (n at : ℕ) → length offsets ≡ n → ((m : ℕ) → m < n → P m (get_or offsets m 0)) → P n at
-    → (m : ℕ) → m < n + 1 → P m (get_or (offsets ++ at ∷ []) m 0)
-each_offset P offsets n at len so_far here m below = elim (cases_lt m n) [
-    | inl less ↦ rw (get_or_append_left offsets (at ∷ []) 0 m (omega arith)) (so_far m less)
-    | inr more ↦ let same : m ≡ n = omega arith in rw (same, get_or_push offsets at 0 n len) here
-  ]

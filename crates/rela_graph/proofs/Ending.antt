@@ -1,5 +1,5 @@
 -- What ends a walk.
-use Rattle.std.proofs.Common.{◌≡◌, ℕ, ◌<◌, ◌≤◌, ◌↔◌, Bool, true, false, not, IsTrue, List, [], ◌∷◌, length, get_or, inl, inr, arith, refl, sym, ◌∙◌}
+use Rattle.std.proofs.Common.{◌≡◌, ℕ, ◌<◌, ◌↔◌, Bool, true, false, not, IsTrue, List, length, get_or, inl, inr, arith, refl}
 use Rattle.std.specs.List.{All, Contains}
 use Rattle.rela_graph.specs.Topology.{Topology, HasEdge, IsEdgeFrom, IsDropped, IsDelivered}
 use Rattle.rela_graph.specs.Walk.{IsDropNode}
@@ -17,6 +17,6 @@ module _ (g : Topology) (n : ℕ) (out : List Link) (unlisted : ¬ IsDropped g n
 
   pub goes_on : All (IsEdgeFrom g n) out → 0 < length out → ¬ IsDropNode g n
   goes_on each some h = elim h [
-      | inl listed ↦ unlisted listed
-      | inr r ↦ let d : Link = record { a = 0; b = 0 } in r.0 (get_or out 0 d).b (each 0 d some).2
-    ]
+    | inl listed ↦ unlisted listed
+    | inr r ↦ let d : Link = record { a = 0; b = 0 } in r.0 (get_or out 0 d).b (each 0 d some).2
+  ]

@@ -1,11 +1,11 @@
 -- Lists that grow at the end.
-use Rattle.std.proofs.Common.{◌≡◌, ℕ, ◌+◌, ◌<◌, ◌≤◌, ◌⊎◌, ◌↔◌, List, [], ◌∷◌, ◌++◌, length, get_or, inl, inr, arith, refl, sym, ap, ◌∙◌, append_assoc, length-append}
+use Rattle.std.proofs.Common.{◌≡◌, ◌≢◌, ℕ, ◌+◌, ◌<◌, ◌≤◌, ◌⊎◌, ◌↔◌, List, [], ◌∷◌, ◌++◌, length, get_or, inl, inr, arith, sym, ap, ◌∙◌, append_assoc, length-append}
 use Rattle.std.specs.List.{Contains}
 use Rattle.std.proofs.lemmas.Bool.{cases_lt}
-use Rattle.std.proofs.lemmas.List.{append-nil, get_or_append_left, get_or_default}
+use Rattle.std.proofs.lemmas.List.{append-nil, get_or_append_left, get_or_default, get_or_push}
 use Rattle.std.proofs.lemmas.List.Elements.{Contains-append_left, Contains-push_cases}
 use Rattle.rela_graph.specs.NodeSet.{Inserts}
-use Rattle.rela_graph.specs.Spread.{Adds, Next, Spread, here, step, StartsAt}
+use Rattle.rela_graph.specs.Spread.{Adds, Next, Spread, here, step, StartsAt, Enters}
 use Rattle.rela_graph.specs.Topology.{Topology, HasEdge}
 use Rattle.rela_graph.specs.declared.node.Link.{Link}
 
@@ -20,9 +20,9 @@ insert_only old new n h m c = elim h.1 [ inl same ↦ inl (rw same at c) | inr m
 -- what was longer than the first list still is
 pub insert_longer : (first old new : List ℕ) (n : ℕ) → Inserts old new n → (more : List ℕ) × (old ≡ first ++ more) → (more : List ℕ) × (new ≡ first ++ more)
 insert_longer first old new n h longer = elim h.1 [
-    | inl same ↦ (longer.0, same ∙ longer.1)
-    | inr more ↦ (longer.0 ++ n ∷ [], more ∙ ap (λ l. l ++ n ∷ []) longer.1 ∙ append_assoc first longer.0 (n ∷ []))
-  ]
+  | inl same ↦ (longer.0, same ∙ longer.1)
+  | inr more ↦ (longer.0 ++ n ∷ [], more ∙ ap (λ l. l ++ n ∷ []) longer.1 ∙ append_assoc first longer.0 (n ∷ []))
+]
 
 pub added_keeps : {P : ℕ → Type 0} (old new : List ℕ) → Adds P old new → (m : ℕ) → Contains old m → Contains new m
 added_keeps old new adds m c = rw adds.longer.1 (Contains-append_left old adds.longer.0 m c)
@@ -34,6 +34,14 @@ added_length old new adds = let e = ap length adds.longer.1 in omega (arith, len
 -- the elements stand where they stood
 pub added_at : {P : ℕ → Type 0} (old new : List ℕ) → Adds P old new → (k : ℕ) → k < length old → get_or new k 0 ≡ get_or old k 0
 added_at old new adds k within = rw adds.longer.1 (get_or_append_left old adds.longer.0 0 k within)
+
+-- what holds of each element so far and of one more
+pub each_pushed : {X : Type 0} (d : X) (P : ℕ → X → Type 0) (xs : List X) (n : ℕ) (x : X) → length xs ≡ n → ((m : ℕ) → m < n → P m (get_or xs m d)) → P n x
+    → (m : ℕ) → m < n + 1 → P m (get_or (xs ++ x ∷ []) m d)
+each_pushed d P xs n x len so_far last m below = elim (cases_lt m n) [
+  | inl less ↦ rw (get_or_append_left xs (x ∷ []) d m (omega arith)) (so_far m less)
+  | inr more ↦ let same : m ≡ n = omega arith in rw (same, get_or_push xs x d n len) last
+]
 
 -- the first i of the edges from n have been followed: what they lead to with the label is among the nodes
 pub record Followed (g : Topology) (labels : List ℕ) (label n : ℕ) (out : List Link) (i : ℕ) (first now : List ℕ) : Type 0 where
@@ -139,3 +147,43 @@ no_start g labels label n now so_far other = record {
     | inr more ↦ let same : m ≡ n = omega arith in absurd (other (rw same at s))
   ];
 }
+
+-- the first i of the nodes have been followed, where they have another label: `now` has what they lead to
+pub record Entered (g : Topology) (labels : List ℕ) (label : ℕ) (from : List ℕ) (i : ℕ) (now : List ℕ) : Type 0 where
+  pub each : (m : ℕ) → Contains now m → Enters g labels label from m
+  pub all : (k m : ℕ) → k < i → get_or labels (get_or from k 0) 0 ≢ label → Next g labels label (get_or from k 0) m → Contains now m
+
+module _ (g : Topology) (labels : List ℕ) (label : ℕ) (from : List ℕ) where
+  pub none_entered : Entered g labels label from 0 []
+  none_entered = record { each = λ m c. absurd (omega (arith, c.1)); all = λ k m below. absurd (omega arith) }
+
+  pub one_entered : (i : ℕ) (before after : List ℕ) → Entered g labels label from i before → i < length from → get_or labels (get_or from i 0) 0 ≢ label
+      → Adds (Next g labels label (get_or from i 0)) before after → Entered g labels label from (i + 1) after
+  one_entered i before after so_far within other adds = record {
+    each = λ m c. elim (adds.each m c) [
+      | inl old ↦ so_far.each m old
+      | inr next ↦ (get_or from i 0, (i, within, get_or_default from i (get_or from i 0) 0 within), other, next)
+    ];
+    all = λ k m below apart next. elim (cases_lt k i) [
+      | inl less ↦ added_keeps before after adds m (so_far.all k m less apart next)
+      | inr more ↦ let same : k ≡ i = omega arith in adds.all m (rw same at next)
+    ];
+  }
+
+  pub none_more : (i : ℕ) (now : List ℕ) → Entered g labels label from i now → get_or labels (get_or from i 0) 0 ≡ label → Entered g labels label from (i + 1) now
+  none_more i now so_far has = record {
+    each = so_far.each;
+    all = λ k m below apart next. elim (cases_lt k i) [
+      | inl less ↦ so_far.all k m less apart next
+      | inr more ↦ let same : k ≡ i = omega arith in absurd (apart (rw same has))
+    ];
+  }
+
+  pub all_entered : (i : ℕ) (now : List ℕ) → Entered g labels label from i now → length from ≤ i → (m : ℕ) → Contains now m ↔ Enters g labels label from m
+  all_entered i now so_far over m = (
+    so_far.each m,
+    λ e.
+        let at = e.1 in
+        let same : get_or from at.0 0 ≡ e.0 = get_or_default from at.0 0 e.0 at.1 ∙ at.2 in
+        so_far.all at.0 m (let w = at.1 in omega arith) (rw same e.2) (rw same e.3),
+  )

@@ -6,3 +6,5 @@ pub mod Growing
 pub mod Arriving
 pub mod Squeezing
 pub mod Walking
+pub mod Ways
+pub mod Cycling

@@ -1,12 +1,12 @@
 -- Edges in order.
-use Rattle.std.proofs.Common.{zero, suc, ◌≡◌, ℕ, ◌+◌, ◌<◌, ◌≤◌, ◌↔◌, Bool, true, false, ◌&&◌, List, [], ◌∷◌, length, get_or, arith, refl, sym, ap, ◌∙◌, rules, add-one}
+use Rattle.std.proofs.Common.{zero, suc, ◌≡◌, ℕ, ◌↔◌, Bool, true, ◌&&◌, List, [], ◌∷◌, arith, refl, sym, ap, ◌∙◌, rules, add-one}
 use Rattle.std.specs.Prelude.{◌==◌}
 use Rattle.std.specs.Cmp.{IsTotalOrder, IsEquivalence}
 use Rattle.std.specs.Cmp.Rules.{comparing}
 use Rattle.std.specs.declared.cmp.Ordering.{Ordering}
 use Rattle.std.specs.declared.cmp.Ordering.TheVariants.{Less, Equal, Greater}
-use Rattle.std.specs.Ordering.{nat_cmp, is_lt, is_eq, eq_by_cmp, ordering_then, ordering_reverse}
-use Rattle.std.specs.List.{All, Contains, dedup, AllByRecursion}
+use Rattle.std.specs.Ordering.{nat_cmp, is_lt, is_eq, eq_by_cmp, ordering_reverse}
+use Rattle.std.specs.List.{Contains, dedup}
 use Rattle.std.specs.List.Retain.{IsFiltered, DiffersFromLast}
 use Rattle.std.specs.List.Sorted.{IsSorted, IsStrictlySortedBy, IsPermutation}
 use Rattle.std.proofs.lemmas.Cmp.{then_total, on_total, nat_cmp_total}

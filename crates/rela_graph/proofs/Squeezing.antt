@@ -1,7 +1,7 @@
 -- A list that goes on by one element, with each run of equal neighbours written once.
-use Rattle.std.proofs.Common.{◌≡◌, ◌≢◌, ℕ, Bool, true, false, List, [], ◌∷◌, ◌++◌, refl, sym, ap, ◌∙◌}
+use Rattle.std.proofs.Common.{◌≡◌, ◌≢◌, ℕ, true, false, List, [], ◌∷◌, ◌++◌, inl, inr, refl, ap, ◌∙◌}
 use Rattle.std.specs.Prelude.{◌==◌, if◌then◌else◌}
-use Rattle.std.proofs.lemmas.Bool.{eqb-true, eq-eqb, ne_eqb, cases_eq}
+use Rattle.std.proofs.lemmas.Bool.{eq-eqb, ne_eqb, cases_eq}
 use Rattle.rela_graph.specs.Paths.{squeeze, squeeze_after}
 
 -- x after z, and then the rest
@@ -31,9 +31,9 @@ squeeze_other (w ∷ xs) x y ne = ap (λ r. w ∷ r) (other_after w xs x y ne)
 
 last_after : (z : ℕ) (xs : List ℕ) (x : ℕ) → (front : List ℕ) × (z ∷ squeeze_after z (xs ++ x ∷ []) ≡ front ++ x ∷ [])
 last_after z [] x = elim (cases_eq z x) [
-    | inl same ↦ ([], let t = eq-eqb z x same in rw t (ap (λ w. w ∷ []) same))
-    | inr apart ↦ (z ∷ [], let t = ne_eqb z x apart in rw t)
-  ]
+  | inl same ↦ ([], let t = eq-eqb z x same in rw t (ap (λ w. w ∷ []) same))
+  | inr apart ↦ (z ∷ [], let t = ne_eqb z x apart in rw t)
+]
 last_after z (w ∷ xs) x =
     let more = last_after w xs x in
     elim (cases_eq z w) [

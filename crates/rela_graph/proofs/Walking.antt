@@ -1,5 +1,5 @@
 -- Walks that go on by one node, and lists that lead from node to node.
-use Rattle.std.proofs.Common.{◌≡◌, ℕ, suc, zero, ◌+◌, List, [], ◌∷◌, ◌++◌, length, refl, sym, ap, ◌∙◌, inl, inr, ◌⊎◌, arith, append_assoc}
+use Rattle.std.proofs.Common.{◌≡◌, ℕ, List, [], ◌∷◌, ◌++◌, refl, ap}
 use Rattle.rela_graph.specs.Topology.{Topology, HasEdge}
 use Rattle.rela_graph.specs.Walk.{FollowsEdges, IsWalk, Leads}
 

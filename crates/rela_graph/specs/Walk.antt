@@ -1,5 +1,5 @@
 -- Walks through a graph, and how they may end.
-use Rattle.std.specs.Prelude.{◌≡◌, ℕ, ◌⊎◌, List, [], ◌∷◌, ◌++◌, ⊤}
+use Rattle.std.specs.Prelude.{ℕ, ◌⊎◌, List, [], ◌∷◌, ◌++◌, ⊤}
 use Rattle.rela_graph.specs.Topology.{Topology, HasEdge, IsStart, IsDelivered, IsDropped}
 
 -- each neighbouring pair is an edge

@@ -53,7 +53,12 @@ impl Graph {
         requires { All (λ n. n < length self.now.nodes) nodes.now }
         ensures { IsTrue result ↔ Any (IsDropNode self.now) nodes.now }
     {
-        nodes.iter().any(|n| self.is_drop_node(*n))
+        for n in nodes {
+            if self.is_drop_node(*n) {
+                return true;
+            }
+        }
+        false
     }
 
     /// Whether traffic is dropped at the node: it is listed as one that drops, or has no edge out and

@@ -8,4 +8,4 @@ pub returns-clause-parted : goal.returns-clause-parted
 returns-clause-parted c =
     parted_at c.args.edges.now c.args.n c.partition_point.result
     (c.partition_point.ensures.partitioned (λ link. nat_lt link.a c.args.n) (always_returns_same _ _ _ (λ a r g called. search rules))
-      (parted_by c.args.edges.now c.args.n c.requires))
+    (parted_by c.args.edges.now c.args.n c.requires))

@@ -1,4 +1,4 @@
-use Rattle.std.proofs.Common.{◌≡◌, ◌+◌, ◌<◌, ◌++◌, ◌∷◌, [], Bool, false, length, take, get_or, replicate, arith, ◌∙◌, rules}
+use Rattle.std.proofs.Common.{◌≡◌, ◌<◌, false, length, take, get_or, replicate, arith, ◌∙◌, rules}
 use Rattle.std.proofs.lemmas.List.{take_more, take_all, length-set}
 use Rattle.rela_graph.proofs.Flagged.{set_at_first, set_more}
 use Rattle.rela_graph.proofs.graph.flags_of.Goals as goal

@@ -1,6 +1,6 @@
-use Rattle.std.proofs.Common.{◌≡◌, ℕ, ◌+◌, ◌<◌, ◌≤◌, length, get_or, arith, rules}
+use Rattle.std.proofs.Common.{◌<◌, ◌≤◌, length, arith, rules}
 use Rattle.std.specs.List.Sorted.{IsPartitionPoint}
-use Rattle.rela_graph.proofs.Adjacent.{each_offset}
+use Rattle.rela_graph.proofs.Growing.{each_pushed}
 use Rattle.rela_graph.proofs.graph.offsets_of.Goals as goal
 
 pub loop-n-preserved : goal.loop-n-preserved
@@ -10,9 +10,9 @@ loop-n-preserved c =
     let at = c.edges_before.result in
     record {
       len = search rules;
-      within = rw c.in_ok-push.ensures.items (each_offset (λ m i. i ≤ length edges) before c.loop-n.n at c.loop-n.invariant.len c.loop-n.invariant.within c.edges_before.ensures.within);
+      within = rw c.in_ok-push.ensures.items (each_pushed 0 (λ m i. i ≤ length edges) before c.loop-n.n at c.loop-n.invariant.len c.loop-n.invariant.within c.edges_before.ensures.within);
       parted = rw c.in_ok-push.ensures.items
-        (each_offset (λ m i. IsPartitionPoint (λ link. link.a < m) (λ link. m ≤ link.a) edges i) before c.loop-n.n at c.loop-n.invariant.len c.loop-n.invariant.parted c.edges_before.ensures.parted);
+          (each_pushed 0 (λ m i. IsPartitionPoint (λ link. link.a < m) (λ link. m ≤ link.a) edges i) before c.loop-n.n at c.loop-n.invariant.len c.loop-n.invariant.parted c.edges_before.ensures.parted);
     }
 
 pub returns : goal.returns

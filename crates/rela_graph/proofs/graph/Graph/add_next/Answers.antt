@@ -1,4 +1,4 @@
-use Rattle.std.proofs.Common.{rules, get_or, refl, ◌∙◌, ap}
+use Rattle.std.proofs.Common.{get_or, refl, ◌∙◌, ap}
 use Rattle.std.proofs.lemmas.List.{get_or_default}
 use Rattle.rela_graph.specs.declared.node.Link.{Link}
 use Rattle.rela_graph.proofs.Growing.{none_followed, one_followed, one_passed, all_followed}
@@ -20,14 +20,14 @@ loop-edge-preserved c =
       | then-labels-edge+in_ok-insert w ↦ record {
         count = ap (λ s. s.count) w.set-is ∙ w.insert.ensures.count ∙ c.loop-edge.invariant.count;
         followed = rw w.set-is
-          (one_followed c.args.self.now c.args.labels.now c.args.label c.args.n out c.args.set.now.nodes i c.loop-edge.set.nodes w.insert.new.self.nodes link
+            (one_followed c.args.self.now c.args.labels.now c.args.label c.args.n out c.args.set.now.nodes i c.loop-edge.set.nodes w.insert.new.self.nodes link
             c.loop-edge.invariant.followed (λ d. get_or_default out i d _ c.loop-edge-test.true) (c.edges_from-edge-items.ensures.each i _ c.loop-edge-test.true).2
             w.if-labels-edge.true w.in_ok-insert.ensures.ok);
       }
       | else-labels-edge w ↦ record {
         count = ap (λ s. s.count) w.set-is ∙ c.loop-edge.invariant.count;
         followed = rw w.set-is
-          (one_passed c.args.self.now c.args.labels.now c.args.label c.args.n out c.args.set.now.nodes i c.loop-edge.set.nodes link
+            (one_passed c.args.self.now c.args.labels.now c.args.label c.args.n out c.args.set.now.nodes i c.loop-edge.set.nodes link
             c.loop-edge.invariant.followed (λ d. get_or_default out i d _ c.loop-edge-test.true) w.if-labels-edge.false);
       }
     ]

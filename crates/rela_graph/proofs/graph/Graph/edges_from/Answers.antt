@@ -1,5 +1,5 @@
-use Rattle.std.proofs.Common.{rules, ◌≡◌, ◌<◌, ◌≤◌, length}
-use Rattle.rela_graph.proofs.Adjacent.{from_before_to, to_within, each_from, all_from}
+use Rattle.std.proofs.Common.{◌<◌, ◌≤◌, length}
+use Rattle.rela_graph.proofs.Adjacent.{from_before_to, each_from, all_from}
 use Rattle.rela_graph.proofs.graph.Graph.edges_from.Goals as goal
 
 node : (c : goal.After-deref) → c.args.n < length c.self.inside.nodes.items
@@ -20,10 +20,10 @@ pub returns-clause-each : goal.returns-clause-each
 returns-clause-each c =
     rw (← c.self.view_is, c.deref.ensures.value)
     (each_from c.self.inside.edges.items c.self.inside.offsets.items (length c.self.inside.nodes.items) c.args.n c.index.result.now c.index-2.result.now
-      c.self.invariant.indexed (rw (← c.self.view_is) at c.requires) c.index.ensures c.index-2.ensures c.self.invariant.is_topology.joins)
+    c.self.invariant.indexed (rw (← c.self.view_is) at c.requires) c.index.ensures c.index-2.ensures c.self.invariant.is_topology.joins)
 
 pub returns-clause-all : goal.returns-clause-all
 returns-clause-all c =
     rw (← c.self.view_is, c.deref.ensures.value)
     (all_from c.self.inside.edges.items c.self.inside.offsets.items (length c.self.inside.nodes.items) c.args.n c.index.result.now c.index-2.result.now
-      c.self.invariant.indexed (rw (← c.self.view_is) at c.requires) c.index.ensures c.index-2.ensures)
+    c.self.invariant.indexed (rw (← c.self.view_is) at c.requires) c.index.ensures c.index-2.ensures)

@@ -1,4 +1,4 @@
-use Rattle.std.proofs.Common.{◌<◌, ◌≤◌, rules, arith, refl, ap, length, get_or}
+use Rattle.std.proofs.Common.{◌<◌, rules, arith, refl, ap, length, get_or}
 use Rattle.rela_graph.proofs.Growing.{spread_none, spread_more, spread_all, added_length}
 use Rattle.rela_graph.proofs.graph.Graph.spread.Goals as goal
 
