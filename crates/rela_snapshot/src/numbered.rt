@@ -54,12 +54,7 @@ fn read_nodes(
     Ok(nodes)
 }
 
-fn read_edges(
-    alloc: Global,
-    values: &[Value],
-    count: u32,
-    row: u32,
-) -> Result<Vec<Link>, LoadError>
+fn read_edges(alloc: Global, values: &[Value], count: u32, row: u32) -> Result<Vec<Link>, LoadError>
     ensures len { IfOk result (λ edges. vec_len edges ≡ length values.now) }
     ensures join { IfOk result (λ edges. All (JoinsNodes count) edges.items) }
 {

@@ -43,11 +43,7 @@ impl Snapshot {
     /// # Errors
     ///
     /// `NotJson`; else the first fault of a walk of the file, with its row; `Memory`.
-    pub fn decode(
-        alloc: Global,
-        bytes: &[u8],
-        locations: &Locations,
-    ) -> Result<Snapshot, LoadError>
+    pub fn decode(alloc: Global, bytes: &[u8], locations: &Locations) -> Result<Snapshot, LoadError>
         requires { length bytes.now ≤ 33554432 }
     {
         let root = read(alloc, bytes)?;

@@ -64,25 +64,40 @@ fn reads_named_nodes(rt: HostRuntime) -> Result<(), Fail> {
 fn refuses_the_first_fault(rt: HostRuntime) -> Result<(), Fail> {
     let alloc = rt.alloc();
     assert_eq!(rt; refusal(alloc, b"{")?, Some(LoadError::NotJson));
-    assert_eq!(rt; refusal(alloc, b"{\"version\":3}")?, Some(LoadError::BadVersion));
+    assert_eq!(rt;
+        refusal(alloc, b"{\"version\":3}")?,
+        Some(LoadError::BadVersion)
+    );
     assert_eq!(rt;
         refusal(alloc, b"{\"version\":1,\"flows\":[7]}")?,
         Some(LoadError::WrongShape { rule: 24, row: 0 })
     );
     assert_eq!(rt;
-        refusal(alloc, b"{\"version\":2,\"flows\":[{\"name\":\"f\",\"dst\":\"::/0\",\"src\":\"10.0.0.0/8\"}]}")?,
+        refusal(
+            alloc,
+            b"{\"version\":2,\"flows\":[{\"name\":\"f\",\"dst\":\"::/0\",\"src\":\"10.0.0.0/8\"}]}"
+        )?,
         Some(LoadError::BadPrefix { row: 0 })
     );
     assert_eq!(rt;
-        refusal(alloc, b"{\"version\":1,\"flows\":[{\"name\":\"f\",\"dst\":\"10.0.0.0/8\",\"nodes\":[\"r9:0\"]}]}")?,
+        refusal(
+            alloc,
+            b"{\"version\":1,\"flows\":[{\"name\":\"f\",\"dst\":\"10.0.0.0/8\",\"nodes\":[\"r9:0\"]}]}"
+        )?,
         Some(LoadError::UnknownLocation { row: 0 })
     );
     assert_eq!(rt;
-        refusal(alloc, b"{\"version\":1,\"flows\":[{\"name\":\"f\",\"dst\":\"10.0.0.0/8\",\"nodes\":[\"r1:0\"],\"edges\":[[0,1]]}]}")?,
+        refusal(
+            alloc,
+            b"{\"version\":1,\"flows\":[{\"name\":\"f\",\"dst\":\"10.0.0.0/8\",\"nodes\":[\"r1:0\"],\"edges\":[[0,1]]}]}"
+        )?,
         Some(LoadError::BadIndex { row: 0 })
     );
     assert_eq!(rt;
-        refusal(alloc, b"{\"version\":2,\"flows\":[{\"name\":\"f\",\"dst\":\"::/0\",\"nodes\":[{\"id\":\"a\",\"at\":\"r1:0\"}],\"edges\":[[\"a\",\"z\"]]}]}")?,
+        refusal(
+            alloc,
+            b"{\"version\":2,\"flows\":[{\"name\":\"f\",\"dst\":\"::/0\",\"nodes\":[{\"id\":\"a\",\"at\":\"r1:0\"}],\"edges\":[[\"a\",\"z\"]]}]}"
+        )?,
         Some(LoadError::UnknownNode { row: 0 })
     );
     Ok(())
