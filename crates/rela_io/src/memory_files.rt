@@ -1,5 +1,5 @@
 //! Files that stand in memory, some calls on which are made to fail.
-ghost use Rattle.std.specs.Prelude.{◌≡◌, ◌⊎◌, ◌↔◌, ◌+◌, ◌^◌, ◌<◌, ◌≤◌, [], ◌++◌, length, take, drop, map, Some, None, true, Ok, IsErr, IsSomeAnd, IfSome, IfOk, OnOk, OnErr, MatchOption, slice_index_or, is_some, ◌==◌, refl};
+ghost use Rattle.std.specs.Prelude.{◌≡◌, ◌⊎◌, ◌↔◌, ◌+◌, ◌^◌, ◌<◌, ◌≤◌, [], ◌++◌, length, take, drop, map, Some, None, true, Ok, IsErr, IsTrue, IsSomeAnd, IfSome, IfOk, OnOk, OnErr, MatchOption, slice_index_or, is_some, ◌==◌, refl};
 ghost use Rattle.rela_io.specs.Calls.{NextFails, no_calls};
 ghost use Rattle.rela_io.specs.MemoryFiles.{held_in, entries_of, bytes_at, given_of, opened, not_opened, after_read, not_read};
 
