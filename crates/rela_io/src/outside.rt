@@ -1,6 +1,6 @@
 //! The outside as two traits, for which a test or a proof can stand in something that tells all
 //! its bytes.
-ghost use Rattle.std.specs.Prelude.{◌≡◌, ℕ, ◌+◌, ◌<◌, ◌≤◌, ◌↔◌, List, [], length, take, Option, Some, None, Bool, true, Ok, IsTrue, IsFalse, IsSome, IsErr, IfSome, IfOk, OnOk, OnErr};
+ghost use Rattle.std.specs.Prelude.{◌≡◌, ℕ, ◌+◌, ◌<◌, ◌≤◌, ◌↔◌, List, [], length, take, Option, None, Bool, Ok, IsTrue, IsFalse, IsSome, IsErr, IfSome, IfOk, OnOk, OnErr};
 ghost use Rattle.rela_io.specs.Count.{Rose, full};
 ghost use Rattle.rela_io.specs.Bytes.{before_told, after_told};
 ghost use Rattle.rela_io.specs.Held.{FilesByName, Lacks};
