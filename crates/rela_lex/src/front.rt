@@ -1,6 +1,6 @@
 //! The piece at the front of a text.
 
-ghost use Rattle.std.specs.Prelude.{◌≡◌, ◌<◌, ◌≤◌, false, not, length, if◌then◌else◌, IfOk, Some, None};
+ghost use Rattle.std.specs.Prelude.{◌≡◌, ◌<◌, ◌≤◌, length, if◌then◌else◌, IfOk, Some, None};
 ghost use Rattle.std.specs.List.{prefix_len};
 ghost use Rattle.rela_names.specs.Name.{is_name_byte, is_name};
 ghost use Rattle.rela_lex.specs.Spells.{is_blank, is_mark, is_lone_mark, is_within_line};
