@@ -4,6 +4,7 @@ pub mod Refusal
 pub mod Answer
 pub mod Reading
 pub mod Loading
+pub mod Plain
 pub use Rattle.rela_io.specs.Count
 pub use Rattle.rela_io.specs.Bytes
 pub use Rattle.rela_io.specs.Held

@@ -8,6 +8,7 @@ mod reading;
 mod refusal;
 mod reporting;
 mod running;
+mod verdict;
 mod words;
 
 pub use answer::{Answer, BAD_WORDS, MET, NO_MEMORY, READ_FAULT, REFUSED, UNDECIDED, VIOLATED, WRITE_FAULT, deliver};
@@ -17,6 +18,7 @@ pub use reading::{Halt, MAX_FILE_BYTES, read_input};
 pub use refusal::{Input, Refusal, refusal_line};
 pub use reporting::report;
 pub use running::run;
+pub use verdict::decide_kept;
 pub use words::{Operands, read_words};
 
 #[cfg(test)]
