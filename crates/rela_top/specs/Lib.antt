@@ -1,4 +1,5 @@
 pub mod Words
+pub mod Operands
 pub mod Refusal
 pub mod Answer
 pub mod Reading

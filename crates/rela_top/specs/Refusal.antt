@@ -1,12 +1,13 @@
 -- The line that a refused input gets: `refused`, the place, the number and name of the refusal, and its detail.
-use Rattle.std.specs.Prelude.{ℕ, List, [], ◌∷◌, ◌++◌, codes}
+use Rattle.std.specs.Prelude.{ℕ, List, [], ◌++◌, codes}
 use Rattle.std.specs.Fmt.{decimal}
 use Rattle.rela_json.specs.declared.error.LoadError.{LoadError}
 use Rattle.rela_json.specs.declared.error.LoadError.TheVariants as load
+use Rattle.rela_report.specs.Text.{line}
 use Rattle.rela_top.specs.declared.refusal.Input.{Input}
 use Rattle.rela_top.specs.declared.refusal.Input.TheVariants.{Locations, Before, After, Spec}
 use Rattle.rela_top.specs.declared.refusal.Refusal.{Refusal}
-use Rattle.rela_top.specs.declared.refusal.Refusal.TheVariants.{TooLong, Load, FlowDiffers, Specification}
+use Rattle.rela_top.specs.declared.refusal.Refusal.TheVariants.{TooLong, Load}
 
 abbrev pub input_text : Input → List ℕ
 input_text Locations = codes "locations"
@@ -14,19 +15,33 @@ input_text Before = codes "before"
 input_text After = codes "after"
 input_text Spec = codes "spec"
 
-abbrev pub row_text : ℕ → List ℕ
-row_text row = codes " row " ++ decimal row
+-- a refusal with the row that it stands in
+unfoldable pub in_row : List ℕ → ℕ → List ℕ
+in_row refusal row = refusal ++ (codes " row " ++ decimal row)
 
--- number, name and detail of what a decoder refused; want of memory is no refusal
+-- a shape refused by this rule
+unfoldable pub by_rule : ℕ → List ℕ
+by_rule rule = codes "12 WrongShape rule " ++ decimal rule
+
+-- what a decoder refused; want of memory is no refusal
 abbrev pub load_text : LoadError → List ℕ
 load_text load.NotJson = codes "11 NotJson"
-load_text (load.WrongShape rule row) = codes "12 WrongShape rule " ++ decimal rule ++ row_text row
+load_text (load.WrongShape rule row) = in_row (by_rule rule) row
 load_text load.BadVersion = codes "13 BadVersion"
-load_text (load.BadName row) = codes "14 BadName" ++ row_text row
-load_text (load.ReservedName row) = codes "15 ReservedName" ++ row_text row
-load_text (load.RepeatedEntry row) = codes "16 RepeatedEntry" ++ row_text row
-load_text (load.UnknownLocation row) = codes "17 UnknownLocation" ++ row_text row
-load_text (load.BadIndex row) = codes "18 BadIndex" ++ row_text row
-load_text (load.BadPrefix row) = codes "19 BadPrefix" ++ row_text row
-load_text (load.TooMany row) = codes "20 TooMany" ++ row_text row
+load_text (load.BadName row) = in_row (codes "14 BadName") row
+load_text (load.ReservedName row) = in_row (codes "15 ReservedName") row
+load_text (load.RepeatedEntry row) = in_row (codes "16 RepeatedEntry") row
+load_text (load.UnknownLocation row) = in_row (codes "17 UnknownLocation") row
+load_text (load.BadIndex row) = in_row (codes "18 BadIndex") row
+load_text (load.BadPrefix row) = in_row (codes "19 BadPrefix") row
+load_text (load.TooMany row) = in_row (codes "20 TooMany") row
+load_text (load.UnknownNode row) = in_row (codes "22 UnknownNode") row
 load_text load.Memory = []
+
+-- the place, and what is said of it
+unfoldable pub at_place : List ℕ → List ℕ → List ℕ
+at_place place said = codes "refused " ++ (place ++ (codes " " ++ line said))
+
+abbrev pub refusal_line : Refusal → List ℕ
+refusal_line (TooLong input) = at_place (input_text input) (codes "2 TooLong")
+refusal_line (Load input error) = at_place (input_text input) (load_text error)

@@ -1,0 +1,5 @@
+pub mod Address
+pub mod Fields
+pub mod Notation
+pub mod Network
+pub mod Selects
