@@ -20,12 +20,13 @@ among byte (other ∷ others) passes any all =
 pub apart : (byte other : ℕ) (passes : ℕ → Bool) → passes byte ≡ true → passes other ≡ false → (byte == other) ≡ false
 apart byte other passes holds fails = ne_eqb byte other (λ e. both_ways (passes other) fails (subst (λ x. passes x ≡ true) e holds))
 
--- a byte that passes is none of others that don't
+-- a byte that passes is no blank where no blank passes
 none_of : (byte : ℕ) (passes : ℕ → Bool) → passes byte ≡ true → passes 32 ≡ false → passes 9 ≡ false → passes 13 ≡ false → passes 10 ≡ false
     → is_blank byte ≡ false
 none_of byte passes holds blank tab return feed =
     rw (apart byte 32 passes holds blank, apart byte 9 passes holds tab, apart byte 13 passes holds return, apart byte 10 passes holds feed) refl
 
+-- a byte that begins no blank, comment, quoted word or reference
 pub record IsOther (byte : ℕ) : Type 0 where
   pub blank : is_blank byte ≡ false
   pub hash : (byte == 35) ≡ false

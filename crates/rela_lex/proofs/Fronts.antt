@@ -10,7 +10,7 @@ use Rattle.rela_names.specs.Name.{is_name_byte, is_name, IsName}
 use Rattle.rela_lex.specs.declared.front.Front.{Front}
 use Rattle.rela_lex.specs.declared.token.TokenKind.{TokenKind}
 use Rattle.rela_lex.specs.declared.token.TokenKind.TheVariants.{Mark, Bare, Quoted, Reference}
-use Rattle.rela_lex.specs.Spells.{Piece, Blank, Comment, Lexeme, is_blank, is_mark, is_lone_mark, is_within_line, StopsBefore, spelling, Fits, token_of}
+use Rattle.rela_lex.specs.Spells.{Piece, Blank, Comment, Lexeme, is_blank, is_mark, is_lone_mark, is_within_line, StopsBefore, spelling, Stands, token_of}
 use Rattle.rela_lex.specs.Front.{begins_with, named, quoted_front, reference_front, bare_front, front_of}
 use Rattle.rela_lex.proofs.Runs.{run_is, run_passes, run_stops}
 use Rattle.rela_lex.proofs.Bytes.{name_byte_is_other, mark_is_other, mark_is_no_name_byte}
@@ -23,7 +23,7 @@ name_bytes : (name : List ℕ) → IsName name → list_all is_name_byte name �
 name_bytes name holds =
     (and_parts (nat_le 1 (length name) && nat_le (length name) 64) (list_all is_name_byte name) holds).1
 
--- a name, and what no name byte begins behind it
+-- a name is read as the token of its kind
 named_is : (kind : List ℕ → TokenKind) (name : List ℕ) (len more : ℕ) → IsName name → len ≡ more
     → named kind name len ≡ Some (record { token = Some (kind name); len = more })
 named_is kind name len more holds e = rw (e, holds) refl
@@ -71,11 +71,11 @@ reference_is name rest holds stops =
     (named_is Reference name (length name + 1) (length (spelling (Lexeme (Reference name)))) holds (omega arith))
 
 -- what begins a text is read
-pub front_is : (piece : Piece) (rest : List ℕ) → Fits piece rest → front_of (spelling piece ++ rest) ≡ Some (front_for piece)
+pub front_is : (piece : Piece) (rest : List ℕ) → Stands piece rest → front_of (spelling piece ++ rest) ≡ Some (front_for piece)
 unfolding front_of
-front_is (Blank byte) rest fits = rw fits refl
-front_is (Comment line) rest fits =
-    let len : prefix_len is_within_line (line ++ rest) ≡ length line = run_is is_within_line line rest fits.0 fits.1 in
+front_is (Blank byte) rest stands = rw stands refl
+front_is (Comment line) rest stands =
+    let len : prefix_len is_within_line (line ++ rest) ≡ length line = run_is is_within_line line rest stands.0 stands.1 in
     rw (len, one-add) refl
 front_is (Lexeme (Mark byte)) rest (inl mark) =
     let other = mark_is_other byte mark in
@@ -83,20 +83,20 @@ front_is (Lexeme (Mark byte)) rest (inl mark) =
 front_is (Lexeme (Mark byte)) rest (inr lone) =
     let holds = lone_mark_is_name_byte byte lone.0 in
     other_is_bare_front byte rest holds ∙ lone_mark_is byte rest holds lone.0 lone.1
-front_is (Lexeme (Bare [])) rest fits = absurd (false≢true fits.0)
-front_is (Lexeme (Bare (byte ∷ name))) rest fits =
-    let all = and_parts (is_name_byte byte) (list_all is_name_byte name) (name_bytes (byte ∷ name) fits.0) in
-    other_is_bare_front byte (name ++ rest) all.0 ∙ bare_is (byte ∷ name) rest fits.0 fits.1 fits.2
-front_is (Lexeme (Quoted name)) rest fits =
-    ap quoted_front (append_assoc name (34 ∷ []) rest) ∙ quoted_is name rest fits
-front_is (Lexeme (Reference name)) rest fits = reference_is name rest fits.0 fits.1
+front_is (Lexeme (Bare [])) rest stands = absurd (false≢true stands.0)
+front_is (Lexeme (Bare (byte ∷ name))) rest stands =
+    let all = and_parts (is_name_byte byte) (list_all is_name_byte name) (name_bytes (byte ∷ name) stands.0) in
+    other_is_bare_front byte (name ++ rest) all.0 ∙ bare_is (byte ∷ name) rest stands.0 stands.1 stands.2
+front_is (Lexeme (Quoted name)) rest stands =
+    ap quoted_front (append_assoc name (34 ∷ []) rest) ∙ quoted_is name rest stands
+front_is (Lexeme (Reference name)) rest stands = reference_is name rest stands.0 stands.1
 
 -- A piece that begins a text, as it is read.
 pub record IsFront (text : List ℕ) (front : Front) : Type 0 where
   pub piece : Piece
   pub rest : List ℕ
   pub joined : text ≡ spelling piece ++ rest
-  pub fit : Fits piece rest
+  pub stands : Stands piece rest
   pub read : front_for piece ≡ front
 
 -- which way a test went
@@ -137,7 +137,7 @@ bare_read text front e =
             piece = Lexeme (Mark (slice_index run 0));
             rest = drop len text;
             joined = joined ∙ ap (λ (x : List ℕ). x ++ drop len text) one;
-            fit = inr (subst (λ (x : List ℕ). is_lone_mark x ≡ true) one w.0, run_stops is_name_byte text);
+            stands = inr (subst (λ (x : List ℕ). is_lone_mark x ≡ true) one w.0, run_stops is_name_byte text);
             read = same_some mark front w.1;
           }
       | inr w ↦
@@ -147,7 +147,7 @@ bare_read text front e =
             piece = Lexeme (Bare run);
             rest = drop len text;
             joined = joined;
-            fit = (name.0, w.0, run_stops is_name_byte text);
+            stands = (name.0, w.0, run_stops is_name_byte text);
             read = ap make (length-prefix_len is_name_byte text) ∙ name.1;
           }
     ]
@@ -172,7 +172,7 @@ quoted_read text front e =
             piece = Lexeme (Quoted run);
             rest = quote.0;
             joined = ap (λ (x : List ℕ). 34 ∷ x) (joined ∙ sym (append_assoc run (34 ∷ []) quote.0));
-            fit = name.0;
+            stands = name.0;
             read = ap make long ∙ name.1;
           }
       | inr w ↦ absurd (let never = w.1 in cc)
@@ -190,7 +190,7 @@ reference_read text front e =
       piece = Lexeme (Reference run);
       rest = drop len text;
       joined = ap (λ (x : List ℕ). 36 ∷ x) (sym (take-append-drop len text));
-      fit = (name.0, run_stops is_name_byte text);
+      stands = (name.0, run_stops is_name_byte text);
       read = ap make long ∙ name.1;
     }
 
@@ -204,7 +204,7 @@ comment_read text front e =
       piece = Comment (take len text);
       rest = drop len text;
       joined = ap (λ (x : List ℕ). 35 ∷ x) (sym (take-append-drop len text));
-      fit = (run_passes is_within_line text, run_stops is_within_line text);
+      stands = (run_passes is_within_line text, run_stops is_within_line text);
       read = ap make long ∙ e;
     }
 
@@ -215,7 +215,7 @@ front_read [] front e = absurd (let never = e in cc)
 front_read (byte ∷ rest) front e =
     let one : Option TokenKind → Front = λ token. record { token = token; len = 1 } in
     elim (chosen (is_blank byte) _ _ (Some front) e) [
-      | inl w ↦ record { piece = Blank byte; rest = rest; joined = refl; fit = w.0; read = same_some (one None) front w.1 }
+      | inl w ↦ record { piece = Blank byte; rest = rest; joined = refl; stands = w.0; read = same_some (one None) front w.1 }
       | inr w ↦ elim (chosen (byte == 35) _ _ (Some front) w.1) [
         | inl hash ↦
             let comment = comment_read rest front (same_some _ front hash.1) in
@@ -229,7 +229,7 @@ front_read (byte ∷ rest) front e =
               | inl name ↦ bare_read (byte ∷ rest) front name.1
               | inr s ↦ elim (chosen (is_mark byte) _ _ (Some front) s.1) [
                 | inl mark ↦
-                    record { piece = Lexeme (Mark byte); rest = rest; joined = refl; fit = inl mark.0; read = same_some (one (Some (Mark byte))) front mark.1 }
+                    record { piece = Lexeme (Mark byte); rest = rest; joined = refl; stands = inl mark.0; read = same_some (one (Some (Mark byte))) front mark.1 }
                 | inr none ↦ absurd (let never = none.1 in cc)
               ]
             ]
@@ -238,14 +238,14 @@ front_read (byte ∷ rest) front e =
       ]
     ]
 
-spelling_has_a_byte : (piece : Piece) (rest : List ℕ) → Fits piece rest → 0 < length (spelling piece)
-spelling_has_a_byte (Blank byte) rest fit = omega arith
-spelling_has_a_byte (Comment line) rest fit = omega arith
-spelling_has_a_byte (Lexeme (Mark byte)) rest fit = omega arith
-spelling_has_a_byte (Lexeme (Bare [])) rest fit = absurd (false≢true fit.0)
-spelling_has_a_byte (Lexeme (Bare (byte ∷ name))) rest fit = omega arith
-spelling_has_a_byte (Lexeme (Quoted name)) rest fit = omega arith
-spelling_has_a_byte (Lexeme (Reference name)) rest fit = omega arith
+spelling_has_a_byte : (piece : Piece) (rest : List ℕ) → Stands piece rest → 0 < length (spelling piece)
+spelling_has_a_byte (Blank byte) rest stands = omega arith
+spelling_has_a_byte (Comment line) rest stands = omega arith
+spelling_has_a_byte (Lexeme (Mark byte)) rest stands = omega arith
+spelling_has_a_byte (Lexeme (Bare [])) rest stands = absurd (false≢true stands.0)
+spelling_has_a_byte (Lexeme (Bare (byte ∷ name))) rest stands = omega arith
+spelling_has_a_byte (Lexeme (Quoted name)) rest stands = omega arith
+spelling_has_a_byte (Lexeme (Reference name)) rest stands = omega arith
 
 pub front_within : (text : List ℕ) (front : Front) → front_of text ≡ Some front → (0 < front.len) × (front.len ≤ length text)
 front_within text front e =
@@ -253,5 +253,5 @@ front_within text front e =
     let len : length (spelling piece.piece) ≡ front.len = ap (λ (f : Front). f.len) piece.read in
     let long : length text ≡ length (spelling piece.piece) + length piece.rest =
     ap length piece.joined ∙ length-append (spelling piece.piece) piece.rest in
-    let some = spelling_has_a_byte piece.piece piece.rest piece.fit in
+    let some = spelling_has_a_byte piece.piece piece.rest piece.stands in
     (omega (arith, some, len), omega (arith, long, len))

@@ -20,7 +20,7 @@ pub record Reached (text : List ℕ) (at : ℕ) (tokens : List Token) : Type 0 w
   pub read : tokens ≡ tokens_from 0 pieces
 
 pub reached_start : (text : List ℕ) → Reached text 0 []
-reached_start text = record { pieces = []; rest = text; cut = record { joined = refl; fit = tt }; here = refl; read = refl }
+reached_start text = record { pieces = []; rest = text; cut = record { joined = refl; stands = tt }; here = refl; read = refl }
 
 rest_is : (text : List ℕ) (at : ℕ) (tokens : List Token) (so_far : Reached text at tokens) → drop at text ≡ so_far.rest
 rest_is text at tokens so_far =
@@ -35,7 +35,7 @@ reached_more text at tokens front so_far read =
     let one : List Piece = p ∷ [] in
     let last : IsCut so_far.rest one next.rest = record {
       joined = sym (rest_is text at tokens so_far) ∙ next.joined ∙ ap (λ (x : List ℕ). x ++ next.rest) (sym (append-nil (spelling p)));
-      fit = (next.fit, tt);
+      stands = (next.stands, tt);
     } in
     let len : length (spelling p) ≡ front.len = ap (λ (f : Front). f.len) next.read in
     let token : token_of p ≡ front.token = ap (λ (f : Front). f.token) next.read in

@@ -47,27 +47,27 @@ StopsBefore passes [] = ⊤
 StopsBefore passes (byte ∷ rest) = passes byte ≡ false
 
 -- the token may stand before this rest of the text
-abbrev pub TokenFits : TokenKind → List ℕ → Type 0
-TokenFits (Mark byte) rest = IsTrue (is_mark byte) ⊎ (IsTrue (is_lone_mark (byte ∷ [])) × StopsBefore is_name_byte rest)
-TokenFits (Bare name) rest = IsName name × (is_lone_mark name ≡ false) × StopsBefore is_name_byte rest
-TokenFits (Quoted name) rest = IsName name
-TokenFits (Reference name) rest = IsName name × StopsBefore is_name_byte rest
+abbrev pub TokenStands : TokenKind → List ℕ → Type 0
+TokenStands (Mark byte) rest = IsTrue (is_mark byte) ⊎ (IsTrue (is_lone_mark (byte ∷ [])) × StopsBefore is_name_byte rest)
+TokenStands (Bare name) rest = IsName name × (is_lone_mark name ≡ false) × StopsBefore is_name_byte rest
+TokenStands (Quoted name) rest = IsName name
+TokenStands (Reference name) rest = IsName name × StopsBefore is_name_byte rest
 
 -- the piece may stand before this rest of the text
-abbrev pub Fits : Piece → List ℕ → Type 0
-Fits (Blank byte) rest = IsTrue (is_blank byte)
-Fits (Comment line) rest = IsTrue (list_all is_within_line line) × StopsBefore is_within_line rest
-Fits (Lexeme kind) rest = TokenFits kind rest
+abbrev pub Stands : Piece → List ℕ → Type 0
+Stands (Blank byte) rest = IsTrue (is_blank byte)
+Stands (Comment line) rest = IsTrue (list_all is_within_line line) × StopsBefore is_within_line rest
+Stands (Lexeme kind) rest = TokenStands kind rest
 
 -- each piece may stand before what follows it
-abbrev pub EachFits : List Piece → List ℕ → Type 0
-EachFits [] rest = ⊤
-EachFits (piece ∷ pieces) rest = Fits piece (flat_map spelling pieces ++ rest) × EachFits pieces rest
+abbrev pub EachStands : List Piece → List ℕ → Type 0
+EachStands [] rest = ⊤
+EachStands (piece ∷ pieces) rest = Stands piece (flat_map spelling pieces ++ rest) × EachStands pieces rest
 
 -- the pieces cut the text up to this rest of it
 pub record IsCut (text : List ℕ) (pieces : List Piece) (rest : List ℕ) : Type 0 where
   pub joined : text ≡ flat_map spelling pieces ++ rest
-  pub fit : EachFits pieces rest
+  pub stands : EachStands pieces rest
 
 abbrev pub token_of : Piece → Option TokenKind
 token_of (Blank byte) = None
@@ -96,7 +96,7 @@ pub record IsBadToken (text : List ℕ) (at : ℕ) : Type 0 where
   pub cut : IsCut text pieces rest
   pub here : at ≡ length (flat_map spelling pieces)
   pub more : rest ≢ []
-  pub none : (piece : Piece) (after : List ℕ) → rest ≡ spelling piece ++ after → ¬ Fits piece after
+  pub none : (piece : Piece) (after : List ℕ) → rest ≡ spelling piece ++ after → ¬ Stands piece after
 
 -- memory ran out, or this is the text's fault
 abbrev pub IsFault : List ℕ → SpecError → Type 0
