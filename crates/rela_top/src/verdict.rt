@@ -5,6 +5,7 @@ ghost use Rattle.std.specs.List.{All};
 ghost use Rattle.rela_names.specs.declared.level.Level.TheVariants.{Interface};
 ghost use Rattle.rela_graph.specs.Topology.{symbol_at};
 ghost use Rattle.rela_graph.specs.Paths.{Paths};
+ghost use Rattle.rela_report.specs.Text.{HasTexts, VerdictHasTexts};
 ghost use Rattle.rela_top.specs.Plain.{IsVerdict};
 
 use rela_graph::Graph;
@@ -23,8 +24,10 @@ pub fn decide_kept(
 ) -> Result<Row, AllocError>
     requires before_located { All (λ node. symbol_at Interface node < length interfaces.now) before.now.nodes }
     requires after_located { All (λ node. symbol_at Interface node < length interfaces.now) after.now.nodes }
-    ensures { IfOk result (IsVerdict (Paths before.now Interface interfaces.now word.now)
+    requires symbols { HasTexts interfaces.now word.now }
+    ensures verdict { IfOk result (IsVerdict (Paths before.now Interface interfaces.now word.now)
         (Paths after.now Interface interfaces.now word.now) word.now) }
+    ensures texts { IfOk result (VerdictHasTexts interfaces.now) }
 {
     let had = before.has_path(alloc, Level::Interface, interfaces, word)?;
     let has = after.has_path(alloc, Level::Interface, interfaces, word)?;
