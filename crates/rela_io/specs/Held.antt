@@ -5,11 +5,6 @@ use Rattle.std.specs.Prelude.{◌≡◌, ℕ, List, Option, Some, None, IsSome}
 abbrev pub FilesByName : Type 0
 FilesByName = List ℕ → Option (List ℕ)
 
--- it is told that these bytes stand under the name
-abbrev pub Holds : Option FilesByName → List ℕ → List ℕ → Type 0
-Holds None name bytes = ⊥
-Holds (Some files) name bytes = files name ≡ Some bytes
-
 -- it is told that something stands under the name
 abbrev pub HoldsName : Option FilesByName → List ℕ → Type 0
 HoldsName None name = ⊥

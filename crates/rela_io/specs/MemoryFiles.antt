@@ -1,5 +1,5 @@
 -- Files that stand in memory: what they are, and what a call makes of them.
-use Rattle.std.specs.Prelude.{◌≡◌, ℕ, ◌+◌, min, List, [], ◌∷◌, length, drop, Option, None, Some, if◌then◌else◌, map, slice_index_or, string_bytes}
+use Rattle.std.specs.Prelude.{ℕ, ◌+◌, min, List, [], ◌∷◌, drop, Option, None, Some, if◌then◌else◌, map, slice_index_or, string_bytes}
 use Rattle.std.specs.Str.{bytes_eq}
 use Rattle.rela_io.specs.declared.memory_files.MemoryFile.{MemoryFile}
 use Rattle.rela_io.specs.Calls.{CallCount, one_more, one_more_failed}

@@ -1,7 +1,6 @@
 -- How the fields of a `MemoryFiles` give its state.
-use Rattle.std.specs.Prelude.{◌≡◌, ℕ, ◌<◌, ◌≤◌, List, [], map, length, drop, slice_index_or, option_map, string_bytes, Some}
+use Rattle.std.specs.Prelude.{◌<◌, ◌≤◌, length, drop, option_map}
 use Rattle.std.specs.Option.{ForSome}
-use Rattle.rela_io.specs.declared.memory_files.MemoryFile.{MemoryFile}
 use Rattle.rela_io.specs.declared.memory_files.MemoryFiles.TheInside.{Inside}
 use Rattle.rela_io.specs.MemoryFiles.{FilesState, bytes_at, entries_of}
 

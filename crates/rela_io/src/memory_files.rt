@@ -1,5 +1,5 @@
 //! Files that stand in memory, some calls on which are made to fail.
-ghost use Rattle.std.specs.Prelude.{◌≡◌, ◌⊎◌, ◌↔◌, ◌+◌, ◌^◌, ◌<◌, ◌≤◌, [], ◌++◌, length, take, drop, map, Some, None, true, Ok, IsErr, IsSomeAnd, IfSome, IfOk, OnOk, OnErr, MatchOption, slice_index_or, is_some, ◌==◌, refl};
+ghost use Rattle.std.specs.Prelude.{◌≡◌, ◌⊎◌, ◌↔◌, ◌<◌, [], ◌++◌, length, take, drop, Some, None, Ok, IsErr, IsTrue, IsSomeAnd, IfSome, IfOk, OnOk, OnErr, MatchOption, is_some, ◌==◌, refl};
 ghost use Rattle.rela_io.specs.Calls.{NextFails, no_calls};
 ghost use Rattle.rela_io.specs.MemoryFiles.{held_in, entries_of, bytes_at, given_of, opened, not_opened, after_read, not_read};
 
@@ -49,13 +49,14 @@ impl MemoryFiles {
     /// gives at most `piece` bytes. It takes no memory.
     pub fn new(files: Vec<MemoryFile>, failing: Vec<u64>, piece: usize) -> MemoryFiles
         requires { 0 < piece }
-        ensures { result ≡ record {
+        ensures made { result ≡ record {
           files = entries_of files.items;
           piece = piece;
           calls = no_calls failing.items;
           left = None;
           given = 0;
         } }
+        ensures steady { IsTrue (⟦<MemoryFiles as Files>⟧.steady result) ↔ (failing.items ≡ []) }
     {
         MemoryFiles {
             files,

@@ -1,6 +1,6 @@
 //! The outside as two traits, for which a test or a proof can stand in something that tells all
 //! its bytes.
-ghost use Rattle.std.specs.Prelude.{◌≡◌, ℕ, ◌+◌, ◌<◌, ◌≤◌, ◌↔◌, List, [], length, take, Option, Some, None, Bool, true, Ok, IsTrue, IsFalse, IsSome, IsErr, IfSome, IfOk, OnOk, OnErr};
+ghost use Rattle.std.specs.Prelude.{◌≡◌, ℕ, ◌+◌, ◌<◌, ◌≤◌, ◌↔◌, List, [], length, take, Option, None, Bool, Ok, IsTrue, IsFalse, IsSome, IsErr, IfSome, IfOk, OnOk, OnErr};
 ghost use Rattle.rela_io.specs.Count.{Rose, full};
 ghost use Rattle.rela_io.specs.Bytes.{before_told, after_told};
 ghost use Rattle.rela_io.specs.Held.{FilesByName, Lacks};
@@ -12,22 +12,22 @@ use crate::errors::Fault;
 /// A failed call raises a count, so that a caller's contract can say that it failed exactly where
 /// the count rose. A counter that reaches 2^64 - 1 stays there.
 pub trait Files {
-    // The bytes under each name, where they are told.
+    /// The bytes under each name, where they are told.
     ghost holds: { Self → Option FilesByName };
 
-    // Whether a file is open.
+    /// Whether a file is open.
     ghost is_open: { Self → Bool };
 
-    // The bytes of the open file that no read has given yet, where they are told.
+    /// The bytes of the open file that no read has given yet, where they are told.
     ghost left: { Self → Option (List ℕ) };
 
-    // How many bytes were given since the last `open` that succeeded.
+    /// How many bytes were given since the last `open` that succeeded.
     ghost given: { Self → ℕ };
 
-    // How many calls have failed.
+    /// How many calls have failed.
     ghost faults: { Self → ℕ };
 
-    // Whether a file that is held never fails.
+    /// Whether a file that is held never fails.
     ghost steady: { Self → Bool };
 
     /// Opens the file of this name at its start, and closes the one that was open.
@@ -83,10 +83,10 @@ pub trait Files {
         ensures count_never_falls { faults self.old ≤ faults self.new }
         ensures count_stops_at_full { faults self.old ≤ full → faults self.new ≤ full };
 
-    // Only an open file has a rest.
+    /// Only an open file has a rest.
     ghost left_of_open: { (s : Self) → IsSome (left s) → IsTrue (is_open s) };
 
-    // Where the files are steady, all of them are told, and the rest of the open one.
+    /// Where the files are steady, all of them are told, and the rest of the open one.
     ghost steady_tells_files: { (s : Self) → IsTrue (steady s) → IsSome (holds s) };
 
     ghost steady_tells_left: { (s : Self) → IsTrue (steady s) → IsTrue (is_open s) → IsSome (left s) };
@@ -97,10 +97,10 @@ pub trait Files {
 /// A failed call raises a count, so that a caller's contract can say that it failed exactly where
 /// the count rose. A counter that reaches 2^64 - 1 stays there.
 pub trait Sink {
-    // The bytes that were taken so far, where they are told.
+    /// The bytes that were taken so far, where they are told.
     ghost taken: { Self → Option (List ℕ) };
 
-    // How many writes have failed.
+    /// How many writes have failed.
     ghost faults: { Self → ℕ };
 
     /// Takes some first bytes of the piece, and says how many: at least one, unless it is empty.

@@ -1,5 +1,5 @@
 //! Reading a whole file.
-ghost use Rattle.std.specs.Prelude.{◌≡◌, ◌≢◌, ◌+◌, ◌^◌, ◌<◌, ◌≤◌, ◌↔◌, length, Some, Err, IsTrue, IfOk, IfSome, OnOk, IsErrOf, vec_len};
+ghost use Rattle.std.specs.Prelude.{◌≡◌, ◌≢◌, ◌+◌, ◌^◌, ◌<◌, ◌≤◌, ◌↔◌, length, Some, Err, IsTrue, IfOk, IfSome, IsErrOf, vec_len};
 ghost use Rattle.rela_io.specs.Count.{Rose, full};
 ghost use Rattle.rela_io.specs.Held.{HoldsName, Lacks};
 

@@ -1,6 +1,8 @@
 //! The cut of a text into tokens.
 
-ghost use Rattle.std.specs.Prelude.{◌≤◌, length};
+ghost use Rattle.std.specs.Prelude.{◌≡◌, ◌≤◌, ◌⊎◌, ℕ, List, ◌++◌, length, IfOk, IfErr, OnOk, MatchResult};
+ghost use Rattle.rela_lex.specs.declared.token.Token.{Token};
+ghost use Rattle.rela_lex.specs.Spells.{tokens_at, Spells, IsBadToken, IsFault};
 
 use crate::error::SpecError;
 use crate::front::{Front, read_front};
@@ -19,6 +21,15 @@ pub const MAX_TEXT_LEN: usize = 33_554_432;
 /// `BadToken` at the first byte where no token, blank or comment begins; `Memory`.
 pub fn tokens(alloc: Global, bytes: &[u8]) -> Result<Vec<Token>, SpecError>
     requires { length bytes.now ≤ MAX_TEXT_LEN }
+    // What is read is spelled so, and what is refused has its fault there.
+    ensures tokens { IfOk result (λ found. Spells bytes.now found.items) }
+    ensures fault { IfErr result (λ e. IsFault bytes.now e) }
+
+    // What is spelled is read, and what has a fault is refused there, unless memory runs out.
+    ensures spelled { (ts : List Token) → Spells bytes.now ts
+        → MatchResult result (λ found. found.items ≡ ts) (λ e. e ≡ SpecError.Memory) }
+    ensures bad { (at : ℕ) → IsBadToken bytes.now at
+        → MatchResult result (λ _. ⊥) (λ e. (e ≡ SpecError.BadToken at) ⊎ (e ≡ SpecError.Memory)) }
 {
     let mut tokens = Vec::new(alloc);
     let mut at: usize = 0;
@@ -33,22 +44,11 @@ pub fn tokens(alloc: Global, bytes: &[u8]) -> Result<Vec<Token>, SpecError>
 }
 
 /// Puts the token, if there is one, behind the others.
-fn keep(tokens: &mut Vec<Token>, at: u32, token: Option<TokenKind>) -> Result<(), AllocError> {
+fn keep(tokens: &mut Vec<Token>, at: u32, token: Option<TokenKind>) -> Result<(), AllocError>
+    ensures { OnOk result (tokens.new.items ≡ tokens.old.items ++ tokens_at at token) }
+{
     if let Some(kind) = token {
         tokens.push(Token { at, kind })?;
     }
     Ok(())
-}
-
-#[cfg(test)]
-mod tests {
-    use super::*;
-    use std::test::Fail;
-
-    #[test]
-    fn cuts_words_and_marks(rt: HostRuntime) -> Result<(), Fail> {
-        let found = tokens(rt.alloc(), b"path p = (a:b . c)*; # end \xff")?;
-        assert_eq!(rt; found.len(), 10);
-        Ok(())
-    }
 }

@@ -9,25 +9,26 @@ pub enum SpecError {
     /// No token, comment or blank begins here.
     #[error("no token begins at byte {at}")]
     BadToken { at: u32 },
-    /// No specification begins with the tokens up to and with this one.
+    /// No specification begins with the tokens up to and with this one; at the end of the text, it
+    /// stops short.
     #[error("unexpected token at byte {at}")]
     Syntax { at: u32 },
-    /// Nothing of this name is declared before.
+    /// The reference names nothing that stands before it.
     #[error("unknown name at byte {at}")]
     UnknownName { at: u32 },
-    /// The name is declared before.
+    /// An earlier item has the name.
     #[error("repeated name at byte {at}")]
     RepeatedName { at: u32 },
-    /// Too many brackets are open.
+    /// Too many brackets are open, or a check nests too deep once its references are replaced.
     #[error("nested too deep at byte {at}")]
     TooDeep { at: u32 },
-    /// The check is too large once its names are replaced by what they stand for.
+    /// There are too many checks, or a check is too large once its references are replaced.
     #[error("too large at byte {at}")]
     TooLarge { at: u32 },
     /// The number is too great, or has a leading zero.
     #[error("bad number at byte {at}")]
     BadNumber { at: u32 },
-    /// The class is finer than the level of the specification.
+    /// The locations are named by a finer level than that of the specification.
     #[error("a finer level at byte {at}")]
     FinerLevel { at: u32 },
     /// No location has the name.

@@ -6,7 +6,7 @@ use Rattle.rela_top.specs.Words.{CheckFiles}
 use Rattle.rela_top.specs.declared.refusal.Input.{Input}
 use Rattle.rela_top.specs.declared.refusal.Input.TheVariants.{Locations, Before, After, Spec}
 use Rattle.rela_top.specs.declared.refusal.Refusal.{Refusal}
-use Rattle.rela_top.specs.declared.refusal.Refusal.TheVariants.{TooLong, Load}
+use Rattle.rela_top.specs.declared.refusal.Refusal.TheVariants.{TooLong, Load, FlowDiffers, Specification}
 use Rattle.rela_top.specs.declared.reading.Halt.{Halt}
 use Rattle.rela_top.specs.declared.reading.Halt.TheVariants.{Refused, ReadFault, Memory}
 
@@ -32,11 +32,15 @@ IsLong holds name = IfSome holds (λ files. IfSome (files name) (λ bytes. max_f
 abbrev pub is_too_long : Refusal → Bool
 is_too_long (TooLong input) = true
 is_too_long (Load input error) = false
+is_too_long (FlowDiffers before after) = false
+is_too_long (Specification error) = false
 
 -- where the refusal is that an input is too long, its file is
 abbrev pub LongWhereSaid : Option FilesByName → CheckFiles → Refusal → Type 0
 LongWhereSaid holds files (TooLong input) = IsLong holds (name_of files input)
 LongWhereSaid holds files (Load input error) = Unit {0}
+LongWhereSaid holds files (FlowDiffers before after) = Unit {0}
+LongWhereSaid holds files (Specification error) = Unit {0}
 
 -- A refusal that the files give rise to: without a fault, and as too long exactly where the file opened last gave more
 -- bytes than are allowed.

@@ -1,6 +1,6 @@
 //! The one call that the program makes.
 
-ghost use Rattle.std.specs.Prelude.{◌≡◌, ◌≢◌, ◌<◌, None, Err, IsTrue, IfSome, IfOk, OnOk, map, string_bytes};
+ghost use Rattle.std.specs.Prelude.{◌≡◌, ◌≢◌, ◌<◌, ◌⊎◌, None, Err, IsTrue, IfSome, IfOk, OnOk, map, string_bytes};
 ghost use Rattle.rela_io.specs.Count.{Rose};
 ghost use Rattle.rela_top.specs.Words.{Words};
 ghost use Rattle.rela_top.specs.Reading.{HoldsFiles};
@@ -21,6 +21,8 @@ pub fn run<F: Files, K: Sink>(alloc: Global, words: &[String], files: &mut F, ou
     // An answer that fits the words and what the files gave was written, to its end or up to a failed write.
     ensures answers { result ≢ READ_FAULT → result ≢ NO_MEMORY → Answers (Words (map string_bytes words.now))
         (F.holds files.old) (F.given files.new) (K.taken out.old) (K.taken out.new) result }
+    ensures bad_words { result ≡ BAD_WORDS → Words (map string_bytes words.now) ≡ None }
+    ensures unread_words { Words (map string_bytes words.now) ≡ None → (result ≡ BAD_WORDS) ⊎ (result ≡ WRITE_FAULT) }
     ensures unread_words_open_nothing { Words (map string_bytes words.now) ≡ None → files.new ≡ files.old }
 
     // A read fault, exactly where one was counted.
