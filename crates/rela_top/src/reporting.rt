@@ -1,16 +1,24 @@
 //! From the four files to the report.
 
-ghost use Rattle.std.specs.Prelude.{◌≡◌, ◌≢◌, ◌≤◌, Err, IsTrue, IfOk, IfErr, OnOk};
+ghost use Rattle.std.specs.Prelude.{◌≡◌, ◌≢◌, ◌<◌, ◌≤◌, All, Err, IsTrue, IfOk, IfErr, OnOk};
 ghost use Rattle.rela_top.specs.Operands.{files_of};
 ghost use Rattle.rela_top.specs.Reading.{max_file_bytes, HoldsFiles, HaltsBy};
 ghost use Rattle.rela_top.specs.Answer.{IsReport};
+ghost use Rattle.rela_names.specs.Alphabet.{path_symbols};
+ghost use Rattle.rela_top.specs.Plain.{IsPairLocated};
 
 use crate::answer::Answer;
-use crate::reading::{Halt, read_input};
+use crate::loading::{load_locations, load_snapshot, load_spec, pair_halt};
+use crate::plain::PlainCheck;
+use crate::reading::Halt;
 use crate::refusal::Input;
+use crate::rows::rows_of;
 use crate::words::Operands;
 use rela_io::Files;
-use std::alloc::Global;
+use rela_names::{Alphabet, Level};
+use rela_report::{status, text};
+use rela_snapshot::{FlowPair, pair};
+use std::alloc::{AllocError, Global};
 
 /// Reads the locations, the snapshot before, the snapshot after and the specification, in this
 /// order, and makes the report. The first refusal or fault ends it.
@@ -27,9 +35,31 @@ pub fn report<F: Files>(
     ensures steady_is_no_fault { IsTrue (F.steady files.old) → HoldsFiles (F.holds files.old) (files_of operands.now) →
         result ≢ Err Halt.ReadFault }
 {
-    let _locations = read_input(alloc, files, operands, Input::Locations)?;
-    let _before = read_input(alloc, files, operands, Input::Before)?;
-    let _after = read_input(alloc, files, operands, Input::After)?;
-    let _spec = read_input(alloc, files, operands, Input::Spec)?;
-    Err(Halt::Memory)
+    let locations = load_locations(alloc, files, operands)?;
+    let before = load_snapshot(alloc, files, operands, Input::Before, &locations)?;
+    let after = load_snapshot(alloc, files, operands, Input::After, &locations)?;
+    let pairs = match pair(alloc, before, after) {
+        Ok(pairs) => pairs,
+        Err(error) => return Err(pair_halt(error)),
+    };
+    let interfaces = locations.alphabet(Level::Interface);
+    let check = load_spec(alloc, files, operands, interfaces)?;
+    Ok(report_on(alloc, &pairs, &check, interfaces)?)
+}
+
+// The report on these flows, made whole.
+fn report_on(
+    alloc: Global,
+    pairs: &[FlowPair],
+    check: &PlainCheck,
+    interfaces: &Alphabet,
+) -> Result<Answer, AllocError>
+    requires located { All (IsPairLocated interfaces.now) pairs.now }
+    requires symbols { All (λ s. s < path_symbols interfaces.now) check.now.word.items }
+    ensures { IfOk result (λ answer. IsReport answer.text.items answer.status) }
+{
+    let rows = rows_of(alloc, pairs, check, interfaces)?;
+    let text = text(alloc, &rows, interfaces)?;
+    let status = status(&rows);
+    Ok(Answer { text, status })
 }
