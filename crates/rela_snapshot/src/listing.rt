@@ -2,6 +2,9 @@
 
 ghost use Rattle.std.specs.Prelude.{IfOk};
 ghost use Rattle.rela_snapshot.specs.Listed.{IsGraphOf};
+ghost use Rattle.rela_names.specs.declared.level.Level.TheVariants.{Interface};
+ghost use Rattle.rela_snapshot.specs.Interfaces.{interfaces_in};
+ghost use Rattle.rela_snapshot.specs.Located.{StandsAt};
 
 use rela_graph::{Graph, Link, Node};
 use rela_json::LoadError;
@@ -58,7 +61,10 @@ impl Listing {
 }
 
 /// The node at the interface of this name.
-pub(crate) fn node_at(locations: &Locations, name: &[u8], row: u32) -> Result<Node, LoadError> {
+#[tactic(auto, unfolding(crate::specs::Interfaces::interfaces_in))]
+pub(crate) fn node_at(locations: &Locations, name: &[u8], row: u32) -> Result<Node, LoadError>
+    ensures located { IfOk result (StandsAt (interfaces_in locations.now) Interface) }
+{
     let interface = locations
         .alphabet(Level::Interface)
         .find(name)

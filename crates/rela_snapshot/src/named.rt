@@ -3,6 +3,9 @@
 ghost use Rattle.std.specs.Prelude.{◌≡◌, ◌+◌, ◌<◌, ◌≤◌, [], IfOk, OnOk, length, vec_len};
 ghost use Rattle.std.specs.List.{All};
 ghost use Rattle.rela_graph.specs.Topology.{JoinsNodes};
+ghost use Rattle.rela_names.specs.declared.level.Level.TheVariants.{Interface};
+ghost use Rattle.rela_snapshot.specs.Interfaces.{interfaces_in};
+ghost use Rattle.rela_snapshot.specs.Located.{StandsAt};
 
 use crate::listing::{Listing, node_at};
 use crate::name_table::NameTable;
@@ -19,7 +22,9 @@ pub(crate) fn read_named(
     locations: &Locations,
     value: &Value,
     row: u32,
-) -> Result<Listing, LoadError> {
+) -> Result<Listing, LoadError>
+    ensures located { IfOk result (λ listing. All (StandsAt (interfaces_in locations.now) Interface) listing.nodes) }
+{
     let nodes = few_entries(part(value, "nodes", 41, row)?, MAX_NODES, 46, row)?;
     let mut ids = NameTable::new(alloc);
     let nodes = read_nodes(alloc, locations, &mut ids, nodes, row)?;
@@ -49,6 +54,7 @@ fn read_nodes<'a>(
 ) -> Result<Vec<Node>, LoadError>
     requires none { ids.old ≡ [] }
     requires few { length values.now ≤ MAX_NODES }
+    ensures located { IfOk result (λ nodes. All (StandsAt (interfaces_in locations.now) Interface) nodes.items) }
     ensures len { IfOk result (λ nodes. vec_len nodes ≡ length values.now) }
     ensures ids { IfOk result (λ nodes. length ids.new ≡ vec_len nodes) }
 {
@@ -68,6 +74,7 @@ fn read_node<'a>(
     row: u32,
 ) -> Result<Node, LoadError>
     requires few { length ids.old < MAX_NODES }
+    ensures located { IfOk result (StandsAt (interfaces_in locations.now) Interface) }
     ensures ids { OnOk result (length ids.new ≡ length ids.old + 1) }
 {
     let id = string(part(value, "id", 47, row)?, 48, row)?;

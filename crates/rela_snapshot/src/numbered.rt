@@ -3,6 +3,9 @@
 ghost use Rattle.std.specs.Prelude.{◌≡◌, ◌<◌, ◌≤◌, IfOk, length, vec_len};
 ghost use Rattle.std.specs.List.{All};
 ghost use Rattle.rela_graph.specs.Topology.{JoinsNodes};
+ghost use Rattle.rela_names.specs.declared.level.Level.TheVariants.{Interface};
+ghost use Rattle.rela_snapshot.specs.Interfaces.{interfaces_in};
+ghost use Rattle.rela_snapshot.specs.Located.{StandsAt};
 
 use crate::listing::{Listing, node_at};
 use crate::parts::{few_entries, part, string, two_entries, whole_number};
@@ -17,7 +20,9 @@ pub(crate) fn read_numbered(
     locations: &Locations,
     value: &Value,
     row: u32,
-) -> Result<Listing, LoadError> {
+) -> Result<Listing, LoadError>
+    ensures located { IfOk result (λ listing. All (StandsAt (interfaces_in locations.now) Interface) listing.nodes) }
+{
     let nodes = few_entries(part(value, "nodes", 24, row)?, MAX_NODES, 29, row)?;
     let nodes = read_nodes(alloc, locations, nodes, row)?;
     let count = nodes.len() as u32;
@@ -44,6 +49,7 @@ fn read_nodes(
     values: &[Value],
     row: u32,
 ) -> Result<Vec<Node>, LoadError>
+    ensures located { IfOk result (λ nodes. All (StandsAt (interfaces_in locations.now) Interface) nodes.items) }
     ensures len { IfOk result (λ nodes. vec_len nodes ≡ length values.now) }
 {
     let mut nodes = Vec::with_capacity(alloc, values.len())?;

@@ -1,6 +1,9 @@
 //! The flows of two snapshots side by side.
 
-ghost use Rattle.std.specs.Prelude.{◌≡◌, ◌<◌, ◌≤◌, ◌+◌, IfOk, OnOk, length, vec_len};
+ghost use Rattle.std.specs.Prelude.{◌≡◌, ◌<◌, ◌≤◌, ◌+◌, ℕ, List, [], All, IsNone, IfSome, IfOk, OnOk, length, vec_len};
+ghost use Rattle.rela_names.specs.declared.level.Level.{Level};
+ghost use Rattle.rela_snapshot.specs.Located.{IsLocated, AreLocated};
+ghost use Rattle.rela_snapshot.specs.PairsLocated.{IsPairLocated, ArePairsLocated, AreFoundLocated};
 
 use crate::name_table::NameTable;
 use crate::snapshot::{Flow, MAX_FLOWS, Snapshot};
@@ -70,7 +73,10 @@ struct Partners {
 ///
 /// `FlowDiffers` for the first flow of `before` that differs from that of its name in `after`;
 /// `Memory`. Both snapshots are spent.
-pub fn pair(alloc: Global, before: Snapshot, after: Snapshot) -> Result<Vec<FlowPair>, PairError> {
+pub fn pair(alloc: Global, before: Snapshot, after: Snapshot) -> Result<Vec<FlowPair>, PairError>
+    ensures located { (names : List (List ℕ)) (level : Level) → AreLocated names level before → AreLocated names level after →
+        IfOk result (λ pairs. ArePairsLocated names level pairs.items) }
+{
     let before = before.into_flows();
     let partners = find_partners(alloc, &before, after.into_flows())?;
     let Partners { found, others } = partners;
@@ -82,17 +88,20 @@ pub fn pair(alloc: Global, before: Snapshot, after: Snapshot) -> Result<Vec<Flow
 fn find_partners(
     alloc: Global,
     before: &Vec<Flow>,
-    after: Vec<Flow>,
+    mut after: Vec<Flow>,
 ) -> Result<Partners, AllocError>
     requires few { vec_len before.now ≤ MAX_FLOWS }
     ensures len { IfOk result (λ partners. vec_len partners.found ≡ vec_len before.now) }
+    ensures located { (names : List (List ℕ)) (level : Level) → AreLocated names level after.items →
+        IfOk result (λ partners. AreFoundLocated names level partners.found.items × AreLocated names level partners.others.items) }
 {
     let names = names_of(alloc, before.as_slice())?;
     let mut partners = Partners {
         found: no_flows(alloc, before.len())?,
         others: Vec::new(alloc),
     };
-    for flow in after {
+    after.reverse();
+    while let Some(flow) = after.pop() {
         put(&names, &mut partners, flow)?;
     }
     Ok(partners)
@@ -112,6 +121,7 @@ fn names_of<'a>(alloc: Global, flows: &'a [Flow]) -> Result<NameTable<'a>, Alloc
 
 fn no_flows(alloc: Global, count: usize) -> Result<Vec<Option<Flow>>, AllocError>
     ensures len { IfOk result (λ none. vec_len none ≡ count) }
+    ensures none { IfOk result (λ none. All IsNone none.items) }
 {
     let mut none = Vec::with_capacity(alloc, count)?;
     for _ in 0..count {
@@ -124,6 +134,9 @@ fn no_flows(alloc: Global, count: usize) -> Result<Vec<Option<Flow>>, AllocError
 fn put(names: &NameTable<'_>, partners: &mut Partners, flow: Flow) -> Result<(), AllocError>
     requires room { length names.now ≤ vec_len partners.old.found }
     ensures len { vec_len partners.new.found ≡ vec_len partners.old.found }
+    ensures located { (names : List (List ℕ)) (level : Level) → IsLocated names level flow.graph →
+        AreFoundLocated names level partners.old.found.items → AreLocated names level partners.old.others.items →
+        AreFoundLocated names level partners.new.found.items × AreLocated names level partners.new.others.items }
 {
     match names.place(flow.class.name.as_bytes()) {
         Some(place) => partners.found[place as usize] = Some(flow),
@@ -132,19 +145,22 @@ fn put(names: &NameTable<'_>, partners: &mut Partners, flow: Flow) -> Result<(),
     Ok(())
 }
 
-/// The pairs of the first snapshot's flows.
+/// The pairs of the first snapshot's flows, of which the last come off first.
 fn pair_found(
     alloc: Global,
-    before: Vec<Flow>,
-    found: Vec<Option<Flow>>,
+    mut before: Vec<Flow>,
+    mut found: Vec<Option<Flow>>,
 ) -> Result<Vec<FlowPair>, PairError>
     requires few { vec_len before ≤ MAX_FLOWS }
+    ensures located { (names : List (List ℕ)) (level : Level) → AreLocated names level before.items →
+        AreFoundLocated names level found.items → IfOk result (λ pairs. ArePairsLocated names level pairs.items) }
 {
     let mut pairs = Vec::with_capacity(alloc, before.len())?;
-    let mut found = found.into_iter();
-    for flow in before {
+    before.reverse();
+    found.reverse();
+    while let Some(flow) = before.pop() {
         let row = pairs.len() as u32;
-        let pair = pair_of(alloc, row, flow, found.next().flatten())?;
+        let pair = pair_of(alloc, row, flow, found.pop().flatten())?;
         pairs.push(pair)?;
     }
     Ok(pairs)
@@ -156,7 +172,10 @@ fn pair_of(
     row: u32,
     before: Flow,
     partner: Option<Flow>,
-) -> Result<FlowPair, PairError> {
+) -> Result<FlowPair, PairError>
+    ensures located { (names : List (List ℕ)) (level : Level) → IsLocated names level before.graph →
+        IfSome partner (λ flow. IsLocated names level flow.graph) → IfOk result (IsPairLocated names level) }
+{
     let Some(after) = partner else {
         return Ok(FlowPair {
             class: before.class,
@@ -182,19 +201,34 @@ fn pair_of(
 fn pair_others(
     alloc: Global,
     pairs: &mut Vec<FlowPair>,
-    others: Vec<Flow>,
-) -> Result<(), AllocError> {
-    for flow in others {
-        pairs.push(FlowPair {
-            class: flow.class,
-            before: no_graph(alloc)?,
-            after: flow.graph,
-        })?;
+    mut others: Vec<Flow>,
+) -> Result<(), AllocError>
+    ensures located { (names : List (List ℕ)) (level : Level) → AreLocated names level others.items →
+        ArePairsLocated names level pairs.old.items → OnOk result (ArePairsLocated names level pairs.new.items) }
+{
+    others.reverse();
+    while let Some(flow) = others.pop() {
+        let pair = pair_alone(alloc, flow)?;
+        pairs.push(pair)?;
     }
     Ok(())
 }
 
+/// The pair of a flow that only the second snapshot has.
+fn pair_alone(alloc: Global, flow: Flow) -> Result<FlowPair, AllocError>
+    ensures located { (names : List (List ℕ)) (level : Level) → IsLocated names level flow.graph →
+        IfOk result (IsPairLocated names level) }
+{
+    Ok(FlowPair {
+        class: flow.class,
+        before: no_graph(alloc)?,
+        after: flow.graph,
+    })
+}
+
 /// The graph without nodes.
-fn no_graph(alloc: Global) -> Result<Graph, AllocError> {
+fn no_graph(alloc: Global) -> Result<Graph, AllocError>
+    ensures { IfOk result (λ graph. graph.nodes ≡ []) }
+{
     Graph::new(alloc, Vec::new(alloc), &[], &[], &[], &[])
 }

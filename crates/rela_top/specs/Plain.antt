@@ -2,7 +2,6 @@
 use Rattle.std.specs.Prelude.{◌≡◌, ℕ, ◌↔◌, List}
 use Rattle.rela_names.specs.declared.level.Level.TheVariants.{Interface}
 use Rattle.rela_graph.specs.Paths.{Paths}
-use Rattle.rela_snapshot.specs.Located.{IsLocated}
 use Rattle.rela_snapshot.specs.declared.pairing.FlowPair.{FlowPair}
 use Rattle.rela_report.specs.declared.rows.ReportRow.{ReportRow}
 use Rattle.rela_report.specs.declared.rows.ReportRow.TheVariants.{Unselected, Checked}
@@ -17,10 +16,6 @@ IsVerdict Had Has kept Compliant = Had ↔ Has
 IsVerdict Had Has kept (Violated word Before source) = (word ≡ kept) × (source ≡ kept) × Had × (¬ Has)
 IsVerdict Had Has kept (Violated word After source) = (word ≡ kept) × (source ≡ kept) × Has × (¬ Had)
 IsVerdict Had Has kept Undecided = ⊥
-
--- each node of both graphs stands at one of the interfaces of these names
-abbrev pub IsPairLocated : List (List ℕ) → FlowPair → Type 0
-IsPairLocated names pair = IsLocated names Interface pair.before × IsLocated names Interface pair.after
 
 -- the row of this flow under the check, with the verdict on its word
 abbrev pub IsRowOf : List (List ℕ) → PlainCheck → FlowPair → ReportRow → Type 0

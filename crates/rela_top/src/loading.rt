@@ -3,7 +3,7 @@
 ghost use Rattle.std.specs.Prelude.{◌≡◌, ◌≢◌, ◌<◌, ◌≤◌, All, Err, IsTrue, IfOk, IfErr, OnOk};
 ghost use Rattle.rela_names.specs.declared.level.Level.TheVariants.{Interface};
 ghost use Rattle.rela_names.specs.Alphabet.{path_symbols};
-ghost use Rattle.rela_locations.specs.Network.{alphabet_of};
+ghost use Rattle.rela_snapshot.specs.Interfaces.{interfaces_in};
 ghost use Rattle.rela_snapshot.specs.Located.{AreLocated};
 ghost use Rattle.rela_top.specs.Operands.{files_of};
 ghost use Rattle.rela_top.specs.Reading.{max_file_bytes, HoldsFiles, HaltsBy};
@@ -54,6 +54,7 @@ fn load_halt(input: Input, error: LoadError) -> Halt
 }
 
 /// A snapshot, whose graphs lie in the locations.
+#[tactic(auto, unfolding(rela_snapshot::specs::Interfaces::interfaces_in))]
 pub fn load_snapshot<F: Files>(
     alloc: Global,
     files: &mut F,
@@ -61,7 +62,7 @@ pub fn load_snapshot<F: Files>(
     input: Input,
     locations: &Locations,
 ) -> Result<Snapshot, Halt>
-    ensures located { IfOk result (AreLocated (alphabet_of Interface locations.now) Interface) }
+    ensures located { IfOk result (AreLocated (interfaces_in locations.now) Interface) }
     ensures ok_given { OnOk result (F.given files.new ≤ max_file_bytes) }
     ensures ok_keeps_count { OnOk result (F.faults files.new ≡ F.faults files.old) }
     ensures halts { IfErr result (HaltsBy (F.holds files.old) (files_of operands.now)

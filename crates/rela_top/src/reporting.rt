@@ -5,7 +5,9 @@ ghost use Rattle.rela_top.specs.Operands.{files_of};
 ghost use Rattle.rela_top.specs.Reading.{max_file_bytes, HoldsFiles, HaltsBy};
 ghost use Rattle.rela_top.specs.Answer.{IsReport};
 ghost use Rattle.rela_names.specs.Alphabet.{path_symbols};
-ghost use Rattle.rela_top.specs.Plain.{IsPairLocated};
+ghost use Rattle.rela_names.specs.declared.level.Level.TheVariants.{Interface};
+ghost use Rattle.rela_snapshot.specs.Interfaces.{interfaces_in};
+ghost use Rattle.rela_snapshot.specs.PairsLocated.{ArePairsLocated};
 
 use crate::answer::Answer;
 use crate::loading::{load_locations, load_snapshot, load_spec, pair_halt};
@@ -15,6 +17,7 @@ use crate::refusal::Input;
 use crate::rows::rows_of;
 use crate::words::Operands;
 use rela_io::Files;
+use rela_locations::Locations;
 use rela_names::{Alphabet, Level};
 use rela_report::{status, text};
 use rela_snapshot::{FlowPair, pair};
@@ -42,9 +45,16 @@ pub fn report<F: Files>(
         Ok(pairs) => pairs,
         Err(error) => return Err(pair_halt(error)),
     };
-    let interfaces = locations.alphabet(Level::Interface);
+    let interfaces = interfaces_of(&locations);
     let check = load_spec(alloc, files, operands, interfaces)?;
     Ok(report_on(alloc, &pairs, &check, interfaces)?)
+}
+
+#[tactic(auto, unfolding(rela_snapshot::specs::Interfaces::interfaces_in))]
+fn interfaces_of(locations: &Locations) -> &Alphabet
+    ensures { result.now ≡ interfaces_in locations.now }
+{
+    locations.alphabet(Level::Interface)
 }
 
 // The report on these flows, made whole.
@@ -54,7 +64,7 @@ fn report_on(
     check: &PlainCheck,
     interfaces: &Alphabet,
 ) -> Result<Answer, AllocError>
-    requires located { All (IsPairLocated interfaces.now) pairs.now }
+    requires located { ArePairsLocated interfaces.now Interface pairs.now }
     requires symbols { All (λ s. s < path_symbols interfaces.now) check.now.word.items }
     ensures { IfOk result (λ answer. IsReport answer.text.items answer.status) }
 {

@@ -2,7 +2,9 @@
 
 ghost use Rattle.std.specs.Prelude.{◌≡◌, ◌<◌, IfOk, All};
 ghost use Rattle.rela_report.specs.Text.{HasTexts, RowHasTexts};
-ghost use Rattle.rela_top.specs.Plain.{IsPairLocated, IsRowOf};
+ghost use Rattle.rela_top.specs.Plain.{IsRowOf};
+ghost use Rattle.rela_names.specs.declared.level.Level.TheVariants.{Interface};
+ghost use Rattle.rela_snapshot.specs.PairsLocated.{IsPairLocated, ArePairsLocated};
 
 use crate::plain::PlainCheck;
 use crate::verdict::decide_kept;
@@ -18,7 +20,7 @@ pub fn rows_of(
     check: &PlainCheck,
     interfaces: &Alphabet,
 ) -> Result<Vec<ReportRow>, AllocError>
-    requires located { All (IsPairLocated interfaces.now) pairs.now }
+    requires located { ArePairsLocated interfaces.now Interface pairs.now }
     requires symbols { HasTexts interfaces.now check.now.word.items }
     ensures { IfOk result (λ rows. All (RowHasTexts interfaces.now) rows.items) }
 {
@@ -37,7 +39,7 @@ pub fn row_of(
     check: &PlainCheck,
     interfaces: &Alphabet,
 ) -> Result<ReportRow, AllocError>
-    requires located { IsPairLocated interfaces.now pair.now }
+    requires located { IsPairLocated interfaces.now Interface pair.now }
     requires symbols { HasTexts interfaces.now check.now.word.items }
     ensures row { IfOk result (IsRowOf interfaces.now check.now pair.now) }
     ensures texts { IfOk result (RowHasTexts interfaces.now) }
