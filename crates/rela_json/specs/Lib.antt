@@ -1,0 +1,9 @@
+pub use Rattle.serde_json.specs.Data
+pub use Rattle.serde_json.specs.Read
+pub use Rattle.serde_json.specs.Find
+pub use Rattle.serde_json.specs.View
+pub mod Indexes
+pub mod LoadErrors
+pub mod Parts
+pub mod Reading
+pub mod Results

@@ -1,0 +1,37 @@
+//! Lists of indexes.
+
+ghost use Rattle.std.specs.Prelude.{◌≡◌, ◌≢◌, Ok, Err, IfOk, IfErr};
+ghost use Rattle.serde_json.specs.View.{view};
+ghost use Rattle.rela_json.specs.Indexes.{index_of, indexes_of};
+
+use crate::error::ListError;
+use crate::parts::{array, number};
+use serde_json::Value;
+use std::alloc::Global;
+
+/// The entries of an array of whole numbers below a bound, in order. The first entry at fault decides the error.
+pub fn index_list(alloc: Global, value: &Value, below: u32) -> Result<Vec<u32>, ListError>
+    ensures indexes { IfOk result (λ v. indexes_of below (view value.now) ≡ Ok v.items) }
+    ensures fault { IfErr result (λ e. e ≢ ListError.Memory
+        → indexes_of below (view value.now) ≡ Err e) }
+{
+    let entries = array(value)?;
+    let mut indexes = Vec::with_capacity(alloc, entries.len())?;
+    for entry in entries {
+        let index = index_below(entry, below)?;
+        indexes.push(index)?;
+    }
+    Ok(indexes)
+}
+
+fn index_below(entry: &Value, below: u32) -> Result<u32, ListError>
+    ensures index { IfOk result (λ n. index_of below (view entry.now) ≡ Ok n) }
+    ensures fault { IfErr result (λ e. index_of below (view entry.now) ≡ Err e) }
+{
+    let n = number(entry)?;
+    if n < u64::from(below) {
+        Ok(n as u32)
+    } else {
+        Err(ListError::Index)
+    }
+}

@@ -1,0 +1,4 @@
+pub mod Load
+pub mod Names
+pub mod Network
+pub mod Tables

@@ -1,0 +1,18 @@
+//! The locations of a network: groups of devices with their interfaces and tags, read from a JSON
+//! file.
+#![tactic(auto)]
+
+mod alphabets;
+mod locations;
+mod members;
+mod name_set;
+mod network;
+mod parts;
+mod tables;
+mod walk;
+
+pub use locations::Locations;
+pub use members::{By, MemberError};
+
+#[cfg(test)]
+mod tests;

@@ -1,0 +1,49 @@
+//! What may be asked of a network's parts.
+
+ghost use Rattle.std.specs.Prelude.{◌≡◌};
+
+use std::alloc::{AllocError, AllocFailed};
+use thiserror::Error;
+
+/// What a name picks: a location of a level, or the devices with a tag.
+#[derive(Clone, Copy, PartialEq, Eq, Debug)]
+pub enum By {
+    Interface,
+    Device,
+    Group,
+    Tag,
+}
+
+/// Why no members are given.
+#[derive(Debug, Drop, Error)]
+pub enum MemberError {
+    /// What is asked by is finer than the level. A tag counts as a device.
+    #[error("finer than the level")]
+    Finer,
+    /// No such location is there, or no device carries the tag.
+    #[error("unknown location")]
+    Unknown,
+    /// Memory ran out.
+    #[error("out of memory")]
+    Memory,
+}
+
+impl From<AllocError> for MemberError {
+    ghost use Rattle.rela_locations.specs.declared.members.MemberError.TheVariants.{Memory};
+
+    ghost from_gives = { λ _ e. e ≡ Memory };
+
+    fn from(_refused: AllocError) -> MemberError {
+        MemberError::Memory
+    }
+}
+
+impl<T: Drop> From<AllocFailed<T>> for MemberError {
+    ghost use Rattle.rela_locations.specs.declared.members.MemberError.TheVariants.{Memory};
+
+    ghost from_gives = { λ _ e. e ≡ Memory };
+
+    fn from(_refused: AllocFailed<T>) -> MemberError {
+        MemberError::Memory
+    }
+}

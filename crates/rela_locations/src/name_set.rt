@@ -1,0 +1,96 @@
+//! The names of one kind that a walk of the file has come by.
+
+ghost use Rattle.std.specs.Prelude.{◌≡◌, ◌≢◌, ◌<◌, [], length, Ok, Err, IfOk, IfErr, OnOk};
+ghost use Rattle.rela_locations.specs.Names.{with_name, next_row, location_name, new_name};
+ghost use Rattle.rela_names.specs.Name.{IsLocationName};
+
+use rela_json::LoadError;
+use rela_names::{Alphabet, MAX_LOCATIONS, Name, NameError};
+use std::alloc::{AllocError, Global};
+use std::collections::BTreeSet;
+use std::marker::Model;
+
+/// The names of all entries of one kind so far, in the order of their bytes.
+#[derive(Drop)]
+pub(crate) struct NameSet {
+    names: BTreeSet<Name>,
+}
+
+impl Model for NameSet {
+    ghost use Rattle.std.specs.Prelude.{List, ℕ};
+    ghost use Rattle.rela_locations.specs.Names.{AreLocationNames};
+
+    ghost Value = { List (List ℕ) };
+
+    ghost view = { λ set. set.names.keys };
+
+    ghost invariant = { λ set. AreLocationNames set.names.keys };
+}
+
+impl NameSet {
+    pub(crate) fn new(alloc: Global) -> NameSet
+        ensures { result ≡ [] }
+    {
+        NameSet {
+            names: BTreeSet::new(alloc),
+        }
+    }
+
+    /// The row of the next entry: how many there are.
+    ///
+    /// # Errors
+    ///
+    /// `TooMany` where there may be no more.
+    pub(crate) fn next_row(&self) -> Result<u32, LoadError>
+        ensures { result ≡ next_row self.now }
+    {
+        let row = self.names.len() as u32;
+        if (row as usize) < MAX_LOCATIONS {
+            Ok(row)
+        } else {
+            Err(LoadError::TooMany { row })
+        }
+    }
+
+    /// The name of these bytes, which is added.
+    ///
+    /// # Errors
+    ///
+    /// `BadName`; `ReservedName`; `RepeatedEntry` where it is there; `Memory`.
+    pub(crate) fn add(&mut self, alloc: Global, bytes: &[u8], row: u32) -> Result<Name, LoadError>
+        requires { length self.old < 100000 }
+        ensures name { IfOk result (λ name. new_name self.old row bytes.now ≡ Ok name) }
+        ensures added { IfOk result (λ name. self.new ≡ with_name self.old name) }
+        ensures fault { IfErr result (λ e. e ≢ LoadError.Memory → new_name self.old row bytes.now ≡ Err e) }
+    {
+        let name = location_name(alloc, bytes, row)?;
+        let is_new = self.names.insert(name.copy(alloc)?)?;
+        if !is_new {
+            return Err(LoadError::RepeatedEntry { row });
+        }
+        Ok(name)
+    }
+
+    /// The names as an alphabet.
+    pub(crate) fn into_alphabet(self, alloc: Global) -> Result<Alphabet, AllocError>
+        ensures { IfOk result (λ alphabet. alphabet ≡ self) }
+    {
+        let NameSet { names } = self;
+        let names = names.into_iter().collect(alloc)?;
+        Ok(Alphabet::new(names))
+    }
+}
+
+fn location_name(alloc: Global, bytes: &[u8], row: u32) -> Result<Name, LoadError>
+    ensures name { IfOk result (λ name. location_name row bytes.now ≡ Ok name) }
+    ensures same { IfOk result (λ name. name ≡ bytes.now) }
+    ensures location { OnOk result (IsLocationName bytes.now) }
+    ensures fault { IfErr result (λ e. e ≢ LoadError.Memory → location_name row bytes.now ≡ Err e) }
+{
+    match Name::location(alloc, bytes) {
+        Ok(name) => Ok(name),
+        Err(NameError::Bad) => Err(LoadError::BadName { row }),
+        Err(NameError::Reserved) => Err(LoadError::ReservedName { row }),
+        Err(NameError::Memory) => Err(LoadError::Memory),
+    }
+}

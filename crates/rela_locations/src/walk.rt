@@ -1,0 +1,206 @@
+//! The walk of the file: groups in order, in each its devices, in each device its tags and then its
+//! interfaces. The first fault of the walk is the answer.
+
+ghost use Rattle.std.specs.Prelude.{◌≡◌, ◌≢◌, Ok, Err, [], ◌∷◌, map, option_map, IfOk, IfErr};
+ghost use Rattle.std.specs.List.{flat_map};
+ghost use Rattle.serde_json.specs.View.{view};
+ghost use Rattle.rela_names.specs.declared.level.Level.TheVariants as level;
+ghost use Rattle.rela_locations.specs.Names.{with_name, with_names};
+ghost use Rattle.rela_locations.specs.Network.{names_at, alphabet_of};
+ghost use Rattle.rela_locations.specs.Load.{load_interface, load_interfaces, load_tag, load_tags, load_device, load_devices, load_group, load_groups, load_file};
+
+use crate::alphabets::Alphabets;
+use crate::name_set::NameSet;
+use crate::network::{DeviceEntry, GroupEntry};
+use crate::parts::{bytes, entries, part, whole_number};
+use rela_json::{LoadError, Value};
+use rela_names::{List, Name, NameError};
+use std::alloc::{AllocError, Global};
+
+/// The names that a walk has come by.
+#[derive(Drop)]
+pub(crate) struct Seen {
+    pub(crate) groups: NameSet,
+    pub(crate) devices: NameSet,
+    pub(crate) interfaces: NameSet,
+}
+
+impl Seen {
+    /// The names as alphabets.
+    pub(crate) fn into_alphabets(self, alloc: Global) -> Result<Alphabets, AllocError>
+        ensures interfaces { IfOk result (λ alphabets. alphabets.interfaces ≡ self.interfaces) }
+        ensures devices { IfOk result (λ alphabets. alphabets.devices ≡ self.devices) }
+        ensures groups { IfOk result (λ alphabets. alphabets.groups ≡ self.groups) }
+    {
+        let Seen {
+            groups,
+            devices,
+            interfaces,
+        } = self;
+        Ok(Alphabets {
+            interfaces: interfaces.into_alphabet(alloc)?,
+            devices: devices.into_alphabet(alloc)?,
+            groups: groups.into_alphabet(alloc)?,
+        })
+    }
+}
+
+/// The groups of a file, and the names of all that is in them.
+pub(crate) fn read_network(
+    alloc: Global,
+    root: &Value,
+) -> Result<(Vec<GroupEntry>, Seen), LoadError>
+    ensures network { IfOk result (λ r. load_file (view root.now) ≡ Ok r.0.items) }
+    ensures groups { IfOk result (λ r. r.1.groups ≡ alphabet_of level.Group r.0.items) }
+    ensures devices { IfOk result (λ r. r.1.devices ≡ alphabet_of level.Device r.0.items) }
+    ensures interfaces { IfOk result (λ r. r.1.interfaces ≡ alphabet_of level.Interface r.0.items) }
+    ensures fault { IfErr result (λ e. e ≢ LoadError.Memory → load_file (view root.now) ≡ Err e) }
+{
+    let version = part(root, "version", 1, 0)?;
+    let groups = part(root, "groups", 1, 0)?;
+    if whole_number(version, 2, 0)? != 1 {
+        return Err(LoadError::BadVersion);
+    }
+    let mut seen = Seen {
+        groups: NameSet::new(alloc),
+        devices: NameSet::new(alloc),
+        interfaces: NameSet::new(alloc),
+    };
+    let groups = read_groups(alloc, &mut seen, entries(groups, 3, 0)?)?;
+    Ok((groups, seen))
+}
+
+fn read_groups(
+    alloc: Global,
+    seen: &mut Seen,
+    values: &[Value],
+) -> Result<Vec<GroupEntry>, LoadError>
+    ensures groups { IfOk result (λ groups. load_groups seen.old.groups seen.old.devices seen.old.interfaces (map view values.now) ≡ Ok groups.items) }
+    ensures seen_groups { IfOk result (λ groups. seen.new.groups ≡ with_names seen.old.groups (names_at level.Group groups.items)) }
+    ensures seen_devices { IfOk result (λ groups. seen.new.devices ≡ with_names seen.old.devices (names_at level.Device groups.items)) }
+    ensures seen_interfaces { IfOk result (λ groups. seen.new.interfaces ≡ with_names seen.old.interfaces (names_at level.Interface groups.items)) }
+    ensures fault { IfErr result (λ e. e ≢ LoadError.Memory → load_groups seen.old.groups seen.old.devices seen.old.interfaces (map view values.now) ≡ Err e) }
+{
+    let mut groups = Vec::new(alloc);
+    for value in values {
+        let group = read_group(alloc, seen, value)?;
+        groups.push(group)?;
+    }
+    Ok(groups)
+}
+
+fn read_group(alloc: Global, seen: &mut Seen, value: &Value) -> Result<GroupEntry, LoadError>
+    ensures group { IfOk result (λ group. load_group seen.old.groups seen.old.devices seen.old.interfaces (view value.now) ≡ Ok group) }
+    ensures seen_groups { IfOk result (λ group. seen.new.groups ≡ with_name seen.old.groups group.name) }
+    ensures seen_devices { IfOk result (λ group. seen.new.devices ≡ with_names seen.old.devices (map (λ device. device.name) group.devices)) }
+    ensures seen_interfaces { IfOk result (λ group. seen.new.interfaces ≡ with_names seen.old.interfaces (flat_map (λ device. device.interfaces) group.devices)) }
+    ensures fault { IfErr result (λ e. e ≢ LoadError.Memory → load_group seen.old.groups seen.old.devices seen.old.interfaces (view value.now) ≡ Err e) }
+{
+    let row = seen.groups.next_row()?;
+    let name = part(value, "name", 4, row)?;
+    let devices = part(value, "devices", 4, row)?;
+    let name = seen.groups.add(alloc, bytes(name, 5, row)?, row)?;
+    let devices = entries(devices, 6, row)?;
+    let devices = read_devices(alloc, &mut seen.devices, &mut seen.interfaces, devices)?;
+    Ok(GroupEntry {
+        name,
+        devices: List::from_vec(devices),
+    })
+}
+
+fn read_devices(
+    alloc: Global,
+    seen: &mut NameSet,
+    seen_interfaces: &mut NameSet,
+    values: &[Value],
+) -> Result<Vec<DeviceEntry>, LoadError>
+    ensures devices { IfOk result (λ devices. load_devices seen.old seen_interfaces.old (map view values.now) ≡ Ok devices.items) }
+    ensures seen { IfOk result (λ devices. seen.new ≡ with_names seen.old (map (λ device. device.name) devices.items)) }
+    ensures seen_interfaces { IfOk result (λ devices. seen_interfaces.new ≡ with_names seen_interfaces.old (flat_map (λ device. device.interfaces) devices.items)) }
+    ensures fault { IfErr result (λ e. e ≢ LoadError.Memory → load_devices seen.old seen_interfaces.old (map view values.now) ≡ Err e) }
+{
+    let mut devices = Vec::new(alloc);
+    for value in values {
+        let device = read_device(alloc, seen, seen_interfaces, value)?;
+        devices.push(device)?;
+    }
+    Ok(devices)
+}
+
+fn read_device(
+    alloc: Global,
+    seen: &mut NameSet,
+    seen_interfaces: &mut NameSet,
+    value: &Value,
+) -> Result<DeviceEntry, LoadError>
+    ensures device { IfOk result (λ device. load_device seen.old seen_interfaces.old (view value.now) ≡ Ok device) }
+    ensures seen { IfOk result (λ device. seen.new ≡ with_name seen.old device.name) }
+    ensures seen_interfaces { IfOk result (λ device. seen_interfaces.new ≡ with_names seen_interfaces.old device.interfaces) }
+    ensures fault { IfErr result (λ e. e ≢ LoadError.Memory → load_device seen.old seen_interfaces.old (view value.now) ≡ Err e) }
+{
+    let row = seen.next_row()?;
+    let name = part(value, "name", 7, row)?;
+    let tags = part(value, "tags", 7, row)?;
+    let interfaces = part(value, "interfaces", 7, row)?;
+    let name = seen.add(alloc, bytes(name, 8, row)?, row)?;
+    let tags = read_tags(alloc, tags, row)?;
+    let interfaces = read_interfaces(alloc, seen_interfaces, entries(interfaces, 11, row)?)?;
+    Ok(DeviceEntry {
+        name,
+        tags: List::from_vec(tags),
+        interfaces: List::from_vec(interfaces),
+    })
+}
+
+fn read_tags(alloc: Global, tags: Option<&Value>, row: u32) -> Result<Vec<Name>, LoadError>
+    ensures names { IfOk result (λ names. load_tags row (option_map (λ v. view v.now) tags.entry) ≡ Ok names.items) }
+    ensures fault { IfErr result (λ e. e ≢ LoadError.Memory → load_tags row (option_map (λ v. view v.now) tags.entry) ≡ Err e) }
+{
+    if tags.is_none() {
+        return Ok(Vec::new(alloc));
+    }
+    let values = entries(tags, 9, row)?;
+    let mut tags = Vec::with_capacity(alloc, values.len())?;
+    for value in values {
+        let tag = read_tag(alloc, value, row)?;
+        tags.push(tag)?;
+    }
+    Ok(tags)
+}
+
+fn read_tag(alloc: Global, value: &Value, row: u32) -> Result<Name, LoadError>
+    ensures tag { IfOk result (λ tag. load_tag row (view value.now) ≡ Ok tag) }
+    ensures fault { IfErr result (λ e. e ≢ LoadError.Memory → load_tag row (view value.now) ≡ Err e) }
+{
+    match Name::from_bytes(alloc, bytes(Some(value), 10, row)?) {
+        Ok(tag) => Ok(tag),
+        Err(NameError::Memory) => Err(LoadError::Memory),
+        Err(_) => Err(LoadError::BadName { row }),
+    }
+}
+
+fn read_interfaces(
+    alloc: Global,
+    seen: &mut NameSet,
+    values: &[Value],
+) -> Result<Vec<Name>, LoadError>
+    ensures names { IfOk result (λ names. load_interfaces seen.old (map view values.now) ≡ Ok names.items) }
+    ensures seen { IfOk result (λ names. seen.new ≡ with_names seen.old names.items) }
+    ensures fault { IfErr result (λ e. e ≢ LoadError.Memory → load_interfaces seen.old (map view values.now) ≡ Err e) }
+{
+    let mut interfaces = Vec::with_capacity(alloc, values.len())?;
+    for value in values {
+        let name = read_interface(alloc, seen, value)?;
+        interfaces.push(name)?;
+    }
+    Ok(interfaces)
+}
+
+fn read_interface(alloc: Global, seen: &mut NameSet, value: &Value) -> Result<Name, LoadError>
+    ensures name { IfOk result (λ name. load_interface seen.old (view value.now) ≡ Ok name) }
+    ensures seen { IfOk result (λ name. seen.new ≡ with_name seen.old name) }
+    ensures fault { IfErr result (λ e. e ≢ LoadError.Memory → load_interface seen.old (view value.now) ≡ Err e) }
+{
+    let row = seen.next_row()?;
+    seen.add(alloc, bytes(Some(value), 12, row)?, row)
+}

@@ -1,0 +1,13 @@
+//! The rows of a run and their text.
+#![tactic(auto)]
+
+mod rows;
+mod statuses;
+mod texts;
+
+pub use rows::{ReportRow, Row, Side};
+pub use statuses::{STATUS_MET, STATUS_UNDECIDED, STATUS_VIOLATED, status};
+pub use texts::{text, total};
+
+#[cfg(test)]
+mod tests;

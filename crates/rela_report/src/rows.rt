@@ -1,0 +1,47 @@
+use rela_names::{Name, Word};
+
+/// The snapshot on whose side a word is.
+#[derive(Clone, Copy, Debug, PartialEq, Eq)]
+pub enum Side {
+    /// The image of the paths before the change has the word, and the other image lacks it.
+    Before,
+    /// The image of the paths after the change has the word, and the other image lacks it.
+    After,
+}
+
+/// The verdict on a check for one flow.
+#[derive(Debug, Drop)]
+pub enum Row {
+    /// The images are equal.
+    Compliant,
+    /// The images differ.
+    Violated {
+        /// The shortlex-first word of one image that the other lacks.
+        word: Word,
+        /// The side whose image has the word.
+        side: Side,
+        /// The shortlex-first path of that side's snapshot that is related to the word.
+        source: Word,
+    },
+    /// A construction had more states than were allowed.
+    Undecided,
+}
+
+/// A row of the report.
+#[derive(Debug, Drop)]
+pub enum ReportRow {
+    /// A flow that no check selects.
+    Unselected {
+        /// The flow's name.
+        flow: Name,
+    },
+    /// A flow under a check that selects it.
+    Checked {
+        /// The flow's name.
+        flow: Name,
+        /// The check's name.
+        check: Name,
+        /// The verdict.
+        row: Row,
+    },
+}

@@ -1,0 +1,5 @@
+use Rattle.std.proofs.Common.{◌≡◌, ◌≤◌, map, vec_len}
+use Rattle.rela_snapshot.proofs.walk.read_flows.Given as goal
+
+abbrev pub invariant-loop-value : goal.invariant-loop-value
+invariant-loop-value l = record { names : l.names ≡ map (λ flow. flow.class.name) l.flows.items; few : vec_len l.flows ≤ 10000 }

@@ -1,0 +1,25 @@
+//! What the program does, from its words and the files they name to the bytes it writes.
+#![tactic(auto)]
+
+mod answer;
+mod loading;
+mod plain;
+mod reading;
+mod refusal;
+mod reporting;
+mod running;
+mod verdict;
+mod words;
+
+pub use answer::{Answer, BAD_WORDS, MET, NO_MEMORY, READ_FAULT, REFUSED, UNDECIDED, VIOLATED, WRITE_FAULT, deliver};
+pub use loading::load_locations;
+pub use plain::{PlainCheck, read_plain};
+pub use reading::{Halt, MAX_FILE_BYTES, read_input};
+pub use refusal::{Input, Refusal, refusal_line};
+pub use reporting::report;
+pub use running::run;
+pub use verdict::decide_kept;
+pub use words::{Operands, read_words};
+
+#[cfg(test)]
+mod tests;
