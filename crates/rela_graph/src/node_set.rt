@@ -1,4 +1,4 @@
-ghost use Rattle.std.specs.Prelude.{◌≡◌, ◌<◌, ◌≤◌, [], IfOk, OnOk, OnErr, length};
+ghost use Rattle.std.specs.Prelude.{◌≡◌, ℕ, ◌<◌, ◌≤◌, ◌↔◌, [], IsTrue, IfOk, OnOk, OnErr, Contains, length};
 ghost use Rattle.std.specs.List.{All};
 ghost use Rattle.rela_graph.specs.NodeSet.{Inserts};
 
@@ -42,6 +42,21 @@ impl NodeSet {
         ensures few { length self.now.nodes ≤ self.now.count }
     {
         self.members.as_slice()
+    }
+
+    /// Whether the node is a member.
+    pub(crate) fn contains(&self, n: u32) -> bool
+        requires { n < self.now.count }
+        ensures { IsTrue result ↔ Contains self.now.nodes n }
+    {
+        self.flags[n as usize]
+    }
+
+    /// Whether each node is a member.
+    pub(crate) fn is_full(&self) -> bool
+        ensures { IsTrue result → (n : ℕ) → n < self.now.count → Contains self.now.nodes n }
+    {
+        self.members.len() == self.flags.len()
     }
 
     /// Puts a node in.
