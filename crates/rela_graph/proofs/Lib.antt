@@ -9,5 +9,5 @@ pub mod Walking
 pub mod Ways
 pub mod Cycling
 pub mod Claiming
-pub mod Leaving
+pub mod Entering
 pub mod Chaining

@@ -58,6 +58,7 @@ impl Claimed {
         ensures members { result.now ≡ self.now.nodes }
         ensures below { All (λ n. n < self.now.count) self.now.nodes }
         ensures few { length self.now.nodes ≤ self.now.count }
+        ensures places { length self.now.places ≡ self.now.count }
     {
         self.nodes.members()
     }

@@ -55,7 +55,8 @@ impl Graph {
         }
         entered.insert(n)?;
         visits.push(Visit::Leave(n))?;
-        enter_all(self.edges_from(n), visits)
+        enter_all(self.edges_from(n), visits)?;
+        Ok(())
     }
 }
 

@@ -63,6 +63,7 @@ impl NodeSet {
     pub(crate) fn insert(&mut self, n: u32) -> Result<(), AllocError>
         requires { n < self.old.count }
         ensures count { self.new.count ≡ self.old.count }
+        ensures few { length self.new.nodes ≤ self.new.count }
         ensures ok { OnOk result (Inserts self.old.nodes self.new.nodes n) }
         ensures err { OnErr result (self.new.nodes ≡ self.old.nodes) }
     {

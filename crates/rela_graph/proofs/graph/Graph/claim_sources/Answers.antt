@@ -46,13 +46,13 @@ loop-at-preserved c =
     let into = c.loop-at.invariant.into place d c.in-Some.is in
     let link_is : link ≡ get_or g.edges place d = ap (λ l. get_or l place d) c.edges-edges.ensures.edges in
     let edge : HasEdge g link.a n =
-        (place, into.0, get_or_default g.edges place (record { a = link.a; b = n }) d into.0 ∙ sym link_is ∙ ap (λ (b : ℕ). record { a = link.a; b = b }) (ap (λ (l : Link). l.b) link_is ∙ into.1)) in
+    (place, into.0, get_or_default g.edges place (record { a = link.a; b = n }) d into.0 ∙ sym link_is ∙ ap (λ (b : ℕ). record { a = link.a; b = b }) (ap (λ (l : Link). l.b) link_is ∙ into.1)) in
     let root = get_or c.places.result.now n 0 in
     let frame = c.loop-at.invariant.frame in
     let to : Reaches g n (slice_index now.roots root) = rw (frame.roots, c.places.ensures.places) (c.requires.behind n c.requires.member) in
     let within : link.a < length now.places =
-        let joins = All-contains (JoinsNodes (length g.nodes)) g.edges (record { a = link.a; b = n }) c.edges-edges.ensures.topology.joins edge in
-        let len = c.places.ensures.len in let count = c.requires.count in let same = frame.len in let below = joins.0 in omega arith in
+    let joins = All-contains (JoinsNodes (length g.nodes)) g.edges (record { a = link.a; b = n }) c.edges-edges.ensures.topology.joins edge in
+    let len = c.places.ensures.len in let count = c.requires.count in let same = frame.len in let below = joins.0 in omega arith in
     record {
       frame = frame_then c.args.claimed.now now c.claim.new.self frame c.claim.ensures.frame;
       behind =

@@ -17,12 +17,12 @@ loop-edge-preserved c =
     let frame = c.loop-edge.invariant.frame in
     let from : Reaches g (slice_index now.roots root) c.args.n = rw (frame.roots, c.places.ensures.places) (c.requires.ahead c.args.n c.requires.member) in
     let within : link.b < length now.places =
-        let len = c.places.ensures.len in let count = c.requires.count in let same = frame.len in let below = edge.1 in omega arith in
+    let len = c.places.ensures.len in let count = c.requires.count in let same = frame.len in let below = edge.1 in omega arith in
     elim c.if-components-edge.branch [
       | then-components-edge+in_ok-claim w ↦ record {
         frame = rw w.claimed-is (frame_then start now w.claim.new.self frame w.claim.ensures.frame);
         ahead = rw w.claimed-is
-          (claim_ahead now w.claim.new.self link.b root within w.claim.ensures.frame w.in_ok-claim.ensures.claims g c.loop-edge.invariant.ahead
+            (claim_ahead now w.claim.new.self link.b root within w.claim.ensures.frame w.in_ok-claim.ensures.claims g c.loop-edge.invariant.ahead
             (reach_on g (slice_index now.roots root) c.args.n link.b from edge.2));
       }
       | else-components-edge w ↦ record { frame = rw w.claimed-is frame; ahead = rw w.claimed-is c.loop-edge.invariant.ahead }
