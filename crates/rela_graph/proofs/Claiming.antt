@@ -1,5 +1,6 @@
 -- What was claimed for roots.
 use Rattle.std.proofs.Common.{◌≡◌, ◌≢◌, ℕ, suc, ◌+◌, ◌<◌, ◌≤◌, ◌⊎◌, ◌↔◌, Bool, true, false, List, [], ◌∷◌, ◌++◌, length, get_or, set, refl, sym, ap, subst, ◌∙◌, inl, inr, arith}
+use Rattle.std.specs.Bool.{OnTrue}
 use Rattle.std.specs.Prelude.{slice_index}
 use Rattle.std.specs.List.{All, Any, Contains}
 use Rattle.std.proofs.lemmas.Bool.{cases_eq}
@@ -115,3 +116,7 @@ module _ (g : Topology) where
           let at = all found.0 found.1 in
           (at.0, record { a = n; b = found.0 }, at.1, at.2, found.2),
     )
+
+pub on_true_then : (b : Bool) (P Q : Type 0) → (P → Q) → OnTrue b P → OnTrue b Q
+on_true_then true P Q f p = f p
+on_true_then false P Q f p = p

@@ -27,15 +27,27 @@ impl Graph {
         let order = self.leaving_order(alloc)?;
         let behind = self.claim_behind(alloc, &order)?;
         let ahead = self.claim_ahead(alloc, &order, behind.places())?;
-        let is_confirmed = behind.is_full()
+        if self.confirms(&behind, &ahead) {
+            Ok(Some(behind.into_places()))
+        } else {
+            Ok(None)
+        }
+    }
+
+    /// Whether each node was claimed both ways, for the same root, and no edge leads to one that was
+    /// claimed for an earlier root.
+    fn confirms(&self, behind: &Claimed, ahead: &Claimed) -> bool
+        requires roots { behind.now.roots ≡ ahead.now.roots }
+        requires behind_count { behind.now.count ≡ length self.now.nodes }
+        requires ahead_count { ahead.now.count ≡ length self.now.nodes }
+        requires behind { AreBehind self.now behind.now }
+        requires ahead { AreAhead self.now ahead.now }
+        ensures { OnTrue result (AreComponents self.now behind.now.places) }
+    {
+        behind.is_full()
             && ahead.is_full()
             && behind.places() == ahead.places()
-            && ascends(self.edges(), behind.places());
-        Ok(if is_confirmed {
-            Some(behind.into_places())
-        } else {
-            None
-        })
+            && ascends(self.edges(), behind.places())
     }
 
     /// Claims for each root in turn the nodes that reach it.
