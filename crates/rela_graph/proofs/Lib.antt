@@ -8,3 +8,6 @@ pub mod Squeezing
 pub mod Walking
 pub mod Ways
 pub mod Cycling
+pub mod Claiming
+pub mod Entering
+pub mod Chaining

@@ -1,7 +1,10 @@
-ghost use Rattle.std.specs.Prelude.{◌≡◌, ℕ, ◌<◌, ◌↔◌, IsTrue, IfOk, length, false, slice_index_or, vec_len, replicate};
+ghost use Rattle.std.specs.Prelude.{◌≡◌, ℕ, ◌<◌, ◌↔◌, IsTrue, IfOk, length, false, slice_index_or, vec_len, replicate, slice_index};
+ghost use Rattle.std.specs.List.{All, Any};
+ghost use Rattle.rela_graph.specs.Component.{AreComponents};
 ghost use Rattle.rela_graph.specs.Walk.{IsCyclic};
 
 use crate::graph::Graph;
+use crate::node::Link;
 use crate::node_set::NodeSet;
 use std::alloc::{AllocError, Global};
 
@@ -14,12 +17,36 @@ impl Graph {
         Ok(cyclic.get(n as usize).copied().unwrap_or(false))
     }
 
-    /// Whether each node lies on a cycle, in the order of their numbers.
+    /// Whether each node lies on a cycle, in the order of their numbers. It takes a number of steps that
+    /// is linear in the nodes and the edges.
     pub fn cyclic_nodes(&self, alloc: Global) -> Result<Vec<bool>, AllocError>
         ensures nodes { IfOk result (λ cyclic. vec_len cyclic ≡ length self.now.nodes) }
         ensures cyclic { IfOk result (λ cyclic. (n : ℕ) → IsTrue (slice_index_or cyclic.items n false) ↔ IsCyclic self.now n) }
     {
-        self.cyclic_by_searches(alloc)
+        match self.components(alloc)? {
+            Some(components) => self.cyclic_by_components(alloc, &components),
+            None => self.cyclic_by_searches(alloc),
+        }
+    }
+
+    /// The same by the components: a node lies on a cycle where an edge leads from it to a node of its
+    /// own component.
+    fn cyclic_by_components(
+        &self,
+        alloc: Global,
+        components: &[usize],
+    ) -> Result<Vec<bool>, AllocError>
+        requires { AreComponents self.now components.now }
+        ensures nodes { IfOk result (λ cyclic. vec_len cyclic ≡ length self.now.nodes) }
+        ensures cyclic { IfOk result (λ cyclic. (n : ℕ) → IsTrue (slice_index_or cyclic.items n false) ↔ IsCyclic self.now n) }
+    {
+        let count = self.nodes().len();
+        let mut cyclic = Vec::with_capacity(alloc, count)?;
+        for n in 0..count {
+            let edges = self.edges_from(n as u32);
+            cyclic.push(any_leads_into(edges, components, components[n]))?;
+        }
+        Ok(cyclic)
     }
 
     /// The same by a search from each node.
@@ -47,4 +74,14 @@ impl Graph {
         self.spread(labels, 0, &mut reached)?;
         Ok(reached.members().contains(&n))
     }
+}
+
+/// Whether one of the edges leads to a node of the component.
+fn any_leads_into(edges: &[Link], components: &[usize], component: usize) -> bool
+    requires { All (λ link. link.b < length components.now) edges.now }
+    ensures { IsTrue result ↔ Any (λ link. slice_index components.now link.b ≡ component) edges.now }
+{
+    edges
+        .iter()
+        .any(|edge| components[edge.b as usize] == component)
 }

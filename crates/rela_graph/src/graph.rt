@@ -122,9 +122,18 @@ impl Graph {
         self.dropped.get(n as usize).copied().unwrap_or(false)
     }
 
+    /// The edges, by the node that they come from and then by the node that they lead to.
+    pub(crate) fn edges(&self) -> &[Link]
+        ensures edges { result.now ≡ self.now.edges }
+        ensures topology { IsTopology self.now }
+    {
+        self.edges.as_slice()
+    }
+
     /// The edges that come from a node.
     pub(crate) fn edges_from(&self, n: u32) -> &[Link]
         requires { n < length self.now.nodes }
+        ensures few { length result.now ≤ length self.now.edges }
         ensures each { All (IsEdgeFrom self.now n) result.now }
         ensures all { (b : ℕ) → HasEdge self.now n b → Contains result.now (record { a = n; b = b }) }
     {

@@ -1,8 +1,12 @@
 //! Forwarding graphs: their walks, their cycles and the paths that they allow.
 #![tactic(auto)]
 
+mod claimed;
+mod component;
 mod cycle;
 mod graph;
+mod incoming;
+mod leaving;
 mod node;
 mod node_set;
 mod path;

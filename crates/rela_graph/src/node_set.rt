@@ -1,4 +1,4 @@
-ghost use Rattle.std.specs.Prelude.{◌≡◌, ◌<◌, ◌≤◌, [], IfOk, OnOk, OnErr, length};
+ghost use Rattle.std.specs.Prelude.{◌≡◌, ℕ, ◌<◌, ◌≤◌, ◌↔◌, [], IsTrue, IfOk, OnOk, OnErr, Contains, length};
 ghost use Rattle.std.specs.List.{All};
 ghost use Rattle.rela_graph.specs.NodeSet.{Inserts};
 
@@ -44,10 +44,26 @@ impl NodeSet {
         self.members.as_slice()
     }
 
+    /// Whether the node is a member.
+    pub(crate) fn contains(&self, n: u32) -> bool
+        requires { n < self.now.count }
+        ensures { IsTrue result ↔ Contains self.now.nodes n }
+    {
+        self.flags[n as usize]
+    }
+
+    /// Whether each node is a member.
+    pub(crate) fn is_full(&self) -> bool
+        ensures { IsTrue result → (n : ℕ) → n < self.now.count → Contains self.now.nodes n }
+    {
+        self.members.len() == self.flags.len()
+    }
+
     /// Puts a node in.
     pub(crate) fn insert(&mut self, n: u32) -> Result<(), AllocError>
         requires { n < self.old.count }
         ensures count { self.new.count ≡ self.old.count }
+        ensures few { length self.new.nodes ≤ self.new.count }
         ensures ok { OnOk result (Inserts self.old.nodes self.new.nodes n) }
         ensures err { OnErr result (self.new.nodes ≡ self.old.nodes) }
     {
