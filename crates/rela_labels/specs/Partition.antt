@@ -29,7 +29,7 @@ abbrev pub Together : List ℕ → ℕ → ℕ → Type 0
 Together partition s t = block_of partition s ≡ block_of partition t
 
 -- a partition with the least symbol of each block
-pub record IsNumbered (partition least : List ℕ) : Type 0 where
-  pub partition : IsPartition partition
-  pub counted : (s : ℕ) → s < length partition → block_of partition s < length least
-  pub least : (block : ℕ) → block < length least → IsLeastOf partition block (slice_index least block)
+pub record IsNumbered (blocks firsts : List ℕ) : Type 0 where
+  pub partition : IsPartition blocks
+  pub counted : (s : ℕ) → s < length blocks → block_of blocks s < length firsts
+  pub first : (block : ℕ) → block < length firsts → IsLeastOf blocks block (slice_index firsts block)

@@ -1,5 +1,5 @@
 -- Sets of letters as the bits of words of 64 bits: letter k is bit k % 64 of word k / 64.
-use Rattle.std.specs.Prelude.{◌≡◌, ℕ, ◌+◌, ◌/◌, ◌%◌, ◌*◌, ◌≤◌, ◌==◌, Bool, false, List, length, map, slice_index}
+use Rattle.std.specs.Prelude.{◌≡◌, ℕ, ◌+◌, ◌/◌, ◌%◌, ◌*◌, ◌^◌, ◌<◌, ◌≤◌, ◌==◌, Bool, false, List, length, map, slice_index}
 use Rattle.std.specs.Int.{bit_at}
 use Rattle.std.specs.List.{range_with_len}
 
@@ -20,6 +20,7 @@ pub record IsTidy (size : ℕ) (words : List ℕ) : Type 0 where
 pub record IsWide (size : ℕ) (words : List ℕ) : Type 0 where
   pub tidy : IsTidy size words
   pub len : length words ≡ (size + 63) / 64
+  pub fits : size < 2 ^ 32
 
 -- the words of a set in w of them: at most 64, and tidy
 pub record IsNarrow (w size : ℕ) (words : List ℕ) : Type 0 where

@@ -1,7 +1,7 @@
+ghost use Rattle.std.specs.Prelude.{◌≡◌};
+
 use crate::label_set::LabelSet;
-use crate::words::{
-    has_bit, has_no_bit, join_words, least_bit, meet_words, minus_words, same_words, set_bit,
-};
+use crate::words::{has_bit, join_words, least_bit, meet_words, minus_words, same_words, set_bit};
 use std::alloc::{AllocError, Global};
 use std::marker::Model;
 
@@ -82,7 +82,7 @@ impl<const W: usize> LabelSet for BlockSet<W> {
     }
 
     fn is_empty(&self) -> bool {
-        has_no_bit(&self.words)
+        least_bit(&self.words).is_none()
     }
 
     fn least(&self) -> Option<u32> {

@@ -1,9 +1,7 @@
-ghost use Rattle.std.specs.Prelude.{◌≡◌};
+ghost use Rattle.std.specs.Prelude.{◌≡◌, IfOk};
 
 use crate::label_set::LabelSet;
-use crate::words::{
-    has_bit, has_no_bit, join_words, least_bit, meet_words, minus_words, same_words, set_bit,
-};
+use crate::words::{has_bit, join_words, least_bit, meet_words, minus_words, same_words, set_bit};
 use std::alloc::{AllocError, Global};
 use std::marker::Model;
 
@@ -81,7 +79,7 @@ impl LabelSet for WideSet {
     }
 
     fn is_empty(&self) -> bool {
-        has_no_bit(&self.words)
+        least_bit(&self.words).is_none()
     }
 
     fn least(&self) -> Option<u32> {

@@ -51,13 +51,6 @@ pub(crate) fn minus_words(words: &mut [u64], other: &[u64])
     }
 }
 
-/// Whether all bits are 0.
-pub(crate) fn has_no_bit(words: &[u64]) -> bool
-    ensures { IsTrue result ↔ ((k : ℕ) → bit_of words.now k ≡ false) }
-{
-    words.iter().all(|word| *word == 0)
-}
-
 /// The least letter whose bit is 1.
 pub(crate) fn least_bit(words: &[u64]) -> Option<u32>
     requires { length words.now ≤ 2 ^ 26 }
@@ -78,5 +71,10 @@ pub(crate) fn same_words(words: &[u64], other: &[u64]) -> bool
     requires { length words.now ≡ length other.now }
     ensures { IsTrue result ↔ ((k : ℕ) → bit_of words.now k ≡ bit_of other.now k) }
 {
-    words == other
+    for i in 0..words.len() {
+        if words[i] != other[i] {
+            return false;
+        }
+    }
+    true
 }

@@ -1,0 +1,2 @@
+pub mod LettersOfWords
+pub mod WordBits
