@@ -6,7 +6,7 @@ use Rattle.std.proofs.lemmas.List.FromFn.{length-map-range_with_len, get_or-map-
 use Rattle.std.specs.List.{range_with_len}
 use Rattle.std.specs.Vec.{with_items}
 use Rattle.rela_labels.specs.Letters.{has}
-use Rattle.rela_labels.specs.Words.{bit_of, letters_of, IsTidy, IsWide}
+use Rattle.rela_labels.specs.Words.{bit_of, letters_of, IsTidy, IsWide, IsNarrow}
 use Rattle.rela_labels.proofs.WordBits.{no_word, past_words}
 
 pub length-letters_of : (size : ℕ) (words : List ℕ) → length (letters_of size words) ≡ size
@@ -63,6 +63,21 @@ combined each none m n a b words x y a_is b_is sizes len bits =
       each_letter = λ k. sym (has_letter m words tidy k) ∙ bits k
           ∙ ap (λ v. each v (bit_of b k)) (has_from m a x a_is k) ∙ ap (λ v. each (has x k) v) (has_from n b y b_is k);
     }
+
+-- the same for sets of w words
+pub record IsNarrowCombined (w : ℕ) (each : Bool → Bool → Bool) (size : ℕ) (words : List ℕ) (x y : List Bool) : Type 0 where
+  pub combined : IsCombined each size words x y
+  pub narrow : IsNarrow w size words
+
+pub narrow_combined : (w : ℕ) (each : Bool → Bool → Bool) → each false false ≡ false → (m n : ℕ) (a b words : List ℕ) (x y : List Bool)
+    → letters_of m a ≡ x → letters_of n b ≡ y → IsNarrow w m a → IsNarrow w n b → length x ≡ length y → length words ≡ length a
+    → ((k : ℕ) → bit_of words k ≡ each (bit_of a k) (bit_of b k)) → IsNarrowCombined w each m words x y
+narrow_combined w each none m n a b words x y x_is y_is a_narrow b_narrow sizes len bits =
+    let all =
+      combined each none m n a b words x y (record { letters = x_is; tidy = a_narrow.tidy }) (record { letters = y_is; tidy = b_narrow.tidy })
+      sizes len bits
+    in
+    record { combined = all; narrow = record { tidy = all.tidy; few = a_narrow.few; len = len ∙ a_narrow.len } }
 
 -- the same where the words were written into a vector
 pub record IsWideCombined (each : Bool → Bool → Bool) (size : ℕ) (words : List ℕ) (x y : List Bool) : Type 0 where
@@ -204,3 +219,25 @@ letter_within size words lent x letter x_is tidy e below =
     let len : length lent ≡ length words = ap length e in
     let enough = tidy.enough in
     omega arith
+
+pub record IsNarrowAdded (w size : ℕ) (words : List ℕ) (x : List Bool) (letter : ℕ) : Type 0 where
+  pub added : IsAdded size words x letter
+  pub narrow : IsNarrow w size words
+
+pub narrow_with_letter : (w size : ℕ) (a words : List ℕ) (x : List Bool) (letter : ℕ)
+    → letters_of size a ≡ x → IsNarrow w size a → letter < length x → length words ≡ length a
+    → bit_of words letter ≡ true → ((k : ℕ) → k ≢ letter → bit_of words k ≡ bit_of a k) → IsNarrowAdded w size words x letter
+narrow_with_letter w size a words x letter x_is a_narrow below len added others =
+    let all = with_letter size a words x letter (record { letters = x_is; tidy = a_narrow.tidy }) below len added others in
+    record { added = all; narrow = record { tidy = all.tidy; few = a_narrow.few; len = len ∙ a_narrow.len } }
+
+pub zeros_narrow : (w size : ℕ) → w ≤ 64 → size ≤ 64 * w → IsNarrow w size (replicate w 0)
+zeros_narrow w size few enough = record { tidy = zeros_tidy size w enough; few = few; len = length-replicate w 0 }
+
+-- the size of a set of w words fits them
+pub narrow_fits : (w size : ℕ) (words : List ℕ) (x : List Bool) → letters_of size words ≡ x → IsNarrow w size words → (w ≤ 64) × (length x ≤ 64 * w)
+narrow_fits w size words x x_is narrow =
+    let size_is : size ≡ length x = size_of size words x x_is in
+    let len = narrow.len in
+    let enough = narrow.tidy.enough in
+    (narrow.few, omega arith)
