@@ -74,8 +74,8 @@ pub narrow_combined : (w : ℕ) (each : Bool → Bool → Bool) → each false f
     → ((k : ℕ) → bit_of words k ≡ each (bit_of a k) (bit_of b k)) → IsNarrowCombined w each m words x y
 narrow_combined w each none m n a b words x y x_is y_is a_narrow b_narrow sizes len bits =
     let all =
-      combined each none m n a b words x y (record { letters = x_is; tidy = a_narrow.tidy }) (record { letters = y_is; tidy = b_narrow.tidy })
-      sizes len bits
+    combined each none m n a b words x y (record { letters = x_is; tidy = a_narrow.tidy }) (record { letters = y_is; tidy = b_narrow.tidy })
+    sizes len bits
     in
     record { combined = all; narrow = record { tidy = all.tidy; few = a_narrow.few; len = len ∙ a_narrow.len } }
 

@@ -1,5 +1,5 @@
 -- Partitions of the symbols from 0 on: one number for each symbol, that of its block.
-use Rattle.std.specs.Prelude.{◌≡◌, ◌≢◌, ℕ, ◌+◌, ◌<◌, max, List, [], ◌∷◌, length, slice_index}
+use Rattle.std.specs.Prelude.{◌≡◌, ◌≢◌, ℕ, ◌+◌, ◌^◌, ◌<◌, ◌≤◌, max, List, [], ◌∷◌, length, slice_index}
 
 -- the number of the symbol's block
 abbrev pub block_of : List ℕ → ℕ → ℕ
@@ -33,3 +33,5 @@ pub record IsNumbered (blocks firsts : List ℕ) : Type 0 where
   pub partition : IsPartition blocks
   pub counted : (s : ℕ) → s < length blocks → block_of blocks s < length firsts
   pub first : (block : ℕ) → block < length firsts → IsLeastOf blocks block (slice_index firsts block)
+  pub short : length firsts ≤ length blocks
+  pub few : length blocks < 2 ^ 32

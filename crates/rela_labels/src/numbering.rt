@@ -1,9 +1,22 @@
 //! Numbers for the keys of a list, in the order in which the keys first come.
-ghost use Rattle.std.specs.Prelude.{◌≡◌, ℕ, ◌+◌, ◌*◌, ◌^◌, ◌<◌, ◌≤◌, ◌↔◌, IfOk, All, Contains, length, slice_index};
+ghost use Rattle.std.specs.Prelude.{◌≡◌, ℕ, ◌+◌, ◌*◌, ◌^◌, ◌<◌, ◌≤◌, ◌↔◌, ◌++◌, List, [], ◌∷◌, IfOk, All, Contains, length, slice_index};
+ghost use Rattle.rela_labels.specs.Numbering.{IsNumbering};
 ghost use Rattle.rela_labels.specs.Partition.{Together, IsNumbered};
 
 use rela_names::Symbol;
 use std::alloc::{AllocError, Global};
+
+/// The numbers below `n`, in order.
+pub(crate) fn numbers_below(alloc: Global, n: u32) -> Result<Vec<u32>, AllocError>
+    ensures len { IfOk result (λ numbers. length numbers.items ≡ n) }
+    ensures each { IfOk result (λ numbers. (k : ℕ) → k < n → slice_index numbers.items k ≡ k) }
+{
+    let mut numbers = Vec::with_capacity(alloc, n as usize)?;
+    for i in 0..n {
+        numbers.push(i)?;
+    }
+    Ok(numbers)
+}
 
 /// A key for each symbol, so that two have the same key where they share a block and both or neither
 /// are members: twice the block's number, and one more for a member.
@@ -64,7 +77,10 @@ struct Numbering {
 }
 
 impl Numbering {
-    fn new(alloc: Global, bound: usize) -> Result<Numbering, AllocError> {
+    fn new(alloc: Global, bound: usize) -> Result<Numbering, AllocError>
+        ensures bound { IfOk result (λ numbering. length numbering.numbers.items ≡ bound) }
+        ensures numbering { IfOk result (λ numbering. IsNumbering [] numbering.numbers.items numbering.blocks.items numbering.firsts.items) }
+    {
         Ok(Numbering {
             numbers: vec![in alloc; None; bound]?,
             blocks: Vec::new(alloc),
@@ -75,7 +91,11 @@ impl Numbering {
     fn push(&mut self, key: usize) -> Result<(), AllocError>
         requires below { key < length self.old.numbers.items }
         requires few { length self.old.blocks.items < 2 ^ 32 }
-        requires counted { length self.old.firsts.items ≤ length self.old.blocks.items }
+        requires short { length self.old.firsts.items ≤ length self.old.blocks.items }
+        ensures bound { IfOk result (λ _. length self.new.numbers.items ≡ length self.old.numbers.items) }
+        ensures numbering { IfOk result (λ _. (keys : List ℕ)
+            → IsNumbering keys self.old.numbers.items self.old.blocks.items self.old.firsts.items
+            → IsNumbering (keys ++ key ∷ []) self.new.numbers.items self.new.blocks.items self.new.firsts.items) }
     {
         if let Some(block) = self.numbers[key] {
             self.blocks.push(block)?;

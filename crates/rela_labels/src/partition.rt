@@ -1,7 +1,7 @@
 ghost use Rattle.std.specs.Prelude.{◌≡◌, ℕ, ◌<◌, ◌≤◌, ◌↔◌, IfOk, IfErr, All, Contains, length};
 ghost use Rattle.rela_labels.specs.Partition.{block_of, block_count, Together, IsPartition, IsLeastOf};
 
-use crate::numbering::{number_keys, split_keys};
+use crate::numbering::{number_keys, numbers_below, split_keys};
 use rela_names::Symbol;
 use std::alloc::{AllocError, Global};
 use std::marker::Model;
@@ -43,8 +43,8 @@ impl Partition {
         ensures symbols { IfOk result (λ partition. length partition ≡ symbols) }
         ensures own_block { IfOk result (λ partition. (s : ℕ) → s < symbols → block_of partition s ≡ s) }
     {
-        let blocks = (0..symbols).collect(alloc)?;
-        let least = (0..symbols).collect(alloc)?;
+        let blocks = numbers_below(alloc, symbols)?;
+        let least = numbers_below(alloc, symbols)?;
         Ok(Partition { blocks, least })
     }
 

@@ -8,19 +8,19 @@ set_bit-requires g c = letter_within _ _ _ _ _ c.self.view_is c.self.invariant.t
 pub invariant_of-self : goal.invariant_of-self
 invariant_of-self g c =
     (narrow_with_letter g.row.W _ _ _ _ _ c.self.view_is c.self.invariant c.requires c.set_bit.auto.words
-      c.set_bit.ensures.added c.set_bit.ensures.others).narrow
+    c.set_bit.ensures.added c.set_bit.ensures.others).narrow
 
 pub returns-clause-size : goal.returns-clause-size
 returns-clause-size g c =
     (narrow_with_letter g.row.W _ _ _ _ _ c.self.view_is c.self.invariant c.requires c.set_bit.auto.words
-      c.set_bit.ensures.added c.set_bit.ensures.others).added.size_is
+    c.set_bit.ensures.added c.set_bit.ensures.others).added.size_is
 
 pub returns-clause-added : goal.returns-clause-added
 returns-clause-added g c =
     (narrow_with_letter g.row.W _ _ _ _ _ c.self.view_is c.self.invariant c.requires c.set_bit.auto.words
-      c.set_bit.ensures.added c.set_bit.ensures.others).added.added
+    c.set_bit.ensures.added c.set_bit.ensures.others).added.added
 
 pub returns-clause-others : goal.returns-clause-others
 returns-clause-others g c =
     (narrow_with_letter g.row.W _ _ _ _ _ c.self.view_is c.self.invariant c.requires c.set_bit.auto.words
-      c.set_bit.ensures.added c.set_bit.ensures.others).added.others
+    c.set_bit.ensures.added c.set_bit.ensures.others).added.others

@@ -5,4 +5,4 @@ pub returns : goal.returns
 returns g c =
     empty_when_none _ _ _ c.is_none.ensures
     (least_letter _ _ _ (record { letters = c.self.view_is; tidy = c.self.invariant.tidy }) c.least_bit.result
-      c.least_bit.ensures.none c.least_bit.ensures.member c.least_bit.ensures.least)
+    c.least_bit.ensures.none c.least_bit.ensures.member c.least_bit.ensures.least)

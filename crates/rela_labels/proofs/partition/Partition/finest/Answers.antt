@@ -1,0 +1,7 @@
+use Rattle.rela_labels.proofs.BlocksInOrder.{own_blocks}
+use Rattle.rela_labels.proofs.partition.Partition.finest.Goals as goal
+
+pub invariant_of-result : goal.invariant_of-result
+invariant_of-result c =
+    own_blocks c.args.symbols _ _ c.requires c.ranges.symbols.fits c.in_ok-blocks.ensures.len c.in_ok-least.ensures.len
+    c.in_ok-blocks.ensures.each c.in_ok-least.ensures.each
