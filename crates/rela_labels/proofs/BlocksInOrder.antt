@@ -1,9 +1,10 @@
 -- Partitions and the number of their blocks.
-use Rattle.std.proofs.Common.{zero, suc, ◌≡◌, ◌≢◌, ℕ, ◌+◌, ◌-◌, ◌*◌, ◌^◌, ◌<◌, ◌≤◌, ◌↔◌, List, [], ◌∷◌, length, get_or, max, inl, inr, arith, refl, sym, ap, subst, ◌∙◌}
-use Rattle.std.proofs.lemmas.Bool.{cases_lt, cases_eq}
-use Rattle.std.proofs.lemmas.List.{get_or_default}
+use Rattle.std.proofs.Common.{zero, suc, ◌≡◌, ℕ, ◌-◌, ◌^◌, ◌<◌, ◌≤◌, ◌↔◌, List, [], ◌∷◌, length, get_or, replicate, inl, inr, arith, refl, sym, ap, subst, ◌∙◌}
+use Rattle.std.proofs.lemmas.Bool.{cases_lt, cases_order}
+use Rattle.std.proofs.lemmas.Grind.{same_number_lists}
+use Rattle.std.proofs.lemmas.List.{get_or_default, get_or-replicate, length-replicate}
 use Rattle.std.specs.List.{All}
-use Rattle.rela_labels.specs.Partition.{block_of, block_count, IsLeastOf, IsPartition, IsNumbered, Together}
+use Rattle.rela_labels.specs.Partition.{block_count, IsLeastOf, IsPartition, IsNumbered, Together}
 
 count_at_most : (blocks : List ℕ) (n : ℕ) → ((s : ℕ) → s < length blocks → get_or blocks s 0 < n) → block_count blocks ≤ n
 unfolding block_count
@@ -31,6 +32,16 @@ counts blocks firsts is =
           absurd (omega arith)
       | inr no_less ↦ omega arith
     ]
+
+pub count_of_one : (n : ℕ) (blocks : List ℕ) → 1 ≤ n → blocks ≡ replicate n 0 → block_count blocks ≡ 1
+count_of_one n blocks some blocks_are =
+    let len : length blocks ≡ n = ap length blocks_are ∙ length-replicate n 0 in
+    let most : block_count blocks ≤ 1 = count_at_most blocks 1 (λ s within.
+    let zero_there : get_or blocks s 0 ≡ 0 = ap (λ bs. get_or bs s 0) blocks_are ∙ get_or-replicate n s 0 0 (omega arith) in
+    omega arith)
+    in
+    let least = within_count blocks 0 (omega arith) in
+    omega arith
 
 pub own_blocks : (n : ℕ) (blocks firsts : List ℕ) → 1 ≤ n → n < 2 ^ 32 → length blocks ≡ n → length firsts ≡ n
     → ((s : ℕ) → s < n → get_or blocks s 0 ≡ s) → ((s : ℕ) → s < n → get_or firsts s 0 ≡ s) → IsNumbered blocks firsts
@@ -83,3 +94,32 @@ blocks_all_below blocks firsts lent n is e n_is = subst (λ bs. All (λ b. b < n
     let below = is.counted k within in
     let same : get_or blocks k d ≡ get_or blocks k 0 = get_or_default blocks k d 0 within in
     omega arith)
+
+-- two partitions whose symbols share blocks alike are the same
+alike : (p q : List ℕ) → IsPartition p → IsPartition q → length p ≡ length q
+    → ((s t : ℕ) → s < length p → t < length p → Together p s t ↔ Together q s t)
+    → (n s : ℕ) → s < n → n ≤ length p → get_or p s 0 ≡ get_or q s 0
+alike p q p_is q_is len same zero s below most = absurd (omega arith)
+alike p q p_is q_is len same (suc n) s below most =
+    elim (cases_lt s n) [
+      | inl before ↦ alike p q p_is q_is len same n s before (omega arith)
+      | inr last ↦ elim (cases_order (get_or p s 0) (get_or q s 0)) [
+        | inl equal ↦ equal
+        | inr apart ↦ elim apart [
+          | inl less ↦
+              let earlier = q_is.by_least s (get_or p s 0) (omega arith) less in
+              let r_below : earlier.0 < s = earlier.1 in
+              let r_same : get_or p earlier.0 0 ≡ get_or q earlier.0 0 = alike p q p_is q_is len same n earlier.0 (omega arith) (omega arith) in
+              sym earlier.2 ∙ (same earlier.0 s (omega arith) (omega arith)).0 (r_same ∙ earlier.2)
+          | inr more ↦
+              let earlier = p_is.by_least s (get_or q s 0) (omega arith) more in
+              let r_below : earlier.0 < s = earlier.1 in
+              let r_same : get_or p earlier.0 0 ≡ get_or q earlier.0 0 = alike p q p_is q_is len same n earlier.0 (omega arith) (omega arith) in
+              sym ((same earlier.0 s (omega arith) (omega arith)).1 (sym r_same ∙ earlier.2)) ∙ earlier.2
+        ]
+      ]
+    ]
+
+pub same_partitions : (p q : List ℕ) → IsPartition p → IsPartition q → length p ≡ length q
+    → ((s t : ℕ) → s < length p → t < length p → Together p s t ↔ Together q s t) → p ≡ q
+same_partitions p q p_is q_is len same = same_number_lists p q len (λ k within. alike p q p_is q_is len same (length p) k within (omega arith))

@@ -1,10 +1,10 @@
 -- A loop that numbers keys in the order in which they first come, step by step.
-use Rattle.std.proofs.Common.{◌≡◌, ◌≢◌, ℕ, ◌+◌, ◌-◌, ◌*◌, ◌^◌, ◌<◌, ◌≤◌, ◌↔◌, List, [], ◌∷◌, ◌++◌, length, get_or, set, take, Option, None, Some, inl, inr, arith, refl, sym, ap, subst, ◌∙◌}
+use Rattle.std.proofs.Common.{◌≡◌, ◌≢◌, ℕ, ◌+◌, ◌^◌, ◌<◌, ◌≤◌, ◌↔◌, List, [], ◌∷◌, ◌++◌, length, get_or, set, take, Option, None, Some, inl, inr, arith, refl, sym, ap, subst, ◌∙◌}
 use Rattle.std.proofs.lemmas.Bool.{cases_lt, cases_eq}
 use Rattle.std.proofs.lemmas.List.{get_or_append_left, get_or_push, length_push, get_or_default, get_or-set_other, get_or-set_same, take_all}
 use Rattle.std.proofs.lemmas.Option.{same_Some}
 use Rattle.rela_labels.specs.Numbering.{IsNumbering}
-use Rattle.rela_labels.specs.Partition.{block_of, IsLeastOf, IsPartition, IsNumbered, Together}
+use Rattle.rela_labels.specs.Partition.{IsLeastOf, IsNumbered, Together}
 
 -- ys is xs and x behind it
 record IsPushed (xs : List ℕ) (x : ℕ) (ys : List ℕ) : Type 0 where

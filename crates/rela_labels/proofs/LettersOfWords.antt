@@ -1,9 +1,8 @@
 -- The letters of tidy words are their bits.
-use Rattle.std.proofs.Common.{◌≡◌, ◌≢◌, ℕ, ◌+◌, ◌-◌, ◌*◌, ◌/◌, ◌^◌, ◌<◌, ◌≤◌, ◌↔◌, Bool, true, false, not, ◌&&◌, ◌||◌, IsTrue, List, length, get_or, replicate, Option, None, Some, IfNone, IfSome, is_some, inl, inr, arith, refl, sym, ap, subst, ◌∙◌, map, Vec}
+use Rattle.std.proofs.Common.{◌≡◌, ◌≢◌, ℕ, ◌+◌, ◌*◌, ◌/◌, ◌^◌, ◌<◌, ◌≤◌, ◌↔◌, Bool, true, false, not, IsTrue, List, length, replicate, Option, None, Some, IfNone, IfSome, is_some, inl, inr, arith, sym, ap, subst, ◌∙◌, Vec}
 use Rattle.std.proofs.lemmas.Bool.{cases_lt, false≢true, not-false, not-true}
 use Rattle.std.proofs.lemmas.List.{get_or_past, get_or-replicate, length-replicate, same_lists, with_items_is}
 use Rattle.std.proofs.lemmas.List.FromFn.{length-map-range_with_len, get_or-map-range_with_len}
-use Rattle.std.specs.List.{range_with_len}
 use Rattle.std.specs.Vec.{with_items}
 use Rattle.rela_labels.specs.Letters.{has}
 use Rattle.rela_labels.specs.Words.{bit_of, letters_of, IsTidy, IsWide, IsNarrow}

@@ -1,8 +1,8 @@
 -- Keys that tell apart the blocks of a partition and, in each, the members of a list.
-use Rattle.std.proofs.Common.{◌≡◌, ◌≢◌, ℕ, ◌+◌, ◌-◌, ◌*◌, ◌<◌, ◌≤◌, ◌==◌, ◌↔◌, Bool, true, false, cond, ◌||◌, List, [], ◌∷◌, ◌++◌, length, get_or, set, take, inl, inr, arith, refl, sym, ap, subst, ◌∙◌}
-use Rattle.std.specs.List.{list_any, Contains, All}
+use Rattle.std.proofs.Common.{◌≡◌, ℕ, ◌+◌, ◌*◌, ◌<◌, ◌≤◌, ◌==◌, ◌↔◌, Bool, true, false, cond, ◌||◌, List, [], ◌∷◌, length, get_or, set, take, inl, inr, arith, refl, sym, ap, ◌∙◌}
+use Rattle.std.specs.List.{list_any, Contains}
 use Rattle.std.specs.Bool.{Decides}
-use Rattle.std.proofs.lemmas.Bool.{cases_lt, cases_eq, eq-eqb, ne_eqb, cases_Bool, or_left, or_right, true≢false}
+use Rattle.std.proofs.lemmas.Bool.{cases_eq, eq-eqb, ne_eqb, or_left, or_right}
 use Rattle.std.proofs.lemmas.Bool.Decides.{Decides-by_or, Decides-eqb}
 use Rattle.std.proofs.lemmas.List.{take_more, get_or-set_other, get_or-set_same, take_all}
 use Rattle.std.proofs.lemmas.List.Elements.{Decides-contains}

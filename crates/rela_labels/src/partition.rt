@@ -30,6 +30,8 @@ impl Partition {
     pub fn new(alloc: Global, symbols: u32) -> Result<Partition, AllocError>
         requires { 1 ≤ symbols }
         ensures symbols { IfOk result (λ partition. length partition ≡ symbols) }
+        ensures partition { IfOk result IsPartition }
+        ensures count { IfOk result (λ partition. block_count partition ≡ 1) }
         ensures one_block { IfOk result (λ partition. (s : ℕ) → s < symbols → block_of partition s ≡ 0) }
     {
         let blocks = vec![in alloc; 0; symbols as usize]?;
@@ -41,6 +43,8 @@ impl Partition {
     pub fn finest(alloc: Global, symbols: u32) -> Result<Partition, AllocError>
         requires { 1 ≤ symbols }
         ensures symbols { IfOk result (λ partition. length partition ≡ symbols) }
+        ensures partition { IfOk result IsPartition }
+        ensures count { IfOk result (λ partition. block_count partition ≡ symbols) }
         ensures own_block { IfOk result (λ partition. (s : ℕ) → s < symbols → block_of partition s ≡ s) }
     {
         let blocks = numbers_below(alloc, symbols)?;
@@ -53,6 +57,7 @@ impl Partition {
     pub fn refine(&mut self, alloc: Global, members: &[Symbol]) -> Result<(), AllocError>
         requires { All (λ s. s < length self.old) members.now }
         ensures symbols { IfOk result (λ _. length self.new ≡ length self.old) }
+        ensures partition { IfOk result (λ _. IsPartition self.new) }
         ensures split { IfOk result (λ _. (s t : ℕ) → s < length self.old → t < length self.old
             → Together self.new s t ↔ (Together self.old s t × (Contains members.now s ↔ Contains members.now t))) }
         ensures unchanged { IfErr result (λ _. self.new ≡ self.old) }
@@ -61,6 +66,17 @@ impl Partition {
         let (blocks, least) = number_keys(alloc, &keys, 2 * self.least.len())?;
         *self = Partition { blocks, least };
         Ok(())
+    }
+
+    /// Two partitions of as many symbols are the same where their symbols share blocks alike. The
+    /// call does nothing, and its contract is this law.
+    pub fn determined_by_blocks(&self, other: &Partition)
+        ensures { length self.now ≡ length other.now
+            → ((s t : ℕ) → s < length self.now → t < length self.now → Together self.now s t ↔ Together other.now s t)
+            → self.now ≡ other.now }
+    {
+        let _ = &self.blocks;
+        let _ = &other.blocks;
     }
 
     /// How many blocks there are: just the numbers below it are blocks.

@@ -1,8 +1,13 @@
+ghost use Rattle.std.specs.Prelude.{◌≡◌, IfOk, length};
+
 use super::*;
 use std::alloc::{AllocError, Global};
 use std::test::Fail;
 
-fn set_of<L: LabelSet>(alloc: Global, size: u32, letters: &[u32]) -> Result<L, AllocError> {
+fn set_of<L: LabelSet>(alloc: Global, size: u32, letters: &[u32]) -> Result<L, AllocError>
+    requires { L.fits size }
+    ensures { IfOk result (λ set. length (L.letters set) ≡ size) }
+{
     let mut set = L::none(alloc, size)?;
     for letter in letters {
         if *letter < set.size() {

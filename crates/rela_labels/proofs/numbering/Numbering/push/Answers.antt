@@ -1,4 +1,4 @@
-use Rattle.std.proofs.Common.{◌≡◌, ◌++◌, List, [], ◌∷◌, ℕ, Option, None, get_or, sym, subst, ◌∙◌}
+use Rattle.std.proofs.Common.{◌++◌, [], ◌∷◌, sym, subst, ◌∙◌}
 use Rattle.rela_labels.specs.Numbering.{IsNumbering}
 use Rattle.rela_labels.proofs.KeysInOrder.{push_known, push_new, read_of}
 use Rattle.rela_labels.proofs.numbering.Numbering.push.Goals as goal

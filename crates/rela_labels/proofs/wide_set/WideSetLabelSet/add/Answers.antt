@@ -1,4 +1,3 @@
-use Rattle.std.proofs.Common.{arith, length, ap}
 use Rattle.rela_labels.proofs.LettersOfWords.{wide_with_letter, letter_within}
 use Rattle.rela_labels.proofs.wide_set.WideSetLabelSet.add.Goals as goal
 

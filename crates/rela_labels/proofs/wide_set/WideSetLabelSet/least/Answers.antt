@@ -1,4 +1,3 @@
-use Rattle.std.proofs.Common.{arith, length, ap}
 use Rattle.rela_labels.proofs.LettersOfWords.{few_words, least_letter, lent_words}
 use Rattle.rela_labels.proofs.wide_set.WideSetLabelSet.least.Goals as goal
 
