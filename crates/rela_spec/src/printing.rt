@@ -1,5 +1,11 @@
 //! The canonical text of a tree.
 
+ghost use Rattle.std.specs.Prelude.{◌≡◌, ◌++◌, codes, IfOk, OnOk};
+ghost use Rattle.rela_spec.specs.Names.{name_text};
+ghost use Rattle.rela_spec.specs.PredicateTexts.{condition_text};
+ghost use Rattle.rela_spec.specs.Print.{level_line, check_words, item_line, print_of};
+
+mod members;
 mod names;
 mod paths;
 mod predicates;
@@ -8,12 +14,14 @@ mod specs;
 use crate::tree::{Item, SpecFile};
 use names::push_name;
 use predicates::push_condition;
-use rela_names::Level;
+use rela_flows::Predicate;
+use rela_names::{Level, Name};
 use std::alloc::{AllocError, Global};
 
-/// The canonical text of the tree: a line with the level, then a line for each item. `parse` reads
-/// it as this tree again, up to offsets.
-pub fn print(alloc: Global, file: &SpecFile) -> Result<Vec<u8>, AllocError> {
+/// The canonical text of the tree: a line with the level, then a line for each item.
+pub fn print(alloc: Global, file: &SpecFile) -> Result<Vec<u8>, AllocError>
+    ensures { IfOk result (λ text. text.items ≡ print_of file.now) }
+{
     let mut out = Vec::new(alloc);
     out.extend_from_slice(level_line(file.level))?;
     for item in file.items.as_slice() {
@@ -22,7 +30,9 @@ pub fn print(alloc: Global, file: &SpecFile) -> Result<Vec<u8>, AllocError> {
     Ok(out)
 }
 
-fn level_line(level: Level) -> &'static [u8] {
+fn level_line(level: Level) -> &'static [u8]
+    ensures { result.now ≡ level_line level }
+{
     match level {
         Level::Interface => b"level interface;\n",
         Level::Device => b"level device;\n",
@@ -30,19 +40,21 @@ fn level_line(level: Level) -> &'static [u8] {
     }
 }
 
-fn push_item(out: &mut Vec<u8>, item: &Item) -> Result<(), AllocError> {
+/// Adds the line of an item.
+#[tactic(auto, unfolding(crate::specs::Print::item_line))]
+fn push_item(out: &mut Vec<u8>, item: &Item) -> Result<(), AllocError>
+    ensures { OnOk result (out.new.items ≡ out.old.items ++ item_line item.now) }
+{
     match item {
         Item::Path { name, body, .. } => {
-            out.extend_from_slice(b"path ")?;
-            push_name(out, name)?;
-            out.extend_from_slice(b" = ")?;
+            push_definition(out, b"path ", name)?;
             paths::push_path(out, body)?;
+            out.extend_from_slice(b";\n")
         }
         Item::Spec { name, body, .. } => {
-            out.extend_from_slice(b"spec ")?;
-            push_name(out, name)?;
-            out.extend_from_slice(b" = ")?;
+            push_definition(out, b"spec ", name)?;
             specs::push_spec(out, body)?;
+            out.extend_from_slice(b";\n")
         }
         Item::Check {
             at_most,
@@ -51,16 +63,39 @@ fn push_item(out: &mut Vec<u8>, item: &Item) -> Result<(), AllocError> {
             body,
             ..
         } => {
-            out.extend_from_slice(check_words(*at_most))?;
-            push_name(out, name)?;
-            push_condition(out, when)?;
-            out.extend_from_slice(b" : ")?;
+            push_check(out, *at_most, name, when)?;
             specs::push_spec(out, body)?;
+            out.extend_from_slice(b";\n")
         }
     }
-    out.extend_from_slice(b";\n")
 }
 
-fn check_words(at_most: bool) -> &'static [u8] {
+/// Adds what stands before the body of a definition.
+fn push_definition(out: &mut Vec<u8>, word: &[u8], name: &Name) -> Result<(), AllocError>
+    ensures { OnOk result (out.new.items ≡ out.old.items ++ (word.now ++ (name_text name.now ++ codes " = "))) }
+{
+    out.extend_from_slice(word)?;
+    push_name(out, name)?;
+    out.extend_from_slice(b" = ")
+}
+
+/// Adds what stands before the body of a check.
+fn push_check(
+    out: &mut Vec<u8>,
+    at_most: bool,
+    name: &Name,
+    when: &Predicate,
+) -> Result<(), AllocError>
+    ensures { OnOk result (out.new.items ≡ out.old.items ++ (check_words at_most ++ (name_text name.now ++ (condition_text when.now ++ codes " : ")))) }
+{
+    out.extend_from_slice(check_words(at_most))?;
+    push_name(out, name)?;
+    push_condition(out, when)?;
+    out.extend_from_slice(b" : ")
+}
+
+fn check_words(at_most: bool) -> &'static [u8]
+    ensures { result.now ≡ check_words at_most }
+{
     if at_most { b"check atmost " } else { b"check " }
 }

@@ -1,7 +1,13 @@
 //! The words of the language that are no names.
 
+ghost use Rattle.std.specs.Prelude.{◌≡◌};
+ghost use Rattle.rela_spec.specs.Keywords.{is_keyword, is_item_word, is_member_word, is_modifier_word, is_joining_word, is_predicate_word};
+
 /// Whether the word is a keyword.
-pub(crate) fn is_keyword(word: &[u8]) -> bool {
+#[tactic(auto, unfolding(crate::specs::Keywords::is_keyword))]
+pub(crate) fn is_keyword(word: &[u8]) -> bool
+    ensures { result ≡ is_keyword word.now }
+{
     is_item_word(word)
         || is_member_word(word)
         || is_modifier_word(word)
@@ -10,7 +16,10 @@ pub(crate) fn is_keyword(word: &[u8]) -> bool {
 }
 
 /// The words that begin an item and mark a check.
-fn is_item_word(word: &[u8]) -> bool {
+#[tactic(auto, unfolding(crate::specs::Keywords::is_item_word))]
+fn is_item_word(word: &[u8]) -> bool
+    ensures { result ≡ is_item_word word.now }
+{
     word == b"level".as_slice()
         || word == b"path".as_slice()
         || word == b"spec".as_slice()
@@ -20,7 +29,10 @@ fn is_item_word(word: &[u8]) -> bool {
 }
 
 /// The words of members.
-fn is_member_word(word: &[u8]) -> bool {
+#[tactic(auto, unfolding(crate::specs::Keywords::is_member_word))]
+fn is_member_word(word: &[u8]) -> bool
+    ensures { result ≡ is_member_word word.now }
+{
     word == b"interface".as_slice()
         || word == b"device".as_slice()
         || word == b"group".as_slice()
@@ -30,7 +42,10 @@ fn is_member_word(word: &[u8]) -> bool {
 }
 
 /// The words of modifiers, `drop` apart.
-fn is_modifier_word(word: &[u8]) -> bool {
+#[tactic(auto, unfolding(crate::specs::Keywords::is_modifier_word))]
+fn is_modifier_word(word: &[u8]) -> bool
+    ensures { result ≡ is_modifier_word word.now }
+{
     word == b"preserve".as_slice()
         || word == b"add".as_slice()
         || word == b"remove".as_slice()
@@ -40,7 +55,10 @@ fn is_modifier_word(word: &[u8]) -> bool {
 }
 
 /// The words that join the parts of specifications and predicates.
-fn is_joining_word(word: &[u8]) -> bool {
+#[tactic(auto, unfolding(crate::specs::Keywords::is_joining_word))]
+fn is_joining_word(word: &[u8]) -> bool
+    ensures { result ≡ is_joining_word word.now }
+{
     word == b"then".as_slice()
         || word == b"else".as_slice()
         || word == b"not".as_slice()
@@ -49,7 +67,10 @@ fn is_joining_word(word: &[u8]) -> bool {
 }
 
 /// The words of single predicates.
-fn is_predicate_word(word: &[u8]) -> bool {
+#[tactic(auto, unfolding(crate::specs::Keywords::is_predicate_word))]
+fn is_predicate_word(word: &[u8]) -> bool
+    ensures { result ≡ is_predicate_word word.now }
+{
     word == b"all".as_slice()
         || word == b"dst".as_slice()
         || word == b"src".as_slice()

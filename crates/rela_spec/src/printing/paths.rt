@@ -1,49 +1,68 @@
 //! The texts of path expressions.
 
-use crate::printing::names::{push_name, push_reference};
-use crate::tree::{Member, PathExpr};
-use rela_locations::By;
+ghost use Rattle.std.specs.Prelude.{◌≡◌, ◌++◌, OnOk};
+ghost use Rattle.std.specs.Fmt.{decimal};
+ghost use Rattle.rela_spec.specs.Joined.{joined};
+ghost use Rattle.rela_spec.specs.Printed.{within};
+ghost use Rattle.rela_spec.specs.PathTexts.{printed_path};
+
+use crate::printing::members::{push_class, push_member};
+use crate::printing::names::push_reference;
+use crate::tree::PathExpr;
 use std::alloc::AllocError;
 
-/// How tightly a path expression binds, from the loosest on.
-#[derive(Clone, Copy, PartialEq, Eq, PartialOrd, Ord, Debug)]
-enum Binding {
-    Alt,
-    And,
-    Seq,
-    Not,
-    Postfix,
-    Atom,
-}
+/// How tightly the forms bind, from the loosest on.
+const ALT: u8 = 1;
 
-fn binding_of(path: &PathExpr) -> Binding {
+const AND: u8 = 2;
+
+const SEQ: u8 = 3;
+
+const NOT: u8 = 4;
+
+const POSTFIX: u8 = 5;
+
+const ATOM: u8 = 6;
+
+/// How tightly a path expression binds, from 1 for the loosest on.
+#[tactic(auto, using(crate::proofs::PrintedPaths::printed_forms))]
+fn binding_of(path: &PathExpr) -> u8
+    ensures { result ≡ (printed_path path.now).binding }
+{
     match path {
-        PathExpr::Alt(_) => Binding::Alt,
-        PathExpr::And(_) => Binding::And,
-        PathExpr::Seq(_) => Binding::Seq,
-        PathExpr::Not(_) => Binding::Not,
+        PathExpr::Alt(_) => ALT,
+        PathExpr::And(_) => AND,
+        PathExpr::Seq(_) => SEQ,
+        PathExpr::Not(_) => NOT,
         PathExpr::Star(_) | PathExpr::Plus(_) | PathExpr::Maybe(_) | PathExpr::Times { .. } => {
-            Binding::Postfix
+            POSTFIX
         }
-        _ => Binding::Atom,
+        PathExpr::Any
+        | PathExpr::Empty
+        | PathExpr::One(_)
+        | PathExpr::Class { .. }
+        | PathExpr::Reference { .. } => ATOM,
     }
 }
 
 /// Adds the text of the path expression.
+#[tactic(auto, using(crate::proofs::PrintedPaths::printed_forms))]
 #[cycle(push_path)]
-pub(crate) fn push_path(out: &mut Vec<u8>, path: &PathExpr) -> Result<(), AllocError> {
+pub(crate) fn push_path(out: &mut Vec<u8>, path: &PathExpr) -> Result<(), AllocError>
+    ensures { OnOk result (out.new.items ≡ out.old.items ++ (printed_path path.now).text) }
+{
     match path {
         PathExpr::Any => out.extend_from_slice(b"."),
         PathExpr::Empty => out.extend_from_slice(b"()"),
         PathExpr::One(member) => push_member(out, member),
         PathExpr::Class { negated, members } => push_class(out, *negated, members.as_slice()),
         PathExpr::Reference { name, .. } => push_reference(out, name),
-        PathExpr::Seq(parts) => push_parts(out, parts.as_slice(), Binding::Seq, b" "),
-        PathExpr::Alt(parts) => push_parts(out, parts.as_slice(), Binding::Alt, b" | "),
-        PathExpr::And(parts) => push_parts(out, parts.as_slice(), Binding::And, b" & "),
+        PathExpr::Seq(parts) => push_parts(out, parts.as_slice(), SEQ, b" "),
+        PathExpr::Alt(parts) => push_parts(out, parts.as_slice(), ALT, b" | "),
+        PathExpr::And(parts) => push_parts(out, parts.as_slice(), AND, b" & "),
         PathExpr::Not(part) => {
             out.extend_from_slice(b"!")?;
-            push_part(out, part.get(), Binding::Not)
+            push_part(out, part.get(), NOT)
         }
         PathExpr::Star(part) => push_postfix(out, part.get(), b"*"),
         PathExpr::Plus(part) => push_postfix(out, part.get(), b"+"),
@@ -57,8 +76,11 @@ pub(crate) fn push_path(out: &mut Vec<u8>, path: &PathExpr) -> Result<(), AllocE
 }
 
 /// Adds the part of an expression that binds so, in brackets where it would be read otherwise.
+#[tactic(auto, unfolding(crate::specs::Printed::within))]
 #[cycle(push_path)]
-fn push_part(out: &mut Vec<u8>, part: &PathExpr, above: Binding) -> Result<(), AllocError> {
+fn push_part(out: &mut Vec<u8>, part: &PathExpr, above: u8) -> Result<(), AllocError>
+    ensures { OnOk result (out.new.items ≡ out.old.items ++ within above (printed_path part.now)) }
+{
     if above < binding_of(part) {
         return push_path(out, part);
     }
@@ -68,8 +90,10 @@ fn push_part(out: &mut Vec<u8>, part: &PathExpr, above: Binding) -> Result<(), A
 }
 
 #[cycle(push_path)]
-fn push_postfix(out: &mut Vec<u8>, part: &PathExpr, mark: &[u8]) -> Result<(), AllocError> {
-    push_part(out, part, Binding::Postfix)?;
+fn push_postfix(out: &mut Vec<u8>, part: &PathExpr, mark: &[u8]) -> Result<(), AllocError>
+    ensures { OnOk result (out.new.items ≡ out.old.items ++ (within 5 (printed_path part.now) ++ mark.now)) }
+{
+    push_part(out, part, POSTFIX)?;
     out.extend_from_slice(mark)
 }
 
@@ -78,9 +102,11 @@ fn push_postfix(out: &mut Vec<u8>, part: &PathExpr, mark: &[u8]) -> Result<(), A
 fn push_parts(
     out: &mut Vec<u8>,
     parts: &[PathExpr],
-    above: Binding,
+    above: u8,
     between: &[u8],
-) -> Result<(), AllocError> {
+) -> Result<(), AllocError>
+    ensures { OnOk result (out.new.items ≡ out.old.items ++ joined between.now (λ part. within above (printed_path part)) parts.now) }
+{
     let Some((first, others)) = parts.split_first() else {
         return Ok(());
     };
@@ -92,51 +118,9 @@ fn push_parts(
     Ok(())
 }
 
-fn push_class(out: &mut Vec<u8>, negated: bool, members: &[Member]) -> Result<(), AllocError> {
-    out.extend_from_slice(class_opening(negated))?;
-    push_members(out, members)?;
-    out.extend_from_slice(b"]")
-}
-
-fn class_opening(negated: bool) -> &'static [u8] {
-    if negated { b"[^" } else { b"[" }
-}
-
-fn push_members(out: &mut Vec<u8>, members: &[Member]) -> Result<(), AllocError> {
-    let Some((first, others)) = members.split_first() else {
-        return Ok(());
-    };
-    push_member(out, first)?;
-    for member in others {
-        out.extend_from_slice(b" ")?;
-        push_member(out, member)?;
-    }
-    Ok(())
-}
-
-fn push_member(out: &mut Vec<u8>, member: &Member) -> Result<(), AllocError> {
-    match member {
-        Member::Here { name, .. } => push_name(out, name),
-        Member::Within { by, name, .. } => {
-            out.extend_from_slice(by_opening(*by))?;
-            push_name(out, name)?;
-            out.extend_from_slice(b")")
-        }
-        Member::Drop => out.extend_from_slice(b"drop"),
-        Member::Loop => out.extend_from_slice(b"loop"),
-    }
-}
-
-fn by_opening(by: By) -> &'static [u8] {
-    match by {
-        By::Interface => b"interface(",
-        By::Device => b"device(",
-        By::Group => b"group(",
-        By::Tag => b"tag(",
-    }
-}
-
-fn push_decimal(out: &mut Vec<u8>, n: u32) -> Result<(), AllocError> {
+fn push_decimal(out: &mut Vec<u8>, n: u32) -> Result<(), AllocError>
+    ensures { OnOk result (out.new.items ≡ out.old.items ++ decimal n) }
+{
     let text = format!(in *out.allocator(); "{n}")?;
     out.extend_from_slice(text.as_bytes())
 }
