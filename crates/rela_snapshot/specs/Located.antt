@@ -7,7 +7,7 @@ use Rattle.rela_snapshot.specs.declared.snapshot.Flow.{Flow}
 use Rattle.rela_graph.specs.Topology.{Topology, symbol_at}
 
 -- the node's symbol at the level is one of the locations of these names
-abbrev pub StandsAt : List (List ℕ) → Level → Node → Type 0
+unfoldable pub StandsAt : List (List ℕ) → Level → Node → Type 0
 StandsAt names level node = symbol_at level node < length names
 
 -- so is that of each node of the graph

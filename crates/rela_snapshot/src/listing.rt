@@ -61,7 +61,10 @@ impl Listing {
 }
 
 /// The node at the interface of this name.
-#[tactic(auto, unfolding(crate::specs::Interfaces::interfaces_in))]
+#[tactic(
+    auto,
+    unfolding(crate::specs::Interfaces::interfaces_in, crate::specs::Located::StandsAt)
+)]
 pub(crate) fn node_at(locations: &Locations, name: &[u8], row: u32) -> Result<Node, LoadError>
     ensures located { IfOk result (StandsAt (interfaces_in locations.now) Interface) }
 {

@@ -28,14 +28,29 @@ pub(crate) fn read_named(
     let nodes = few_entries(part(value, "nodes", 41, row)?, MAX_NODES, 46, row)?;
     let mut ids = NameTable::new(alloc);
     let nodes = read_nodes(alloc, locations, &mut ids, nodes, row)?;
+    list_named(alloc, nodes, &ids, value, row)
+}
+
+/// These nodes, of these ids, with what the flow lists of them.
+fn list_named(
+    alloc: Global,
+    nodes: Vec<Node>,
+    ids: &NameTable<'_>,
+    value: &Value,
+    row: u32,
+) -> Result<Listing, LoadError>
+    requires few { vec_len nodes ≤ MAX_NODES }
+    requires ids { length ids.now ≡ vec_len nodes }
+    ensures nodes { IfOk result (λ listing. listing.nodes ≡ nodes.items) }
+{
     let edges = few_entries(part(value, "edges", 41, row)?, MAX_EDGES, 50, row)?;
-    let edges = read_edges(alloc, &ids, edges, row)?;
+    let edges = read_edges(alloc, ids, edges, row)?;
     let starts = part(value, "starts", 41, row)?;
-    let starts = read_places(alloc, &ids, entries(starts, 52, row)?, 52, row)?;
+    let starts = read_places(alloc, ids, entries(starts, 52, row)?, 52, row)?;
     let delivered = part(value, "delivered", 41, row)?;
-    let delivered = read_optional_places(alloc, &ids, delivered, 53, row)?;
+    let delivered = read_optional_places(alloc, ids, delivered, 53, row)?;
     let dropped = part(value, "dropped", 41, row)?;
-    let dropped = read_optional_places(alloc, &ids, dropped, 54, row)?;
+    let dropped = read_optional_places(alloc, ids, dropped, 54, row)?;
     Ok(Listing {
         nodes,
         edges,

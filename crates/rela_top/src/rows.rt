@@ -33,6 +33,7 @@ pub fn rows_of(
 }
 
 /// The row of one flow.
+#[tactic(auto, unfolding(rela_snapshot::specs::Located::StandsAt))]
 pub fn row_of(
     alloc: Global,
     pair: &FlowPair,
