@@ -1,6 +1,6 @@
 //! A flow's graph as its file lists it.
 
-ghost use Rattle.std.specs.Prelude.{IfOk};
+ghost use Rattle.std.specs.Prelude.{◌<◌, IfSome, IfOk, length};
 ghost use Rattle.rela_snapshot.specs.Listed.{IsGraphOf};
 ghost use Rattle.rela_names.specs.declared.level.Level.TheVariants.{Interface};
 ghost use Rattle.rela_snapshot.specs.Interfaces.{interfaces_in};
@@ -9,7 +9,7 @@ ghost use Rattle.rela_snapshot.specs.Located.{StandsAt};
 use rela_graph::{Graph, Link, Node};
 use rela_json::LoadError;
 use rela_locations::Locations;
-use rela_names::Level;
+use rela_names::{Alphabet, Level, Symbol};
 use std::alloc::{AllocError, Global};
 use std::marker::Model;
 
@@ -61,20 +61,23 @@ impl Listing {
 }
 
 /// The node at the interface of this name.
-#[tactic(
-    auto,
-    unfolding(crate::specs::Interfaces::interfaces_in, crate::specs::Located::StandsAt)
-)]
 pub(crate) fn node_at(locations: &Locations, name: &[u8], row: u32) -> Result<Node, LoadError>
-    ensures located { IfOk result (StandsAt (interfaces_in locations.now) Interface) }
+    ensures { IfOk result (StandsAt (interfaces_in locations.now) Interface) }
 {
-    let interface = locations
-        .alphabet(Level::Interface)
-        .find(name)
-        .ok_or(LoadError::UnknownLocation { row })?;
+    let interfaces = locations.alphabet(Level::Interface);
+    let Some(interface) = find(interfaces, name) else {
+        return Err(LoadError::UnknownLocation { row });
+    };
     Ok(Node {
         interface,
         device: locations.lift(interface, Level::Device),
         group: locations.lift(interface, Level::Group),
     })
+}
+
+/// The interface of this name.
+fn find(interfaces: &Alphabet, name: &[u8]) -> Option<Symbol>
+    ensures { IfSome result (λ s. s < length interfaces.now) }
+{
+    interfaces.find(name)
 }
