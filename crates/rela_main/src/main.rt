@@ -3,10 +3,9 @@
 
 use rela_io::{DiskFiles, StdSink};
 use rela_top::{NO_MEMORY, run};
-use std::env;
-use std::rt::Env;
-use std::io;
 use std::process::ExitCode;
+use std::rt::Env;
+use std::{env, io};
 
 /// The status where the words of the command line can't be had as texts.
 const NO_WORDS: u8 = 8;

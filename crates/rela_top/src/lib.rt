@@ -12,7 +12,10 @@ mod running;
 mod verdict;
 mod words;
 
-pub use answer::{Answer, BAD_WORDS, MET, NO_MEMORY, READ_FAULT, REFUSED, UNDECIDED, VIOLATED, WRITE_FAULT, deliver};
+pub use answer::{
+    Answer, BAD_WORDS, MET, NO_MEMORY, READ_FAULT, REFUSED, UNDECIDED, VIOLATED, WRITE_FAULT,
+    deliver,
+};
 pub use loading::{load_locations, load_snapshot, load_spec, pair_halt};
 pub use plain::{PlainCheck, read_plain};
 pub use reading::{Halt, MAX_FILE_BYTES, read_input};

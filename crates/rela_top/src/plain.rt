@@ -23,7 +23,11 @@ pub struct PlainCheck {
 ///
 /// `BadToken` where no token begins; else `NotBuilt` at 0 for any other form; else
 /// `UnknownLocation` at the first name of the word that no interface has; `Memory`.
-pub fn read_plain(alloc: Global, text: &[u8], interfaces: &Alphabet) -> Result<PlainCheck, SpecError>
+pub fn read_plain(
+    alloc: Global,
+    text: &[u8],
+    interfaces: &Alphabet,
+) -> Result<PlainCheck, SpecError>
     requires { length text.now ≤ 33554432 }
     ensures { IfOk result (λ check. All (λ s. s < path_symbols interfaces.now) check.word.items) }
 {
@@ -59,7 +63,11 @@ fn plain_parts(tokens: &[Token]) -> Option<(&Name, &[Token])> {
         && is_mark(semicolon, b';')
         && !zone.is_empty()
         && zone.iter().all(|token| name_of(token).is_some());
-    if fits { Some((name_of(name)?, zone)) } else { None }
+    if fits {
+        Some((name_of(name)?, zone))
+    } else {
+        None
+    }
 }
 
 fn symbol_of(token: &Token, interfaces: &Alphabet) -> Result<Symbol, SpecError>
@@ -97,9 +105,36 @@ fn name_of(token: &Token) -> Option<&Name> {
 }
 
 const KEYWORDS: [&str; 30] = [
-    "level", "path", "spec", "check", "for", "interface", "device", "group", "tag", "preserve", "add", "remove",
-    "replace", "drop", "any", "loop", "then", "else", "all", "dst", "src", "in", "overlaps", "flow", "class", "not",
-    "and", "or", "atmost", "ignore",
+    "level",
+    "path",
+    "spec",
+    "check",
+    "for",
+    "interface",
+    "device",
+    "group",
+    "tag",
+    "preserve",
+    "add",
+    "remove",
+    "replace",
+    "drop",
+    "any",
+    "loop",
+    "then",
+    "else",
+    "all",
+    "dst",
+    "src",
+    "in",
+    "overlaps",
+    "flow",
+    "class",
+    "not",
+    "and",
+    "or",
+    "atmost",
+    "ignore",
 ];
 
 fn is_keyword(word: &[u8]) -> bool {

@@ -141,11 +141,7 @@ fn at_offset(alloc: Global, refusal: &str, at: u32) -> Result<String, AllocError
 }
 
 #[tactic(auto, unfolding(crate::specs::Refusal::differs_text))]
-fn differs_text(
-    alloc: Global,
-    before: &FlowClass,
-    after: &FlowClass,
-) -> Result<Vec<u8>, AllocError>
+fn differs_text(alloc: Global, before: &FlowClass, after: &FlowClass) -> Result<Vec<u8>, AllocError>
     ensures { IfOk result (λ text. text.items ≡ differs_text before.now after.now) }
 {
     let mut text = Vec::new(alloc);

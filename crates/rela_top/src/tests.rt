@@ -5,17 +5,22 @@ use rela_io::{MemoryFile, MemoryFiles, MemorySink};
 use std::alloc::{AllocError, Global};
 use std::test::Fail;
 
-const LOCATIONS: &str = r#"{"version":1,"groups":[{"name":"core","devices":[{"name":"r2","interfaces":["r2:0"]},{"name":"r3","interfaces":["r3:0"]}]},{"name":"edge","devices":[{"name":"r1","tags":["border"],"interfaces":["r1:0"]},{"name":"r4","interfaces":["r4:0","r4:1"]}]}]}"#;
+const LOCATIONS: &str =
+    r#"{"version":1,"groups":[{"name":"core","devices":[{"name":"r2","interfaces":["r2:0"]},{"name":"r3","interfaces":["r3:0"]}]},{"name":"edge","devices":[{"name":"r1","tags":["border"],"interfaces":["r1:0"]},{"name":"r4","interfaces":["r4:0","r4:1"]}]}]}"#;
 
-const OVER_R2: &str = r#"{"version":1,"flows":[{"name":"f1","dst":"10.0.0.0/24","nodes":["r1:0","r2:0","r4:0","r4:1"],"edges":[[0,1],[1,2],[2,3]],"starts":[0],"delivered":[3]}]}"#;
+const OVER_R2: &str =
+    r#"{"version":1,"flows":[{"name":"f1","dst":"10.0.0.0/24","nodes":["r1:0","r2:0","r4:0","r4:1"],"edges":[[0,1],[1,2],[2,3]],"starts":[0],"delivered":[3]}]}"#;
 
-const OVER_R3: &str = r#"{"version":1,"flows":[{"name":"f1","dst":"10.0.0.0/24","nodes":["r1:0","r3:0","r4:0","r4:1"],"edges":[[0,1],[1,2],[2,3]],"starts":[0],"delivered":[3]}]}"#;
+const OVER_R3: &str =
+    r#"{"version":1,"flows":[{"name":"f1","dst":"10.0.0.0/24","nodes":["r1:0","r3:0","r4:0","r4:1"],"edges":[[0,1],[1,2],[2,3]],"starts":[0],"delivered":[3]}]}"#;
 
 const KEEP: &str = "check c1 : { r1:0 r2:0 r4:0 r4:1 : preserve };";
 
-const COMPLIANT: &str = "flow f1 check c1 compliant\ntotal 1 compliant 1 violated 0 undecided 0 unselected 0\n";
+const COMPLIANT: &str =
+    "flow f1 check c1 compliant\ntotal 1 compliant 1 violated 0 undecided 0 unselected 0\n";
 
-const LOST: &str = "flow f1 check c1 violated\n  missing: r1:0 r2:0 r4:0 r4:1\n  before: r1:0 r2:0 r4:0 r4:1\ntotal 1 compliant 0 violated 1 undecided 0 unselected 0\n";
+const LOST: &str =
+    "flow f1 check c1 violated\n  missing: r1:0 r2:0 r4:0 r4:1\n  before: r1:0 r2:0 r4:0 r4:1\ntotal 1 compliant 0 violated 1 undecided 0 unselected 0\n";
 
 fn strings(alloc: Global, texts: &[&str]) -> Result<Vec<String>, AllocError> {
     let mut strings = Vec::new(alloc);
@@ -85,8 +90,16 @@ fn a_failed_write_ends_the_text(rt: HostRuntime) -> Result<(), Fail> {
 fn refuses_what_it_cannot_take(rt: HostRuntime) -> Result<(), Fail> {
     let alloc = rt.alloc();
     for (after, spec, line) in [
-        (OVER_R2, "check c1 : { .* : preserve };", "refused spec 40 NotBuilt at 0\n"),
-        (OVER_R2, "check c1 : { r1:0 r9:0 : preserve };", "refused spec 17 UnknownLocation at 18\n"),
+        (
+            OVER_R2,
+            "check c1 : { .* : preserve };",
+            "refused spec 40 NotBuilt at 0\n",
+        ),
+        (
+            OVER_R2,
+            "check c1 : { r1:0 r9:0 : preserve };",
+            "refused spec 17 UnknownLocation at 18\n",
+        ),
         (OVER_R2, "check c1 % ;", "refused spec 31 BadToken at 9\n"),
         ("{", KEEP, "refused after 11 NotJson\n"),
     ] {

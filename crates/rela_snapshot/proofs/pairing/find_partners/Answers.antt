@@ -7,10 +7,10 @@ pub loop-flow-preserved : goal.loop-flow-preserved
 loop-flow-preserved c = record {
   len = c.put.ensures.len ∙ c.loop-flow.invariant.len;
   located = λ names level each.
-    let so_far = c.loop-flow.invariant.located names level each in
-    let popped = All-pop (λ flow. IsLocated names level flow.graph) c.loop-flow.after.items c.pop.new.self.items (Some c.in-Some.flow) c.in-Some.ensures.items so_far.0 in
-    let kept = c.put.ensures.located names level popped.1 so_far.1 so_far.2 in
-    (popped.0, kept.0, kept.1);
+      let so_far = c.loop-flow.invariant.located names level each in
+      let popped = All-pop (λ flow. IsLocated names level flow.graph) c.loop-flow.after.items c.pop.new.self.items (Some c.in-Some.flow) c.in-Some.ensures.items so_far.0 in
+      let kept = c.put.ensures.located names level popped.1 so_far.1 so_far.2 in
+      (popped.0, kept.0, kept.1);
 }
 
 pub returns-clause-located : goal.returns-clause-located

@@ -8,7 +8,7 @@ abbrev pub invariant-loop-flow : goal.invariant-loop-flow
 invariant-loop-flow l = record {
   len : vec_len l.partners.found ≡ vec_len l.before;
   located : (names : List (List ℕ)) (level : Level) → AreLocated names level l.fn.after.items →
-    AreLocated names level l.after.items × AreFoundLocated names level l.partners.found.items × AreLocated names level l.partners.others.items;
+      AreLocated names level l.after.items × AreFoundLocated names level l.partners.found.items × AreLocated names level l.partners.others.items;
 }
 
 abbrev pub decreases-loop-flow : goal.decreases-loop-flow

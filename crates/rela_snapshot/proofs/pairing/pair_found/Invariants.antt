@@ -8,7 +8,7 @@ abbrev pub invariant-loop-flow : goal.invariant-loop-flow
 invariant-loop-flow l = record {
   few : vec_len l.pairs + vec_len l.before ≤ 10000;
   located : (names : List (List ℕ)) (level : Level) → AreLocated names level l.fn.before.items → AreFoundLocated names level l.fn.found.items →
-    AreLocated names level l.before.items × AreFoundLocated names level l.found.items × ArePairsLocated names level l.pairs.items;
+      AreLocated names level l.before.items × AreFoundLocated names level l.found.items × ArePairsLocated names level l.pairs.items;
 }
 
 abbrev pub decreases-loop-flow : goal.decreases-loop-flow
