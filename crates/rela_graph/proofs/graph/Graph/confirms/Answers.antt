@@ -18,11 +18,11 @@ returns-then-eq c =
       | then-is_full-2 w ↦ elim c.if-is_full.branch [
         | then-is_full v ↦
             let same : behind.places ≡ ahead.places =
-                sym w.places.ensures.places ∙ (bytes_eq-Decides w.places.result.now w.places-then-is_full-2.result.now).0 (sym w.eq.ensures ∙ sym w.value-is ∙ c.if-eq.true)
-                ∙ w.places-then-is_full-2.ensures.places in
+            sym w.places.ensures.places ∙ (bytes_eq-Decides w.places.result.now w.places-then-is_full-2.result.now).0 (sym w.eq.ensures ∙ sym w.value-is ∙ c.if-eq.true)
+            ∙ w.places-then-is_full-2.ensures.places in
             let all_behind : (n : ℕ) → n < length g.nodes → Contains behind.nodes n = rw c.requires.behind_count at (c.is_full.ensures v.if-is_full.true) in
             let all_ahead : (n : ℕ) → n < length g.nodes → Contains ahead.nodes n =
-                rw c.requires.ahead_count at (v.is_full-then-is_full.ensures (sym v.value-is ∙ w.if-is_full-2.true)) in
+            rw c.requires.ahead_count at (v.is_full-then-is_full.ensures (sym v.value-is ∙ w.if-is_full-2.true)) in
             on_true_then c.ascends.result ascending (AreComponents g behind.places)
             (confirmed g behind ahead c.requires.roots same (c.places-then-eq.ensures.len ∙ c.requires.behind_count) all_behind all_ahead c.requires.behind c.requires.ahead)
             (rw (← c.places-then-eq.ensures.places, ← c.edges.ensures.edges) c.ascends.ensures)

@@ -17,10 +17,10 @@ loop-n-preserved c =
     record {
       len = search rules;
       flags = rw c.in_ok-push.ensures.items
-        (each_pushed false (λ m b. IsTrue b ↔ IsCyclic g m) c.loop-n.cyclic.items c.loop-n.n c.any_leads_into.result c.loop-n.invariant.len c.loop-n.invariant.flags
+          (each_pushed false (λ m b. IsTrue b ↔ IsCyclic g m) c.loop-n.cyclic.items c.loop-n.n c.any_leads_into.result c.loop-n.invariant.len c.loop-n.invariant.flags
           (both_then c.any_leads_into.ensures
-            (returns_within g c.args.components.now c.requires c.nodes-count.ensures.topology c.loop-n.n c.edges_from-edges.result.now node c.edges_from-edges.ensures.each
-              c.edges_from-edges.ensures.all)));
+          (returns_within g c.args.components.now c.requires c.nodes-count.ensures.topology c.loop-n.n c.edges_from-edges.result.now node c.edges_from-edges.ensures.each
+          c.edges_from-edges.ensures.all)));
     }
 
 count_is : (c : goal.After-loop-n) → length c.loop-n.cyclic.items ≡ length c.args.self.now.nodes
