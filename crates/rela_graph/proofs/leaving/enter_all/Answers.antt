@@ -1,4 +1,4 @@
-use Rattle.std.proofs.Common.{◌≡◌, ◌++◌, ◌∷◌, [], List, get_or, take, map, ap, sym, ◌∙◌}
+use Rattle.std.proofs.Common.{◌++◌, ◌∷◌, [], get_or, take, map, ap, sym, ◌∙◌}
 use Rattle.std.proofs.lemmas.List.{append_assoc, map_more, take_all}
 use Rattle.rela_graph.specs.declared.node.Link.{Link}
 use Rattle.rela_graph.specs.declared.leaving.Visit.{Visit}

@@ -1,5 +1,4 @@
-use Rattle.std.proofs.Common.{◌<◌, ◌≡◌, length, get_or, ap, sym, ◌∙◌, inl, refl, arith}
-use Rattle.rela_graph.specs.Component.{Reaches}
+use Rattle.std.proofs.Common.{◌<◌, ◌≡◌, length, get_or, ap, inl, refl, arith}
 use Rattle.rela_graph.proofs.Claiming.{claim_ahead}
 use Rattle.rela_graph.proofs.graph.Graph.claim_ahead.Goals as goal
 

@@ -1,9 +1,8 @@
-use Rattle.std.proofs.Common.{◌<◌, ◌≡◌, ℕ, Option, None, Some, length, get_or, ap, sym, ◌∙◌, arith}
+use Rattle.std.proofs.Common.{◌<◌, ◌≡◌, ℕ, None, Some, length, get_or, ap, sym, ◌∙◌, arith}
 use Rattle.std.specs.Prelude.{slice_index}
-use Rattle.std.specs.List.{Contains}
 use Rattle.std.proofs.lemmas.List.{get_or_default}
 use Rattle.std.proofs.lemmas.List.Elements.{All-contains}
-use Rattle.rela_graph.specs.Component.{SameFrame, Reaches}
+use Rattle.rela_graph.specs.Component.{Reaches}
 use Rattle.rela_graph.specs.Topology.{HasEdge, JoinsNodes}
 use Rattle.rela_graph.specs.declared.node.Link.{Link}
 use Rattle.rela_graph.proofs.Chaining.{chain_falls}

@@ -1,6 +1,6 @@
-use Rattle.std.proofs.Common.{◌<◌, ◌≡◌, length, get_or, ap, ◌∙◌, arith}
+use Rattle.std.proofs.Common.{◌<◌, length, get_or, arith}
 use Rattle.std.specs.Prelude.{slice_index}
-use Rattle.rela_graph.specs.Component.{SameFrame, Reaches}
+use Rattle.rela_graph.specs.Component.{Reaches}
 use Rattle.rela_graph.specs.declared.node.Link.{Link}
 use Rattle.rela_graph.proofs.Claiming.{frame_then, claim_ahead, reach_on}
 use Rattle.rela_graph.proofs.graph.Graph.claim_targets.Goals as goal

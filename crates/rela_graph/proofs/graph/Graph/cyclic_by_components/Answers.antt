@@ -1,4 +1,4 @@
-use Rattle.std.proofs.Common.{◌≡◌, ◌↔◌, ◌+◌, ◌<◌, ℕ, length, false, ap, arith, rules}
+use Rattle.std.proofs.Common.{◌≡◌, ◌↔◌, ◌<◌, length, false, ap, arith, rules}
 use Rattle.std.specs.Prelude.{IsTrue}
 use Rattle.rela_graph.specs.Walk.{IsCyclic}
 use Rattle.rela_graph.proofs.Arriving.{both_then}

@@ -1,5 +1,4 @@
-use Rattle.std.proofs.Common.{◌<◌, ℕ, length, Some}
-use Rattle.std.specs.List.{All}
+use Rattle.std.proofs.Common.{◌<◌, length, Some}
 use Rattle.std.proofs.lemmas.List.Elements.{All-pop, All-push}
 use Rattle.rela_graph.specs.Visit.{node_of}
 use Rattle.rela_graph.specs.declared.leaving.Visit.{Visit}

@@ -1,4 +1,4 @@
-use Rattle.std.proofs.Common.{◌≡◌, ◌+◌, ◌<◌, ◌++◌, ◌∷◌, [], Option, None, Some, ℕ, List, length, get_or, set, replicate, arith, ap, sym, ◌∙◌, rules}
+use Rattle.std.proofs.Common.{◌≡◌, ◌<◌, ◌++◌, ◌∷◌, [], None, Some, length, get_or, replicate, arith, ap, ◌∙◌, rules}
 use Rattle.std.proofs.lemmas.List.{get_or_default, length-set}
 use Rattle.rela_graph.specs.declared.node.Link.{Link}
 use Rattle.rela_graph.proofs.Chaining.{no_chain, one_chained}
