@@ -8,7 +8,7 @@ use Rattle.std.proofs.lemmas.Grind.{flat_map-append}
 use Rattle.rela_locations.specs.Names.{has_name}
 use Rattle.rela_locations.specs.Network.{Device, Network, devices_in}
 use Rattle.rela_locations.specs.Tables.{AreKnown, device_names, interface_names}
-use Rattle.rela_locations.proofs.Bools.{or_true}
+use Rattle.rela_locations.proofs.Bools.{or_true, or_false}
 use Rattle.rela_locations.proofs.NameSets.{name_is_itself}
 
 -- a field of what stands at place k
@@ -55,3 +55,10 @@ pub added_more : {X A : Type 0} (f : X → List A) (xs : List X) (k : ℕ) (x : 
     → before ≡ old ++ flat_map f (take k xs) → new ≡ before ++ f x → new ≡ old ++ flat_map f (take (k + 1) xs)
 added_more f xs k x old before new within is made added =
     added ∙ ap (λ ys. ys ++ f x) made ∙ append_assoc old (flat_map f (take k xs)) (f x) ∙ ap (λ ys. old ++ ys) (sym (flat_map_more f xs k x within is))
+
+-- a test of one more
+pub any_more : {X : Type 0} (p : X → Bool) (xs : List X) (k : ℕ) (x : X) → k < length xs → x ≡ get_or xs k x
+    → list_any p (take (k + 1) xs) ≡ (list_any p (take k xs) || p x)
+any_more p xs k x within is =
+    let front : take (k + 1) xs ≡ take k xs ++ x ∷ [] = rw (take_more xs k x within) (ap (λ y. take k xs ++ y ∷ []) (sym is)) in
+    ap (list_any p) front ∙ list_any-append p (take k xs) (x ∷ []) ∙ ap (λ b. list_any p (take k xs) || b) (or_false (p x))

@@ -13,3 +13,4 @@ pub mod Relations
 pub mod Lookups
 pub mod TableLaws
 pub mod OwnNames
+pub mod TagLaws

@@ -1,6 +1,11 @@
 -- What is kept of a network beside its list of groups.
 use Rattle.std.specs.Prelude.{◌≡◌, ℕ, ◌<◌, ◌==◌, true, false, List, [], ◌∷◌, length, map, filter, fold, slice_set, slice_index, replicate}
-use Rattle.std.specs.List.{flat_map, position_or_len, range_with_len}
+use Rattle.std.specs.BTreeMap.{BTreeMap, get}
+use Rattle.std.specs.Option.{option_map_or}
+use Rattle.std.specs.Prelude.{Vec, is_some, ◌&&◌, Bool}
+use Rattle.std.specs.declared.alloc.Global.{Global}
+use Rattle.rela_names.specs.Name.{bytes_cmp}
+use Rattle.std.specs.List.{list_any, flat_map, position_or_len, range_with_len}
 use Rattle.rela_names.specs.Name.{IsAscending}
 use Rattle.rela_names.specs.declared.level.Level.{Level}
 use Rattle.rela_names.specs.declared.level.Level.TheVariants as level
@@ -67,6 +72,22 @@ pub record IsNamedOnce (network : Network) : Type 0 where
   pub groups : AreNew [] (map (λ group. group.name) network)
   pub devices : AreNew [] (device_names (devices_in network))
   pub interfaces : AreNew [] (interface_names (devices_in network))
+
+abbrev pub has_number : List ℕ → ℕ → Bool
+has_number numbers n = list_any (λ m. m == n) numbers
+
+-- the devices that a map has for a tag
+abbrev pub devices_for : BTreeMap (List ℕ) (Vec ℕ Global) → List ℕ → List ℕ
+devices_for tagged tag = option_map_or (λ list. list.items) (get bytes_cmp tagged tag) []
+
+-- whether one of these devices has this number and this tag
+abbrev pub is_tagged : List (List ℕ) → List Device → List ℕ → ℕ → Bool
+is_tagged alphabet devices tag n = list_any (λ device. has_name device.tags tag && (index_of alphabet device.name == n)) devices
+
+-- a map has the devices with each tag
+pub record AreTagged (alphabet : List (List ℕ)) (devices : List Device) (tagged : BTreeMap (List ℕ) (Vec ℕ Global)) : Type 0 where
+  pub with_tag : (tag : List ℕ) (n : ℕ) → has_number (devices_for tagged tag) n ≡ is_tagged alphabet devices tag n
+  pub tags : (tag : List ℕ) → is_some (get bytes_cmp tagged tag) ≡ has_name (flat_map (λ device. device.tags) devices) tag
 
 pub record AreTables (network : Network) (tables : Tables) : Type 0 where
   pub interfaces_in_devices : IsContainment level.Interface level.Device network tables.interfaces_in_devices
