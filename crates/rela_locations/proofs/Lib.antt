@@ -1,2 +1,16 @@
+pub mod Bools
+pub mod LoadLaws
 pub mod Loops
 pub mod NameOrder
+pub mod NameSets
+pub mod PairLaws
+pub mod Writes
+pub mod Indexes
+pub mod Parents
+pub mod Known
+pub mod Places
+pub mod Relations
+pub mod Lookups
+pub mod TableLaws
+pub mod OwnNames
+pub mod TagLaws

@@ -1,6 +1,6 @@
 -- A network, and what lies where in it.
-use Rattle.std.specs.Prelude.{ℕ, Bool, true, false, List, [], length, map, filter, position, Option, slice_index_or}
-use Rattle.std.specs.List.{flat_map, range_with_len}
+use Rattle.std.specs.Prelude.{ℕ, Bool, true, false, List, [], length, map, filter, slice_index_or}
+use Rattle.std.specs.List.{flat_map, position_or_len, range_with_len}
 use Rattle.std.specs.Str.{bytes_eq}
 use Rattle.rela_names.specs.declared.level.Level.{Level}
 use Rattle.rela_names.specs.declared.level.Level.TheVariants as level
@@ -37,6 +37,10 @@ alphabet_of at network = ascending (names_at at network)
 -- the name of a symbol of a level
 abbrev pub name_of : Level → Network → ℕ → List ℕ
 name_of at network symbol = slice_index_or (alphabet_of at network) symbol []
+
+-- the place of a name among these
+abbrev pub index_of : List (List ℕ) → List ℕ → ℕ
+index_of names name = position_or_len (bytes_eq name) names
 
 -- the network with some of its devices alone
 abbrev pub with_devices : (List Device → List Device) → Network → Network
@@ -85,7 +89,7 @@ by_level level.Interface = by.Interface
 by_level level.Device = by.Device
 by_level level.Group = by.Group
 
--- the location of a level in which an interface lies
-abbrev pub location_of : Level → Network → ℕ → Option ℕ
+-- the symbol of the location of a level in which an interface lies
+abbrev pub location_of : Level → Network → ℕ → ℕ
 location_of at network interface =
-    position (λ place. has_name (names_at level.Interface (within (by_level at) place network)) (name_of level.Interface network interface)) (alphabet_of at network)
+    position_or_len (λ place. has_name (names_at level.Interface (within (by_level at) place network)) (name_of level.Interface network interface)) (alphabet_of at network)

@@ -3,12 +3,15 @@
 #![tactic(auto)]
 
 mod alphabets;
+mod containment;
 mod locations;
 mod members;
 mod name_set;
 mod network;
+mod pairs;
 mod parts;
 mod tables;
+mod tags;
 mod walk;
 
 pub use locations::Locations;

@@ -1,6 +1,6 @@
 //! The locations of a network, and what is asked of them.
 
-ghost use Rattle.std.specs.Prelude.{◌≡◌, ◌≢◌, ◌≤◌, Ok, Err, IfOk, IfErr, length};
+ghost use Rattle.std.specs.Prelude.{◌≡◌, ◌≢◌, ◌<◌, ◌≤◌, Ok, Err, IfOk, IfErr, length};
 
 use crate::alphabets::Alphabets;
 use crate::members::{By, MemberError};
@@ -22,17 +22,18 @@ pub struct Locations {
 
 impl Model for Locations {
     ghost use Rattle.rela_locations.specs.Network.{Network};
-    ghost use Rattle.rela_locations.specs.Tables.{AreAlphabets};
+    ghost use Rattle.rela_locations.specs.Tables.{IsIndexed};
 
     ghost Value = { Network };
 
     ghost view = { λ locations. locations.groups };
 
-    ghost invariant = { λ locations. AreAlphabets locations.groups locations.alphabets };
+    ghost invariant = { λ locations. IsIndexed locations.groups locations.alphabets locations.tables };
 }
 
 impl Locations {
-    ghost use Rattle.rela_locations.specs.Network.{alphabet_of};
+    ghost use Rattle.rela_names.specs.declared.level.Level.TheVariants as levels;
+    ghost use Rattle.rela_locations.specs.Network.{alphabet_of, location_of};
     ghost use Rattle.rela_locations.specs.Load.{Load};
 
     /// The locations that a file in JSON lists.
@@ -69,11 +70,15 @@ impl Locations {
     }
 
     /// The location of a level in which an interface lies, in constant time.
-    pub fn lift(&self, interface: Symbol, level: Level) -> Symbol {
+    pub fn lift(&self, interface: Symbol, level: Level) -> Symbol
+        requires { interface < length (alphabet_of levels.Interface self.now) }
+        ensures lifted { result ≡ location_of level self.now interface }
+        ensures location { result < length (alphabet_of level self.now) }
+    {
         match level {
             Level::Interface => interface,
-            Level::Device => at(&self.tables.device_of, interface),
-            Level::Group => at(&self.tables.group_of, interface),
+            Level::Device => self.tables.interfaces_in_devices.outer[interface as usize],
+            Level::Group => self.tables.interfaces_in_groups.outer[interface as usize],
         }
     }
 
@@ -122,7 +127,7 @@ impl Locations {
         match level {
             Level::Interface => {
                 let symbol = find(&self.alphabets.devices, name)?;
-                Ok(list_at(alloc, &self.tables.interfaces_of_device, symbol)?)
+                Ok(list_at(alloc, &self.tables.interfaces_in_devices.inner, symbol)?)
             }
             Level::Device => {
                 let symbol = find(&self.alphabets.devices, name)?;
@@ -140,8 +145,12 @@ impl Locations {
     ) -> Result<Vec<Symbol>, MemberError> {
         let symbol = find(&self.alphabets.groups, name)?;
         match level {
-            Level::Interface => Ok(list_at(alloc, &self.tables.interfaces_of_group, symbol)?),
-            Level::Device => Ok(list_at(alloc, &self.tables.devices_of_group, symbol)?),
+            Level::Interface => Ok(list_at(
+                alloc,
+                &self.tables.interfaces_in_groups.inner,
+                symbol,
+            )?),
+            Level::Device => Ok(list_at(alloc, &self.tables.devices_in_groups.inner, symbol)?),
             Level::Group => Ok(single(alloc, symbol)?),
         }
     }
@@ -162,7 +171,7 @@ impl Locations {
         for device in devices {
             match level {
                 Level::Interface => {
-                    let inside = list_at(alloc, &self.tables.interfaces_of_device, *device)?;
+                    let inside = list_at(alloc, &self.tables.interfaces_in_devices.inner, *device)?;
                     symbols.extend_from_slice(inside.as_slice())?;
                 }
                 Level::Device | Level::Group => symbols.push(*device)?,
@@ -179,10 +188,6 @@ fn find(alphabet: &Alphabet, name: &Name) -> Result<Symbol, MemberError> {
 
 fn single(alloc: Global, symbol: Symbol) -> Result<Vec<Symbol>, AllocError> {
     Vec::from_slice(alloc, &[symbol])
-}
-
-fn at(table: &Vec<Symbol>, symbol: Symbol) -> Symbol {
-    table.get(symbol as usize).copied().unwrap_or(0)
 }
 
 fn list_at(

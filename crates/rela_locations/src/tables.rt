@@ -1,26 +1,25 @@
 //! Which locations lie in which, by their symbols.
 
-use crate::alphabets::Alphabets;
-use crate::network::{DeviceEntry, GroupEntry};
-use rela_names::{Alphabet, Name, Symbol};
-use std::alloc::{AllocError, Global};
-use std::collections::BTreeMap;
+ghost use Rattle.std.specs.Prelude.{◌≡◌, ◌≤◌, length, IfOk};
+ghost use Rattle.rela_names.specs.Name.{IsAscending};
+ghost use Rattle.rela_names.specs.declared.level.Level.TheVariants as level;
+ghost use Rattle.rela_locations.specs.Tables.{AreAlphabets, IsNamedOnce, IsContainment, AreTables};
 
-/// Which locations lie in which, by their symbols. Each list ascends.
+use crate::alphabets::Alphabets;
+use crate::containment::Containment;
+use crate::network::GroupEntry;
+use crate::pairs::{devices_with_groups, interfaces_with_devices, interfaces_with_groups};
+use crate::tags::{Tagged, tagged_devices};
+use rela_names::Alphabet;
+use std::alloc::{AllocError, Global};
+
+/// Which locations lie in which, by their symbols.
 #[derive(Drop)]
 pub(crate) struct Tables {
-    /// The device of each interface.
-    pub(crate) device_of: Vec<Symbol>,
-    /// The group of each interface.
-    pub(crate) group_of: Vec<Symbol>,
-    /// The interfaces of each device.
-    pub(crate) interfaces_of_device: Vec<Vec<Symbol>>,
-    /// The interfaces of each group.
-    pub(crate) interfaces_of_group: Vec<Vec<Symbol>>,
-    /// The devices of each group.
-    pub(crate) devices_of_group: Vec<Vec<Symbol>>,
-    /// The devices with each tag.
-    pub(crate) tagged: BTreeMap<Name, Vec<Symbol>>,
+    pub(crate) interfaces_in_devices: Containment,
+    pub(crate) interfaces_in_groups: Containment,
+    pub(crate) devices_in_groups: Containment,
+    pub(crate) tagged: Tagged,
 }
 
 impl Tables {
@@ -29,110 +28,70 @@ impl Tables {
         alloc: Global,
         alphabets: &Alphabets,
         groups: &[GroupEntry],
-    ) -> Result<Tables, AllocError> {
-        let interfaces = alphabets.interfaces.drop_symbol() as usize;
-        let device_count = alphabets.devices.drop_symbol() as usize;
-        let group_count = alphabets.groups.drop_symbol() as usize;
-        let mut tables = Tables {
-            device_of: Vec::from_elem(alloc, 0, interfaces)?,
-            group_of: Vec::from_elem(alloc, 0, interfaces)?,
-            interfaces_of_device: empty_lists(alloc, device_count)?,
-            interfaces_of_group: empty_lists(alloc, group_count)?,
-            devices_of_group: empty_lists(alloc, group_count)?,
-            tagged: BTreeMap::new(alloc),
-        };
-        for group in groups {
-            tables.add_group(alloc, alphabets, group)?;
-        }
-        Ok(tables)
-    }
-
-    fn add_group(
-        &mut self,
-        alloc: Global,
-        alphabets: &Alphabets,
-        group: &GroupEntry,
-    ) -> Result<(), AllocError> {
-        let Some(at) = alphabets.groups.find(group.name.as_bytes()) else {
-            return Ok(());
-        };
-        let mut devices = Vec::new(alloc);
-        let mut interfaces = Vec::new(alloc);
-        for device in group.devices.as_slice() {
-            if let Some(symbol) = alphabets.devices.find(device.name.as_bytes()) {
-                devices.push(symbol)?;
-                let inside = symbols_of(
-                    alloc,
-                    &alphabets.interfaces,
-                    device.interfaces.as_slice(),
-                )?;
-                interfaces.extend_from_slice(inside.as_slice())?;
-                self.add_tags(alloc, device, symbol)?;
-                set_each(&mut self.device_of, inside.as_slice(), symbol);
-                put(&mut self.interfaces_of_device, symbol, inside);
-            }
-        }
-        devices.sort_unstable();
-        interfaces.sort_unstable();
-        set_each(&mut self.group_of, interfaces.as_slice(), at);
-        put(&mut self.devices_of_group, at, devices);
-        put(&mut self.interfaces_of_group, at, interfaces);
-        Ok(())
-    }
-
-    fn add_tags(
-        &mut self,
-        alloc: Global,
-        device: &DeviceEntry,
-        symbol: Symbol,
-    ) -> Result<(), AllocError> {
-        for tag in device.tags.as_slice() {
-            let devices = self
-                .tagged
-                .entry(tag.copy(alloc)?)?
-                .or_insert(Vec::new(alloc));
-            if devices.last().copied() != Some(symbol) {
-                devices.push(symbol)?;
-            }
-        }
-        Ok(())
+    ) -> Result<Tables, AllocError>
+        requires alphabets { AreAlphabets groups.now alphabets.now }
+        requires once { IsNamedOnce groups.now }
+        ensures { IfOk result (λ tables. AreTables groups.now tables) }
+    {
+        Ok(Tables {
+            interfaces_in_devices: interfaces_in_devices(alloc, alphabets, groups)?,
+            interfaces_in_groups: interfaces_in_groups(alloc, alphabets, groups)?,
+            devices_in_groups: devices_in_groups(alloc, alphabets, groups)?,
+            tagged: tagged_devices(alloc, &alphabets.devices, groups)?,
+        })
     }
 }
 
-fn empty_lists(alloc: Global, n: usize) -> Result<Vec<Vec<Symbol>>, AllocError> {
-    let mut lists = Vec::with_capacity(alloc, n)?;
-    for _ in 0..n {
-        lists.push(Vec::new(alloc))?;
-    }
-    Ok(lists)
-}
-
-/// The symbols of these names, ascending.
-fn symbols_of(
+fn interfaces_in_devices(
     alloc: Global,
-    alphabet: &Alphabet,
-    names: &[Name],
-) -> Result<Vec<Symbol>, AllocError> {
-    let mut symbols = Vec::with_capacity(alloc, names.len())?;
-    for name in names {
-        if let Some(symbol) = alphabet.find(name.as_bytes()) {
-            symbols.push(symbol)?;
-        }
-    }
-    symbols.sort_unstable();
-    Ok(symbols)
+    alphabets: &Alphabets,
+    groups: &[GroupEntry],
+) -> Result<Containment, AllocError>
+    requires alphabets { AreAlphabets groups.now alphabets.now }
+    requires once { IsNamedOnce groups.now }
+    ensures { IfOk result (λ made. IsContainment level.Interface level.Device groups.now made) }
+{
+    let pairs = interfaces_with_devices(alloc, alphabets, groups)?;
+    let inner = count_of(&alphabets.interfaces);
+    let outer = count_of(&alphabets.devices);
+    Containment::new(alloc, pairs.as_slice(), inner, outer)
 }
 
-fn set_each(table: &mut Vec<Symbol>, at: &[Symbol], value: Symbol) {
-    for symbol in at {
-        if let Some(entry) = table.get_mut(*symbol as usize) {
-            *entry = value;
-        }
-    }
+fn interfaces_in_groups(
+    alloc: Global,
+    alphabets: &Alphabets,
+    groups: &[GroupEntry],
+) -> Result<Containment, AllocError>
+    requires alphabets { AreAlphabets groups.now alphabets.now }
+    requires once { IsNamedOnce groups.now }
+    ensures { IfOk result (λ made. IsContainment level.Interface level.Group groups.now made) }
+{
+    let pairs = interfaces_with_groups(alloc, alphabets, groups)?;
+    let inner = count_of(&alphabets.interfaces);
+    let outer = count_of(&alphabets.groups);
+    Containment::new(alloc, pairs.as_slice(), inner, outer)
 }
 
-fn put(table: &mut Vec<Vec<Symbol>>, at: Symbol, list: Vec<Symbol>) {
-    if let Some(entry) = table.get_mut(at as usize) {
-        *entry = list;
-    }
+fn devices_in_groups(
+    alloc: Global,
+    alphabets: &Alphabets,
+    groups: &[GroupEntry],
+) -> Result<Containment, AllocError>
+    requires alphabets { AreAlphabets groups.now alphabets.now }
+    requires once { IsNamedOnce groups.now }
+    ensures { IfOk result (λ made. IsContainment level.Device level.Group groups.now made) }
+{
+    let pairs = devices_with_groups(alloc, alphabets, groups)?;
+    let inner = count_of(&alphabets.devices);
+    let outer = count_of(&alphabets.groups);
+    Containment::new(alloc, pairs.as_slice(), inner, outer)
+}
+
+/// How many locations there are.
+fn count_of(alphabet: &Alphabet) -> usize
+    ensures count { result ≡ length alphabet.now }
+    ensures ascending { IsAscending alphabet.now }
+    ensures few { length alphabet.now ≤ 100000 }
+{
+    alphabet.len() as usize - 2
 }

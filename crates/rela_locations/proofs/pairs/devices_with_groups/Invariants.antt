@@ -1,0 +1,6 @@
+use Rattle.std.proofs.Common.{◌≡◌, ◌++◌, take}
+use Rattle.rela_locations.specs.Tables.{numbered_pairs, device_names}
+use Rattle.rela_locations.proofs.pairs.devices_with_groups.Given as goal
+
+abbrev pub invariant-loop-group : goal.invariant-loop-group
+invariant-loop-group l = l.pairs.items ≡ numbered_pairs l.alphabets.devices l.alphabets.groups (λ group. group.name) (λ group. device_names group.devices) (take l.group-index l.groups)

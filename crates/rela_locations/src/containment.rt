@@ -1,0 +1,77 @@
+//! For two levels, which locations of the one lie in which of the other.
+
+ghost use Rattle.std.specs.Prelude.{◌≡◌, ◌<◌, ◌≤◌, ◌==◌, [], length, map, filter, replicate, slice_index, IfOk};
+ghost use Rattle.std.specs.List.{All, range_with_len};
+ghost use Rattle.rela_locations.specs.Tables.{with_entries, places_of as places_in};
+
+use crate::pairs::Pair;
+use rela_names::Symbol;
+use std::alloc::{AllocError, Global};
+
+/// For two levels, the outer location of each inner one, and the inner ones of each outer one,
+/// ascending.
+#[derive(Drop)]
+pub(crate) struct Containment {
+    pub(crate) outer: Vec<Symbol>,
+    pub(crate) inner: Vec<Vec<Symbol>>,
+}
+
+impl Containment {
+    /// What these pairs of an inner and an outer location say, of so many inner and outer ones.
+    pub(crate) fn new(
+        alloc: Global,
+        pairs: &[Pair],
+        inner: usize,
+        outer: usize,
+    ) -> Result<Containment, AllocError>
+        requires few { inner ≤ 100000 }
+        requires pairs { All (λ pair. pair.0 < inner) pairs.now }
+        requires table { All (λ entry. entry < outer) (with_entries (replicate inner 0) pairs.now) }
+        ensures outer { IfOk result (λ made. made.outer.items ≡ with_entries (replicate inner 0) pairs.now) }
+        ensures inner { IfOk result (λ made. map (λ list. list.items) made.inner.items ≡ map (places_in (with_entries (replicate inner 0) pairs.now)) (range_with_len 0 outer)) }
+    {
+        let table = table_of(alloc, pairs, inner)?;
+        let lists = places_of(alloc, table.as_slice(), outer)?;
+        Ok(Containment {
+            outer: table,
+            inner: lists,
+        })
+    }
+}
+
+/// The table that has the second symbol of each pair at the first.
+fn table_of(alloc: Global, pairs: &[Pair], count: usize) -> Result<Vec<Symbol>, AllocError>
+    requires { All (λ pair. pair.0 < count) pairs.now }
+    ensures { IfOk result (λ table. table.items ≡ with_entries (replicate count 0) pairs.now) }
+{
+    let mut table = Vec::from_elem(alloc, 0, count)?;
+    for pair in pairs {
+        let (at, entry) = *pair;
+        table[at as usize] = entry;
+    }
+    Ok(table)
+}
+
+/// For each possible entry of a table the places that have it, ascending.
+fn places_of(alloc: Global, table: &[Symbol], count: usize) -> Result<Vec<Vec<Symbol>>, AllocError>
+    requires few { length table.now ≤ 100000 }
+    requires in_range { All (λ entry. entry < count) table.now }
+    ensures { IfOk result (λ lists. map (λ list. list.items) lists.items ≡ map (places_in table.now) (range_with_len 0 count)) }
+{
+    let mut lists = empty_lists(alloc, count)?;
+    for (at, entry) in table.iter().enumerate() {
+        let list = &mut lists[*entry as usize];
+        list.push(at as Symbol)?;
+    }
+    Ok(lists)
+}
+
+fn empty_lists(alloc: Global, n: usize) -> Result<Vec<Vec<Symbol>>, AllocError>
+    ensures { IfOk result (λ lists. map (λ list. list.items) lists.items ≡ replicate n []) }
+{
+    let mut lists = Vec::with_capacity(alloc, n)?;
+    while lists.len() < n {
+        lists.push(Vec::new(alloc))?;
+    }
+    Ok(lists)
+}

@@ -1,0 +1,155 @@
+//! Which locations lie in which: the symbols of locations, each with that of a location round it.
+
+ghost use Rattle.std.specs.Prelude.{◌≡◌, ◌++◌, IsTrue, IfOk, map};
+ghost use Rattle.rela_locations.specs.Names.{has_name};
+ghost use Rattle.rela_locations.specs.Network.{devices_in, index_of};
+ghost use Rattle.rela_locations.specs.Tables.{AreKnown, device_names, interface_names, under, numbered_pairs};
+
+use crate::alphabets::Alphabets;
+use crate::network::{DeviceEntry, GroupEntry};
+use rela_names::{Alphabet, Name, Symbol};
+use std::alloc::{AllocError, Global};
+
+/// A location and one round it.
+pub(crate) type Pair = (Symbol, Symbol);
+
+/// The interfaces with their devices.
+pub(crate) fn interfaces_with_devices(
+    alloc: Global,
+    alphabets: &Alphabets,
+    groups: &[GroupEntry],
+) -> Result<Vec<Pair>, AllocError>
+    requires interfaces { AreKnown alphabets.now.interfaces (interface_names (devices_in groups.now)) }
+    requires devices { AreKnown alphabets.now.devices (device_names (devices_in groups.now)) }
+    ensures { IfOk result (λ pairs. pairs.items ≡ numbered_pairs alphabets.now.interfaces alphabets.now.devices (λ device. device.name) (λ device. device.interfaces) (devices_in groups.now)) }
+{
+    let mut pairs = Vec::new(alloc);
+    for group in groups {
+        add_interfaces(
+            &mut pairs,
+            &alphabets.interfaces,
+            &alphabets.devices,
+            group.devices.as_slice(),
+        )?;
+    }
+    Ok(pairs)
+}
+
+fn add_interfaces(
+    pairs: &mut Vec<Pair>,
+    interfaces: &Alphabet,
+    devices: &Alphabet,
+    entries: &[DeviceEntry],
+) -> Result<(), AllocError>
+    requires interfaces { AreKnown interfaces.now (interface_names entries.now) }
+    requires devices { AreKnown devices.now (device_names entries.now) }
+    ensures { IfOk result (λ _. pairs.new.items ≡ pairs.old.items ++ numbered_pairs interfaces.now devices.now (λ device. device.name) (λ device. device.interfaces) entries.now) }
+{
+    for device in entries {
+        let symbol = symbol_of(devices, &device.name);
+        add_each(pairs, interfaces, device.interfaces.as_slice(), symbol)?;
+    }
+    Ok(())
+}
+
+/// The interfaces with their groups.
+pub(crate) fn interfaces_with_groups(
+    alloc: Global,
+    alphabets: &Alphabets,
+    groups: &[GroupEntry],
+) -> Result<Vec<Pair>, AllocError>
+    requires interfaces { AreKnown alphabets.now.interfaces (interface_names (devices_in groups.now)) }
+    requires groups { AreKnown alphabets.now.groups (map (λ group. group.name) groups.now) }
+    ensures { IfOk result (λ pairs. pairs.items ≡ numbered_pairs alphabets.now.interfaces alphabets.now.groups (λ group. group.name) (λ group. interface_names group.devices) groups.now) }
+{
+    let mut pairs = Vec::new(alloc);
+    for group in groups {
+        let symbol = symbol_of(&alphabets.groups, &group.name);
+        add_all_interfaces(
+            &mut pairs,
+            &alphabets.interfaces,
+            group.devices.as_slice(),
+            symbol,
+        )?;
+    }
+    Ok(pairs)
+}
+
+fn add_all_interfaces(
+    pairs: &mut Vec<Pair>,
+    interfaces: &Alphabet,
+    entries: &[DeviceEntry],
+    group: Symbol,
+) -> Result<(), AllocError>
+    requires { AreKnown interfaces.now (interface_names entries.now) }
+    ensures { IfOk result (λ _. pairs.new.items ≡ pairs.old.items ++ under interfaces.now (interface_names entries.now) group) }
+{
+    for device in entries {
+        add_each(pairs, interfaces, device.interfaces.as_slice(), group)?;
+    }
+    Ok(())
+}
+
+fn add_each(
+    pairs: &mut Vec<Pair>,
+    alphabet: &Alphabet,
+    names: &[Name],
+    parent: Symbol,
+) -> Result<(), AllocError>
+    requires { AreKnown alphabet.now names.now }
+    ensures { IfOk result (λ _. pairs.new.items ≡ pairs.old.items ++ under alphabet.now names.now parent) }
+{
+    for name in names {
+        pairs.push((symbol_of(alphabet, name), parent))?;
+    }
+    Ok(())
+}
+
+/// The devices with their groups.
+pub(crate) fn devices_with_groups(
+    alloc: Global,
+    alphabets: &Alphabets,
+    groups: &[GroupEntry],
+) -> Result<Vec<Pair>, AllocError>
+    requires devices { AreKnown alphabets.now.devices (device_names (devices_in groups.now)) }
+    requires groups { AreKnown alphabets.now.groups (map (λ group. group.name) groups.now) }
+    ensures { IfOk result (λ pairs. pairs.items ≡ numbered_pairs alphabets.now.devices alphabets.now.groups (λ group. group.name) (λ group. device_names group.devices) groups.now) }
+{
+    let mut pairs = Vec::new(alloc);
+    for group in groups {
+        let symbol = symbol_of(&alphabets.groups, &group.name);
+        add_devices(
+            &mut pairs,
+            &alphabets.devices,
+            group.devices.as_slice(),
+            symbol,
+        )?;
+    }
+    Ok(pairs)
+}
+
+fn add_devices(
+    pairs: &mut Vec<Pair>,
+    alphabet: &Alphabet,
+    entries: &[DeviceEntry],
+    group: Symbol,
+) -> Result<(), AllocError>
+    requires { AreKnown alphabet.now (device_names entries.now) }
+    ensures { IfOk result (λ _. pairs.new.items ≡ pairs.old.items ++ under alphabet.now (device_names entries.now) group) }
+{
+    for device in entries {
+        pairs.push((symbol_of(alphabet, &device.name), group))?;
+    }
+    Ok(())
+}
+
+/// The symbol of a name that is there.
+pub(crate) fn symbol_of(alphabet: &Alphabet, name: &Name) -> Symbol
+    requires { IsTrue (has_name alphabet.now name.now) }
+    ensures { result ≡ index_of alphabet.now name.now }
+{
+    match alphabet.find(name.as_bytes()) {
+        Some(symbol) => symbol,
+        None => unreachable!(),
+    }
+}
