@@ -16,7 +16,7 @@ returns-then-last-drop_symbol c =
     both_then c.any_drops.ensures
     (both_then (exists_among c.members.result.now (IsDropNode g) (λ n. Arrives g (locations g c.args.level) n front) ends)
     (path_drops g c.args.level c.args.alphabet.now c.in_ok-places.ensures.topology c.requires c.args.word.now front c.in-Some.last.now c.in-Some.ensures.cases.0
-    (c.if-last-drop_symbol.true ∙ c.drop_symbol.ensures)))
+    (c.if-last-drop_symbol.true ∙ c.drop_symbol.ensures.number)))
 
 pub returns-then-last-loop_symbol : goal.returns-then-last-loop_symbol
 returns-then-last-loop_symbol c =
@@ -31,7 +31,7 @@ returns-then-last-loop_symbol c =
     (both_then (exists_among nodes (HasFlag cyclic) (λ n. Arrives g (locations g c.args.level) n front) ends)
     (both_then (some_same (λ n. Arrives g (locations g c.args.level) n front) (HasFlag cyclic) (IsCyclic g) flags)
     (path_loops g c.args.level c.args.alphabet.now c.in_ok-places.ensures.topology c.requires c.args.word.now front c.in-Some.last.now c.in-Some.ensures.cases.0
-    (c.if-last-loop_symbol.true ∙ c.loop_symbol.ensures))))
+    (c.if-last-loop_symbol.true ∙ c.loop_symbol.ensures.number))))
 
 pub returns : goal.returns
 returns c =
@@ -42,4 +42,4 @@ returns c =
     both_then c.any_delivers.ensures
     (both_then (exists_among nodes (IsDelivered g) (λ n. Arrives g (locations g c.args.level) n c.args.word.now) ends)
     (path_delivers g c.args.level c.args.alphabet.now c.in_ok-places.ensures.topology c.requires c.args.word.now c.in-Some.front.now c.in-Some.last.now c.in-Some.ensures.cases.0
-    (λ e. c.if-last-drop_symbol.false (e ∙ sym c.drop_symbol.ensures)) (λ e. c.if-last-loop_symbol.false (e ∙ sym c.loop_symbol.ensures))))
+    (λ e. c.if-last-drop_symbol.false (e ∙ sym c.drop_symbol.ensures.number)) (λ e. c.if-last-loop_symbol.false (e ∙ sym c.loop_symbol.ensures.number))))
