@@ -1,9 +1,0 @@
-pub mod Joined
-pub mod Keywords
-pub mod Members
-pub mod Names
-pub mod PathTexts
-pub mod PredicateTexts
-pub mod Print
-pub mod Printed
-pub mod SpecTexts
