@@ -1,2 +1,4 @@
-pub mod Keys
 pub mod Indexes
+pub mod Keys
+pub mod Loops
+pub mod Places

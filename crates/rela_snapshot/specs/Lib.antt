@@ -1,3 +1,10 @@
-pub mod Names
+pub mod Interfaces
+pub mod Class
 pub mod Listed
+pub mod Located
+pub mod Named
+pub mod Names
+pub mod Numbered
+pub mod Parts
 pub mod Stored
+pub mod Version

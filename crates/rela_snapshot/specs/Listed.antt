@@ -1,5 +1,5 @@
 -- A graph as a file lists it.
-use Rattle.std.specs.Prelude.{◌≡◌, ℕ, ◌<◌, ◌≤◌, ◌↔◌, List, length, Contains}
+use Rattle.std.specs.Prelude.{◌≡◌, ℕ, ◌<◌, ◌≤◌, ◌↔◌, List, length, map, Contains}
 use Rattle.std.specs.List.{All}
 use Rattle.rela_graph.specs.declared.node.Node.{Node}
 use Rattle.rela_graph.specs.declared.node.Link.{Link}
@@ -29,3 +29,18 @@ pub record IsGraphOf (l : Listed) (g : Topology) : Type 0 where
   pub starts : (n : ℕ) → IsStart g n ↔ Contains l.starts n
   pub delivered : (n : ℕ) → IsDelivered g n ↔ Contains l.delivered n
   pub dropped : (n : ℕ) → IsDropped g n ↔ Contains l.dropped n
+
+-- what a file lists: the interface of each node in order, and the places of nodes
+pub record ListedGraph : Type 0 where
+  pub interfaces : List ℕ
+  pub edges : List Link
+  pub starts : List ℕ
+  pub delivered : List ℕ
+  pub dropped : List ℕ
+
+-- the nodes as their interfaces alone
+abbrev pub interfaces_of : List Node → List ℕ
+interfaces_of nodes = map (λ node. node.interface) nodes
+
+abbrev pub as_listed : Listed → ListedGraph
+as_listed l = record { interfaces = interfaces_of l.nodes; edges = l.edges; starts = l.starts; delivered = l.delivered; dropped = l.dropped }

@@ -1,6 +1,9 @@
 //! What is said of a flow besides its graph: its name, its prefixes and its class.
 
-ghost use Rattle.std.specs.Prelude.{◌≡◌, IfOk};
+ghost use Rattle.std.specs.Prelude.{◌≡◌, ◌≢◌, Ok, Err, IfOk, IfErr, option_map};
+ghost use Rattle.serde_json.specs.View.{view};
+ghost use Rattle.rela_snapshot.specs.Class as spec;
+ghost use Rattle.rela_snapshot.specs.Class.{ReadsPrefix};
 
 use crate::parts::{part, string};
 use crate::version::{FlowRules, Version};
@@ -13,7 +16,11 @@ use std::alloc::Global;
 const DEFAULT_CLASS: &[u8] = b"default";
 
 /// The bytes of a flow's name.
-pub(crate) fn read_name(value: &Value, rules: FlowRules, row: u32) -> Result<&[u8], LoadError> {
+#[tactic(auto, unfolding(crate::specs::Class::flow_name_of, crate::specs::Class::name_of))]
+pub(crate) fn read_name(value: &Value, rules: FlowRules, row: u32) -> Result<&[u8], LoadError>
+    ensures name { IfOk result (λ name. spec.flow_name_of rules row (view value.now) ≡ Ok name.now) }
+    ensures fault { IfErr result (λ e. spec.flow_name_of rules row (view value.now) ≡ Err e) }
+{
     let name = string(part(value, "name", rules.flow, row)?, rules.name, row)?;
     if !is_name(name) {
         return Err(LoadError::BadName { row });
@@ -54,21 +61,41 @@ pub(crate) fn read_src(
 }
 
 /// How a flow is treated: the name of its class.
+#[tactic(auto, unfolding(crate::specs::Class::class_of))]
 pub(crate) fn read_class(
     alloc: Global,
     value: &Value,
     rules: FlowRules,
     row: u32,
-) -> Result<Name, LoadError> {
-    let Some(class) = part(value, "class", rules.flow, row)? else {
-        return name_of(alloc, DEFAULT_CLASS, row);
-    };
-    name_of(alloc, string(Some(class), rules.class, row)?, row)
+) -> Result<Name, LoadError>
+    ensures class { IfOk result (λ name. spec.class_of rules row (view value.now) ≡ Ok name) }
+    ensures fault { IfErr result (λ e. e ≢ LoadError.Memory → spec.class_of rules row (view value.now) ≡ Err e) }
+{
+    class_name(alloc, part(value, "class", rules.flow, row)?, rules, row)
+}
+
+#[tactic(auto, unfolding(crate::specs::Class::class_name_of))]
+fn class_name(
+    alloc: Global,
+    class: Option<&Value>,
+    rules: FlowRules,
+    row: u32,
+) -> Result<Name, LoadError>
+    ensures class { IfOk result (λ name. spec.class_name_of rules row (option_map (λ v. view v.now) class.entry) ≡ Ok name) }
+    ensures fault { IfErr result (λ e. e ≢ LoadError.Memory → spec.class_name_of rules row (option_map (λ v. view v.now) class.entry) ≡ Err e) }
+{
+    match class {
+        Some(class) => name_of(alloc, string(Some(class), rules.class, row)?, row),
+        None => name_of(alloc, DEFAULT_CLASS, row),
+    }
 }
 
 /// The name of these bytes.
+#[tactic(auto, unfolding(crate::specs::Class::name_of))]
 pub(crate) fn name_of(alloc: Global, bytes: &[u8], row: u32) -> Result<Name, LoadError>
-    ensures name { IfOk result (λ name. name ≡ bytes.now) }
+    ensures name { IfOk result (λ name. spec.name_of row bytes.now ≡ Ok name) }
+    ensures same { IfOk result (λ name. name ≡ bytes.now) }
+    ensures fault { IfErr result (λ e. e ≢ LoadError.Memory → spec.name_of row bytes.now ≡ Err e) }
 {
     match Name::from_bytes(alloc, bytes) {
         Ok(name) => Ok(name),
@@ -77,7 +104,9 @@ pub(crate) fn name_of(alloc: Global, bytes: &[u8], row: u32) -> Result<Name, Loa
     }
 }
 
-fn read_prefix(text: &[u8], row: u32) -> Result<Prefix, LoadError> {
+fn read_prefix(text: &[u8], row: u32) -> Result<Prefix, LoadError>
+    ensures { ReadsPrefix row text.now result }
+{
     Prefix::parse(text).ok_or(LoadError::BadPrefix { row })
 }
 

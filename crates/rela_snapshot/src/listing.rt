@@ -1,12 +1,17 @@
 //! A flow's graph as its file lists it.
 
-ghost use Rattle.std.specs.Prelude.{IfOk};
+ghost use Rattle.std.specs.Prelude.{◌≡◌, ◌<◌, Ok, Err, IfOk, IfErr, IfSome, length};
+ghost use Rattle.rela_snapshot.specs.Names.{place_of};
 ghost use Rattle.rela_snapshot.specs.Listed.{IsGraphOf};
+ghost use Rattle.rela_names.specs.declared.level.Level.TheVariants.{Interface};
+ghost use Rattle.rela_snapshot.specs.Interfaces.{interfaces_in};
+ghost use Rattle.rela_snapshot.specs.Numbered.{interface_of};
+ghost use Rattle.rela_snapshot.specs.Located.{StandsAt};
 
 use rela_graph::{Graph, Link, Node};
 use rela_json::LoadError;
 use rela_locations::Locations;
-use rela_names::Level;
+use rela_names::{Alphabet, Level, Symbol};
 use std::alloc::{AllocError, Global};
 use std::marker::Model;
 
@@ -57,12 +62,30 @@ impl Listing {
     }
 }
 
+/// The symbol of the interface of this name.
+#[tactic(auto, unfolding(crate::specs::Interfaces::interfaces_in))]
+fn interface_at(locations: &Locations, name: &[u8]) -> Option<Symbol>
+    ensures place { result ≡ place_of (interfaces_in locations.now) name.now }
+    ensures within { IfSome result (λ symbol. symbol < length (interfaces_in locations.now)) }
+{
+    find(locations.alphabet(Level::Interface), name)
+}
+
+fn find(names: &Alphabet, name: &[u8]) -> Option<Symbol>
+    ensures place { result ≡ place_of names.now name.now }
+    ensures within { IfSome result (λ symbol. symbol < length names.now) }
+{
+    names.find(name)
+}
+
 /// The node at the interface of this name.
-pub(crate) fn node_at(locations: &Locations, name: &[u8], row: u32) -> Result<Node, LoadError> {
-    let interface = locations
-        .alphabet(Level::Interface)
-        .find(name)
-        .ok_or(LoadError::UnknownLocation { row })?;
+#[tactic(auto, unfolding(crate::specs::Numbered::interface_of, crate::specs::Located::StandsAt))]
+pub(crate) fn node_at(locations: &Locations, name: &[u8], row: u32) -> Result<Node, LoadError>
+    ensures node { IfOk result (λ node. interface_of (interfaces_in locations.now) row name.now ≡ Ok node.interface) }
+    ensures fault { IfErr result (λ e. interface_of (interfaces_in locations.now) row name.now ≡ Err e) }
+    ensures located { IfOk result (StandsAt (interfaces_in locations.now) Interface) }
+{
+    let interface = interface_at(locations, name).ok_or(LoadError::UnknownLocation { row })?;
     Ok(Node {
         interface,
         device: locations.lift(interface, Level::Device),

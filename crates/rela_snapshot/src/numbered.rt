@@ -1,8 +1,15 @@
 //! The graph of a flow of version 1, whose nodes are named by their places.
 
-ghost use Rattle.std.specs.Prelude.{◌≡◌, ◌<◌, ◌≤◌, IfOk, length, vec_len};
+ghost use Rattle.std.specs.Prelude.{◌≡◌, ◌≢◌, ◌<◌, ◌≤◌, Ok, Err, IfOk, IfErr, length, map, option_map, vec_len};
 ghost use Rattle.std.specs.List.{All};
 ghost use Rattle.rela_graph.specs.Topology.{JoinsNodes};
+ghost use Rattle.rela_names.specs.declared.level.Level.TheVariants.{Interface};
+ghost use Rattle.rela_snapshot.specs.Interfaces.{interfaces_in};
+ghost use Rattle.rela_snapshot.specs.Located.{StandsAt};
+ghost use Rattle.rela_snapshot.specs.Listed.{interfaces_of, as_listed};
+ghost use Rattle.rela_snapshot.specs.Numbered as spec;
+ghost use Rattle.serde_json.specs.View.{view};
+ghost use Rattle.rela_json.specs.Results.{try_map};
 
 use crate::listing::{Listing, node_at};
 use crate::parts::{few_entries, part, string, two_entries, whole_number};
@@ -12,12 +19,17 @@ use rela_locations::Locations;
 use std::alloc::Global;
 
 /// The graph of a flow.
+#[tactic(auto, unfolding(crate::specs::Numbered::numbered_of))]
 pub(crate) fn read_numbered(
     alloc: Global,
     locations: &Locations,
     value: &Value,
     row: u32,
-) -> Result<Listing, LoadError> {
+) -> Result<Listing, LoadError>
+    ensures listed { IfOk result (λ listing. spec.numbered_of (interfaces_in locations.now) row (view value.now) ≡ Ok (as_listed listing)) }
+    ensures fault { IfErr result (λ e. e ≢ LoadError.Memory → spec.numbered_of (interfaces_in locations.now) row (view value.now) ≡ Err e) }
+    ensures located { IfOk result (λ listing. All (StandsAt (interfaces_in locations.now) Interface) listing.nodes) }
+{
     let nodes = few_entries(part(value, "nodes", 24, row)?, MAX_NODES, 29, row)?;
     let nodes = read_nodes(alloc, locations, nodes, row)?;
     let count = nodes.len() as u32;
@@ -44,17 +56,31 @@ fn read_nodes(
     values: &[Value],
     row: u32,
 ) -> Result<Vec<Node>, LoadError>
+    ensures nodes { IfOk result (λ nodes. try_map (spec.node_of (interfaces_in locations.now) row) (map view values.now) ≡ Ok (interfaces_of nodes.items)) }
+    ensures fault { IfErr result (λ e. e ≢ LoadError.Memory → try_map (spec.node_of (interfaces_in locations.now) row) (map view values.now) ≡ Err e) }
+    ensures located { IfOk result (λ nodes. All (StandsAt (interfaces_in locations.now) Interface) nodes.items) }
     ensures len { IfOk result (λ nodes. vec_len nodes ≡ length values.now) }
 {
     let mut nodes = Vec::with_capacity(alloc, values.len())?;
     for value in values {
-        let node = node_at(locations, string(Some(value), 30, row)?, row)?;
+        let node = read_node(locations, value, row)?;
         nodes.push(node)?;
     }
     Ok(nodes)
 }
 
+#[tactic(auto, unfolding(crate::specs::Numbered::node_of))]
+fn read_node(locations: &Locations, value: &Value, row: u32) -> Result<Node, LoadError>
+    ensures node { IfOk result (λ node. spec.node_of (interfaces_in locations.now) row (view value.now) ≡ Ok node.interface) }
+    ensures fault { IfErr result (λ e. spec.node_of (interfaces_in locations.now) row (view value.now) ≡ Err e) }
+    ensures located { IfOk result (StandsAt (interfaces_in locations.now) Interface) }
+{
+    node_at(locations, string(Some(value), 30, row)?, row)
+}
+
 fn read_edges(alloc: Global, values: &[Value], count: u32, row: u32) -> Result<Vec<Link>, LoadError>
+    ensures edges { IfOk result (λ edges. try_map (spec.edge_of count row) (map view values.now) ≡ Ok edges.items) }
+    ensures fault { IfErr result (λ e. e ≢ LoadError.Memory → try_map (spec.edge_of count row) (map view values.now) ≡ Err e) }
     ensures len { IfOk result (λ edges. vec_len edges ≡ length values.now) }
     ensures join { IfOk result (λ edges. All (JoinsNodes count) edges.items) }
 {
@@ -66,19 +92,24 @@ fn read_edges(alloc: Global, values: &[Value], count: u32, row: u32) -> Result<V
     Ok(edges)
 }
 
+#[tactic(auto, unfolding(crate::specs::Numbered::edge_of))]
 fn read_edge(value: &Value, count: u32, row: u32) -> Result<Link, LoadError>
+    ensures edge { IfOk result (λ edge. spec.edge_of count row (view value.now) ≡ Ok edge) }
+    ensures fault { IfErr result (λ e. spec.edge_of count row (view value.now) ≡ Err e) }
     ensures joins { IfOk result (JoinsNodes count) }
 {
     let (from, to) = two_entries(value, 32, row)?;
     let from = whole_number(Some(from), 32, row)?;
     let to = whole_number(Some(to), 32, row)?;
-    Ok(Link {
-        a: place_of(from, count, row)?,
-        b: place_of(to, count, row)?,
-    })
+    let a = place_of(from, count, row)?;
+    let b = place_of(to, count, row)?;
+    Ok(Link { a, b })
 }
 
+#[tactic(auto, unfolding(crate::specs::Numbered::index_in))]
 fn place_of(number: u64, count: u32, row: u32) -> Result<u32, LoadError>
+    ensures place { IfOk result (λ place. spec.index_in count row number ≡ Ok place) }
+    ensures fault { IfErr result (λ e. spec.index_in count row number ≡ Err e) }
     ensures within { IfOk result (λ place. place < count) }
 {
     if number < u64::from(count) {
@@ -88,6 +119,7 @@ fn place_of(number: u64, count: u32, row: u32) -> Result<u32, LoadError>
     }
 }
 
+#[tactic(auto, unfolding(crate::specs::Numbered::places_of))]
 fn read_places(
     alloc: Global,
     value: &Value,
@@ -95,6 +127,8 @@ fn read_places(
     rule: u8,
     row: u32,
 ) -> Result<Vec<u32>, LoadError>
+    ensures places { IfOk result (λ places. spec.places_of count rule row (view value.now) ≡ Ok places.items) }
+    ensures fault { IfErr result (λ e. e ≢ LoadError.Memory → spec.places_of count rule row (view value.now) ≡ Err e) }
     ensures within { IfOk result (λ places. All (λ place. place < count) places.items) }
 {
     match index_list(alloc, value, count) {
@@ -105,6 +139,7 @@ fn read_places(
     }
 }
 
+#[tactic(auto, unfolding(crate::specs::Numbered::optional_places_of))]
 fn read_optional_places(
     alloc: Global,
     value: Option<&Value>,
@@ -112,6 +147,8 @@ fn read_optional_places(
     rule: u8,
     row: u32,
 ) -> Result<Vec<u32>, LoadError>
+    ensures places { IfOk result (λ places. spec.optional_places_of count rule row (option_map (λ v. view v.now) value.entry) ≡ Ok places.items) }
+    ensures fault { IfErr result (λ e. e ≢ LoadError.Memory → spec.optional_places_of count rule row (option_map (λ v. view v.now) value.entry) ≡ Err e) }
     ensures within { IfOk result (λ places. All (λ place. place < count) places.items) }
 {
     match value {

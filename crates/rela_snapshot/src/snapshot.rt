@@ -1,6 +1,9 @@
 //! A snapshot: the flows of a network, and how each is forwarded.
 
-ghost use Rattle.std.specs.Prelude.{◌≡◌, ◌<◌, ◌≤◌, Some, option_map, length, slice_get, vec_len};
+ghost use Rattle.std.specs.Prelude.{◌≡◌, ◌<◌, ◌≤◌, IfOk, Some, option_map, length, slice_get, vec_len};
+ghost use Rattle.rela_names.specs.declared.level.Level.TheVariants.{Interface};
+ghost use Rattle.rela_locations.specs.Network.{alphabet_of};
+ghost use Rattle.rela_snapshot.specs.Located.{AreLocated};
 
 use crate::walk::read_snapshot;
 use rela_flows::FlowClass;
@@ -43,8 +46,10 @@ impl Snapshot {
     /// # Errors
     ///
     /// `NotJson`; else the first fault of a walk of the file, with its row; `Memory`.
+    #[tactic(auto, unfolding(crate::specs::Interfaces::interfaces_in))]
     pub fn decode(alloc: Global, bytes: &[u8], locations: &Locations) -> Result<Snapshot, LoadError>
         requires { length bytes.now ≤ 33554432 }
+        ensures located { IfOk result (λ snapshot. AreLocated (alphabet_of Interface locations.now) Interface snapshot) }
     {
         let root = read(alloc, bytes)?;
         let flows = read_snapshot(alloc, locations, &root)?;

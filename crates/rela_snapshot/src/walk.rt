@@ -1,6 +1,10 @@
 //! The walk of the file: its version, and then its flows in order. The first fault is the answer.
 
 ghost use Rattle.std.specs.Prelude.{◌≡◌, ◌<◌, ◌≤◌, IfOk, OnOk, length, map, vec_len};
+ghost use Rattle.std.specs.List.{All};
+ghost use Rattle.rela_names.specs.declared.level.Level.TheVariants.{Interface};
+ghost use Rattle.rela_snapshot.specs.Interfaces.{interfaces_in};
+ghost use Rattle.rela_snapshot.specs.Located.{AreLocated, StandsAt};
 
 use crate::class::{name_of, read_class, read_dst, read_name, read_src};
 use crate::listing::Listing;
@@ -21,6 +25,7 @@ pub(crate) fn read_snapshot(
     locations: &Locations,
     root: &Value,
 ) -> Result<Vec<Flow>, LoadError>
+    ensures located { IfOk result (λ flows. AreLocated (interfaces_in locations.now) Interface flows.items) }
     ensures few { IfOk result (λ flows. vec_len flows ≤ MAX_FLOWS) }
 {
     let version = part(root, "version", 21, 0)?;
@@ -35,6 +40,7 @@ fn read_flows(
     version: Version,
     values: &[Value],
 ) -> Result<Vec<Flow>, LoadError>
+    ensures located { IfOk result (λ flows. AreLocated (interfaces_in locations.now) Interface flows.items) }
     ensures few { IfOk result (λ flows. vec_len flows ≤ MAX_FLOWS) }
 {
     let mut names = NameTable::new(alloc);
@@ -55,7 +61,9 @@ fn add_flow<'a>(
     value: &'a Value,
 ) -> Result<(), LoadError>
     requires names { names.old ≡ map (λ flow. flow.class.name) flows.old.items }
+    requires located { AreLocated (interfaces_in locations.now) Interface flows.old.items }
     ensures names { OnOk result (names.new ≡ map (λ flow. flow.class.name) flows.new.items) }
+    ensures located { OnOk result (AreLocated (interfaces_in locations.now) Interface flows.new.items) }
     ensures few { OnOk result (vec_len flows.new ≤ MAX_FLOWS) }
 {
     if flows.len() >= MAX_FLOWS {
@@ -104,7 +112,9 @@ fn read_listing(
     version: Version,
     value: &Value,
     row: u32,
-) -> Result<Listing, LoadError> {
+) -> Result<Listing, LoadError>
+    ensures located { IfOk result (λ listing. All (StandsAt (interfaces_in locations.now) Interface) listing.nodes) }
+{
     match version {
         Version::One => read_numbered(alloc, locations, value, row),
         Version::Two => read_named(alloc, locations, value, row),
