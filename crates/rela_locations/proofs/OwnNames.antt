@@ -11,8 +11,9 @@ use Rattle.rela_names.specs.declared.level.Level.TheVariants as level
 use Rattle.rela_locations.specs.Names.{has_name}
 use Rattle.rela_locations.specs.Network.{Device, Group, Network, devices_in, with_devices, with_interfaces, within, names_at, alphabet_of, name_of, by_level, index_of, members_of}
 use Rattle.rela_locations.specs.Tables.{interface_names, device_names}
+use Rattle.rela_locations.specs.Tables.{IsOnce}
 use Rattle.rela_locations.proofs.Bools.{same_test, true_left, true_right, both_true, and_or, and_false, and_true}
-use Rattle.rela_locations.proofs.Indexes.{IsOnce, known_at, index_of_known, index_of_place}
+use Rattle.rela_locations.proofs.Indexes.{known_at, index_of_known, index_of_place}
 use Rattle.rela_locations.proofs.Lookups.{place_told, same_below}
 use Rattle.rela_locations.proofs.NameSets.{same_name, name_is_itself, has_name-ascending}
 use Rattle.rela_locations.proofs.Parents.{name_at, equal_numbers}

@@ -14,7 +14,7 @@ use Rattle.rela_locations.specs.Network.{Network, devices_in, names_at, alphabet
 use Rattle.rela_locations.specs.Tables.{AreKnown, AreAlphabets, IsNamedOnce, IsContainment, device_names, interface_names, numbered_pairs, with_entries, places_of, outer_of}
 use Rattle.rela_locations.proofs.Indexes.{once_when_ascending, index_of_known}
 use Rattle.rela_locations.proofs.Known.{device_names_by_group, interface_names_by_group}
-use Rattle.rela_locations.proofs.Lookups.{pairs_are, parents_found, all_children_found, parent_known}
+use Rattle.rela_locations.proofs.Lookups.{pairs_are, parents_found, all_children_found, parent_known, parent_told}
 use Rattle.rela_locations.proofs.NameSets.{has_name-ascending}
 use Rattle.rela_locations.proofs.Parents.{Pair, ArePairs, numbered, parent_table, name_at}
 use Rattle.rela_locations.proofs.PairLaws.{is_pair}
@@ -64,6 +64,7 @@ module _ (child parent : Level) (network : Network) (pairs : List Pair) (are : A
     outer = outer ∙ parents_found cs ps pairs are lies lies_by_pair (outer_of child parent network) (λ s. refl);
     inner = inner ∙ all_children_found cs ps pairs are lies lies_by_pair (λ name. members_of child (by_level parent) name network) (λ n. refl);
     known = λ s within. parent_known cs ps pairs are lies lies_by_pair s within;
+    told = λ s d within below. parent_told cs ps pairs are lies lies_by_pair s d within below;
   }
 
 -- two facts of what a call gives, as one

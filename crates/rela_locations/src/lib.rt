@@ -5,6 +5,7 @@
 mod alphabets;
 mod containment;
 mod locations;
+mod lookup;
 mod members;
 mod name_set;
 mod network;
