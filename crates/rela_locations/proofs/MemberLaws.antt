@@ -1,6 +1,6 @@
 -- What the look-ups of members tell.
-use Rattle.std.proofs.Common.{◌≡◌, ◌≢◌, ℕ, ◌<◌, Bool, true, false, ◌&&◌, ◌==◌, nat_lt, List, [], ◌∷◌, length, get_or, map, filter, slice_get, Some, Result, Ok, Err, IfOk, OnOk, IsErrOf, ◌↔◌, Vec, Global, refl, ap, sym, ◌∙◌, arith}
-use Rattle.std.specs.List.{All, list_any, range_with_len}
+use Rattle.std.proofs.Common.{◌≡◌, ℕ, ◌<◌, true, false, List, [], ◌∷◌, length, get_or, map, slice_get, Some, Result, IfOk, OnOk, IsErrOf, ◌↔◌, Vec, Global, refl, ap, sym, ◌∙◌}
+use Rattle.std.specs.List.{All, list_any}
 use Rattle.std.specs.List.Sorted.{IsStrictlySortedBy}
 use Rattle.std.specs.Ordering.{nat_cmp}
 use Rattle.std.specs.BTreeMap.{BTreeMap}
@@ -19,7 +19,6 @@ use Rattle.rela_locations.proofs.Indexes.{index_of_known, once_when_ascending}
 use Rattle.rela_locations.proofs.NameSets.{has_name-ascending}
 use Rattle.rela_locations.proofs.NumberLists.{is_kept}
 use Rattle.rela_locations.proofs.OwnNames.{own_members}
-use Rattle.rela_locations.proofs.Parents.{name_at}
 use Rattle.rela_locations.proofs.Places.{field_at}
 use Rattle.rela_locations.proofs.TableLaws.{both_of_ok}
 use Rattle.rela_locations.proofs.TagMembers.{tagged_devices_are, tagged_interfaces_are, number_below}

@@ -1,6 +1,6 @@
 -- Lists of numbers that rise, and which numbers they have.
-use Rattle.std.proofs.Common.{zero, suc, ◌≡◌, ◌≢◌, ℕ, ◌+◌, ◌<◌, ◌≤◌, Bool, true, false, cond, ◌&&◌, ◌||◌, ◌==◌, nat_lt, List, [], ◌∷◌, ◌++◌, length, get_or, Some, slice_get, filter, refl, ap, sym, ◌∙◌, arith, inl, inr, eqb}
-use Rattle.std.specs.List.{list_any, range_with_len, Contains, dedup}
+use Rattle.std.proofs.Common.{zero, suc, ◌≡◌, ℕ, ◌+◌, ◌<◌, ◌≤◌, Bool, true, false, cond, ◌&&◌, ◌||◌, ◌==◌, nat_lt, List, [], ◌∷◌, get_or, Some, filter, refl, ap, sym, ◌∙◌, arith, inl, inr, eqb}
+use Rattle.std.specs.List.{range_with_len, Contains, dedup}
 use Rattle.std.specs.List.Sorted.{IsStrictlySortedBy, IsStrictlyIncreasing, IsSorted}
 use Rattle.std.specs.Ordering.{nat_cmp}
 use Rattle.std.proofs.lemmas.Bool.{eq-eqb, false_from_ne_true, cases_lt}
@@ -10,7 +10,7 @@ use Rattle.std.proofs.lemmas.List.Kept.{IsStrictlySortedBy-filter, Contains-dedu
 use Rattle.std.proofs.lemmas.Map.Keys.{sorted_from_strictly_increasing, below_from_sorted, sorted_tail, IsStrictlyIncreasing-dedup}
 use Rattle.std.proofs.lemmas.Option.{slice_get_within, get_or_from_slice_get, slice_get-get_or}
 use Rattle.rela_locations.specs.Tables.{has_number}
-use Rattle.rela_locations.proofs.Bools.{place_of_any, any_of_place, or_false, or_true, same_test, and_false, right_of_false}
+use Rattle.rela_locations.proofs.Bools.{place_of_any, any_of_place, or_false, or_true, same_test, and_false}
 use Rattle.rela_locations.proofs.Parents.{equal_numbers}
 use Rattle.rela_locations.proofs.Places.{filter_range_more}
 

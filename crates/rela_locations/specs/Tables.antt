@@ -1,5 +1,5 @@
 -- What is kept of a network beside its list of groups.
-use Rattle.std.specs.Prelude.{◌≡◌, ℕ, ◌<◌, ◌==◌, true, false, List, [], ◌∷◌, length, map, filter, fold, slice_set, slice_index, replicate}
+use Rattle.std.specs.Prelude.{◌≡◌, ℕ, ◌<◌, ◌==◌, true, false, List, [], ◌∷◌, length, map, filter, fold, slice_set, slice_index}
 use Rattle.std.specs.BTreeMap.{BTreeMap, get}
 use Rattle.std.specs.Option.{option_map_or}
 use Rattle.std.specs.Prelude.{Vec, is_some, ◌&&◌, Bool, Some, slice_get}

@@ -1,4 +1,4 @@
-use Rattle.std.proofs.Common.{◌≡◌, ℕ, List, length, map, ap, sym, ◌∙◌}
+use Rattle.std.proofs.Common.{length, ap, ◌∙◌}
 use Rattle.rela_names.specs.declared.level.Level.TheVariants as levels
 use Rattle.rela_locations.specs.Network.{alphabet_of}
 use Rattle.rela_locations.proofs.Indexes.{once_when_ascending}

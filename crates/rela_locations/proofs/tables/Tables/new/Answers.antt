@@ -1,7 +1,7 @@
-use Rattle.std.proofs.Common.{[], List, ℕ, refl}
+use Rattle.std.proofs.Common.{[], refl}
 use Rattle.rela_names.specs.declared.level.Level.TheVariants as level
 use Rattle.rela_locations.specs.Network.{devices_in}
-use Rattle.rela_locations.specs.Tables.{AreTagged, device_names}
+use Rattle.rela_locations.specs.Tables.{device_names}
 use Rattle.rela_locations.proofs.NameSets.{one_place}
 use Rattle.rela_locations.proofs.TableLaws.{known_names}
 use Rattle.rela_locations.proofs.tables.Tables.new.Goals as goal
