@@ -8,8 +8,7 @@ use Rattle.std.proofs.lemmas.Map.Text.{is_eq-slice_cmp}
 use Rattle.std.proofs.lemmas.Option.{slice_get_within, get_or_from_slice_get}
 use Rattle.rela_names.specs.Name.{IsAscending, bytes_cmp}
 use Rattle.rela_locations.specs.Names.{has_name}
-use Rattle.rela_locations.specs.Network.{index_of}
-use Rattle.rela_locations.specs.Tables.{IsOnce}
+use Rattle.rela_locations.specs.Tables.{index_of, IsOnce}
 use Rattle.rela_locations.proofs.Bools.{any_of_place}
 use Rattle.rela_locations.proofs.NameSets.{same_name, name_is_itself}
 

@@ -10,8 +10,7 @@ use Rattle.std.proofs.lemmas.List.FromFn.{fill_by_all}
 use Rattle.std.proofs.lemmas.List.Sums.{position_or_len_is}
 use Rattle.std.proofs.lemmas.Option.{slice_get-map, slice_get-get_or, get_or_from_slice_get}
 use Rattle.rela_locations.specs.Names.{ascending, has_name}
-use Rattle.rela_locations.specs.Tables.{places_of, AreNew}
-use Rattle.rela_locations.specs.Tables.{IsOnce}
+use Rattle.rela_locations.specs.Tables.{places_of, AreNew, IsOnce}
 use Rattle.rela_locations.proofs.Bools.{any_of_place, or_true}
 use Rattle.rela_locations.proofs.NameSets.{one_place, name_is_itself, has_name-ascending}
 use Rattle.rela_locations.proofs.Indexes.{known_at}

@@ -13,8 +13,8 @@ use Rattle.rela_locations.specs.declared.members.MemberError.{MemberError}
 use Rattle.rela_locations.specs.declared.members.MemberError.TheVariants.{Unknown}
 use Rattle.rela_locations.specs.declared.containment.Containment.{Containment}
 use Rattle.rela_locations.specs.Names.{has_name}
-use Rattle.rela_locations.specs.Network.{Network, devices_in, names_at, alphabet_of, name_of, by_level, index_of, within, members_of}
-use Rattle.rela_locations.specs.Tables.{IsOnce, IsContainment, AreTagged, device_names, has_number, devices_for}
+use Rattle.rela_locations.specs.Network.{Network, devices_in, names_at, alphabet_of, name_of, by_level, within, members_of}
+use Rattle.rela_locations.specs.Tables.{index_of, IsOnce, IsContainment, AreTagged, device_names, has_number, devices_for}
 use Rattle.rela_locations.proofs.Indexes.{index_of_known, once_when_ascending}
 use Rattle.rela_locations.proofs.NameSets.{has_name-ascending}
 use Rattle.rela_locations.proofs.NumberLists.{is_kept}

@@ -9,9 +9,8 @@ use Rattle.std.proofs.lemmas.Option.{slice_get-get_or, slice_get_within, get_or_
 use Rattle.rela_names.specs.declared.level.Level.{Level}
 use Rattle.rela_names.specs.declared.level.Level.TheVariants as level
 use Rattle.rela_locations.specs.Names.{has_name}
-use Rattle.rela_locations.specs.Network.{Device, Network, devices_in, with_devices, with_interfaces, within, names_at, alphabet_of, by_level, index_of, members_of}
-use Rattle.rela_locations.specs.Tables.{interface_names, device_names}
-use Rattle.rela_locations.specs.Tables.{IsOnce}
+use Rattle.rela_locations.specs.Network.{Device, Network, devices_in, with_devices, with_interfaces, within, names_at, alphabet_of, by_level, members_of}
+use Rattle.rela_locations.specs.Tables.{index_of, interface_names, device_names, IsOnce}
 use Rattle.rela_locations.proofs.Bools.{same_test, and_false}
 use Rattle.rela_locations.proofs.Indexes.{known_at, index_of_known}
 use Rattle.rela_locations.proofs.Lookups.{place_told, same_below}

@@ -7,8 +7,8 @@ use Rattle.std.proofs.lemmas.List.Elements.{filter-append}
 use Rattle.rela_names.specs.declared.level.Level.TheVariants as level
 use Rattle.rela_locations.specs.declared.members.By.TheVariants as by
 use Rattle.rela_locations.specs.Names.{has_name}
-use Rattle.rela_locations.specs.Network.{Device, Group, Network, devices_in, with_devices, within, names_at, index_of}
-use Rattle.rela_locations.specs.Tables.{device_names, interface_names, under, numbered_pairs}
+use Rattle.rela_locations.specs.Network.{Device, Group, Network, devices_in, with_devices, within, names_at}
+use Rattle.rela_locations.specs.Tables.{index_of, device_names, interface_names, under, numbered_pairs}
 use Rattle.rela_locations.proofs.Known.{device_names_by_group, interface_names_by_group}
 use Rattle.rela_locations.proofs.PairLaws.{is_pair, pairs_of, lies_under}
 use Rattle.rela_locations.proofs.Parents.{Pair, numbered}

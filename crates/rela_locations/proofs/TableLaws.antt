@@ -10,8 +10,8 @@ use Rattle.rela_names.specs.declared.level.Level.TheVariants as level
 use Rattle.rela_locations.specs.declared.alphabets.Alphabets.{Alphabets}
 use Rattle.rela_locations.specs.declared.containment.Containment.{Containment}
 use Rattle.rela_locations.specs.Names.{has_name}
-use Rattle.rela_locations.specs.Network.{Network, devices_in, names_at, alphabet_of, by_level, within, index_of, members_of}
-use Rattle.rela_locations.specs.Tables.{AreKnown, AreAlphabets, IsNamedOnce, IsContainment, numbered_pairs, places_of, outer_of}
+use Rattle.rela_locations.specs.Network.{Network, devices_in, names_at, alphabet_of, by_level, within, members_of}
+use Rattle.rela_locations.specs.Tables.{index_of, AreKnown, AreAlphabets, IsNamedOnce, IsContainment, numbered_pairs, places_of, outer_of}
 use Rattle.rela_locations.proofs.Indexes.{once_when_ascending, index_of_known}
 use Rattle.rela_locations.proofs.Known.{device_names_by_group, interface_names_by_group}
 use Rattle.rela_locations.proofs.Lookups.{pairs_are, parents_found, all_children_found, parent_known, parent_told}

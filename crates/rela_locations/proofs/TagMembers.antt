@@ -9,8 +9,8 @@ use Rattle.rela_names.specs.declared.level.Level.TheVariants as level
 use Rattle.rela_locations.specs.declared.members.By.TheVariants as by
 use Rattle.rela_locations.specs.declared.containment.Containment.{Containment}
 use Rattle.rela_locations.specs.Names.{has_name}
-use Rattle.rela_locations.specs.Network.{Device, Network, devices_in, names_at, alphabet_of, name_of, index_of, within, members_of}
-use Rattle.rela_locations.specs.Tables.{IsOnce, IsContainment, device_names, interface_names, has_number, is_tagged, outer_of}
+use Rattle.rela_locations.specs.Network.{Device, Network, devices_in, names_at, alphabet_of, name_of, within, members_of}
+use Rattle.rela_locations.specs.Tables.{index_of, IsOnce, IsContainment, device_names, interface_names, has_number, is_tagged, outer_of}
 use Rattle.rela_locations.proofs.Bools.{place_of_any, any_of_place, both_true, true_left, true_right, same_test, and_false}
 use Rattle.rela_locations.proofs.Indexes.{index_of_known, index_of_place, known_at}
 use Rattle.rela_locations.proofs.NameSets.{same_name, name_is_itself, has_name-ascending}

@@ -4,6 +4,7 @@ use Rattle.std.specs.BTreeMap.{BTreeMap, get}
 use Rattle.std.specs.Option.{option_map_or}
 use Rattle.std.specs.Prelude.{Vec, is_some, ◌&&◌, Bool, Some, slice_get}
 use Rattle.std.specs.declared.alloc.Global.{Global}
+use Rattle.std.specs.Str.{bytes_eq}
 use Rattle.rela_names.specs.Name.{bytes_cmp}
 use Rattle.std.specs.List.{list_any, flat_map, position_or_len, range_with_len}
 use Rattle.rela_names.specs.Name.{IsAscending}
@@ -13,7 +14,7 @@ use Rattle.rela_locations.specs.declared.alphabets.Alphabets.{Alphabets}
 use Rattle.rela_locations.specs.declared.containment.Containment.{Containment}
 use Rattle.rela_locations.specs.declared.tables.Tables.{Tables}
 use Rattle.rela_locations.specs.Names.{has_name, with_name}
-use Rattle.rela_locations.specs.Network.{Device, Network, devices_in, names_at, alphabet_of, name_of, index_of, by_level, within, members_of}
+use Rattle.rela_locations.specs.Network.{Device, Network, devices_in, names_at, alphabet_of, name_of, by_level, within, members_of}
 
 pub record AreAlphabets (network : Network) (alphabets : Alphabets) : Type 0 where
   pub interfaces : alphabets.interfaces ≡ alphabet_of level.Interface network
@@ -29,6 +30,10 @@ device_names devices = map (λ device. device.name) devices
 
 abbrev pub interface_names : List Device → List (List ℕ)
 interface_names devices = flat_map (λ device. device.interfaces) devices
+
+-- the place of a name among these
+abbrev pub index_of : List (List ℕ) → List ℕ → ℕ
+index_of names name = position_or_len (bytes_eq name) names
 
 -- the numbers of some children, each with its parent's
 abbrev pub under : List (List ℕ) → List (List ℕ) → ℕ → List (ℕ × ℕ)

@@ -39,11 +39,28 @@ impl Locations {
     ghost use Rattle.rela_locations.specs.Network.{alphabet_of, location_of, members_of, is_finer, names_by};
     ghost use Rattle.rela_locations.specs.Load.{Load};
 
-    /// The locations that a file in JSON lists.
+    /// The locations that a file in JSON lists, in time n log n.
+    ///
+    /// The file is an object with the members `version`, which is 1, and `groups`, an array of
+    /// groups. A group is an object with a `name` and an array `devices`. A device is an object with
+    /// a `name`, an array `interfaces` of names and maybe an array `tags`. Other members count for
+    /// nothing. There are at most 100,000 groups, devices and interfaces each. The name of
+    /// each differs from those of its kind and is neither `drop` nor `loop`; a tag is any name.
     ///
     /// # Errors
     ///
-    /// `NotJson`; else the first fault of a walk of the file, with its row; `Memory`.
+    /// `NotJson`; else the first fault of a walk of the file, which takes the groups in order, in
+    /// each its devices in order, and in each device its tags and then its interfaces; `Memory`.
+    ///
+    /// `WrongShape` has the number of the rule that is broken: 1 the file is an object, 2 its
+    /// `version` is a whole number, 3 its `groups` are an array, 4 a group is an object, 5 its `name`
+    /// is a string, 6 its `devices` are an array, 7 a device is an object, 8 its `name` is a string,
+    /// 9 its `tags`, if there, are an array, 10 a tag is a string, 11 its `interfaces` are an array,
+    /// 12 an interface is a string. The row counts the earlier entries of the same kind in the whole
+    /// file: of groups for the rules 4 to 6, of devices for 7 to 11, of interfaces for 12.
+    ///
+    /// `TooMany` comes before the shape of an entry, and `BadVersion` after that of the version.
+    /// After the shape of a name come `BadName`, `ReservedName` and `RepeatedEntry`, in this order.
     pub fn decode(alloc: Global, bytes: &[u8]) -> Result<Locations, LoadError>
         requires { length bytes.now ≤ 33554432 }
         ensures network { IfOk result (λ locations. Load bytes.now ≡ Ok locations) }

@@ -7,8 +7,7 @@ ghost use Rattle.std.specs.List.Sorted.{IsStrictlySortedBy};
 ghost use Rattle.std.specs.Ordering.{nat_cmp};
 ghost use Rattle.rela_names.specs.Name.{bytes_cmp};
 ghost use Rattle.rela_locations.specs.Names.{has_name};
-ghost use Rattle.rela_locations.specs.Network.{index_of};
-ghost use Rattle.rela_locations.specs.Tables.{has_number, devices_for};
+ghost use Rattle.rela_locations.specs.Tables.{index_of, has_number, devices_for};
 
 use crate::members::MemberError;
 use crate::tags::Tagged;

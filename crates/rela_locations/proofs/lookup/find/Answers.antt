@@ -1,7 +1,7 @@
 use Rattle.std.proofs.Common.{Some, refl, ap, sym, ◌∙◌}
 use Rattle.std.proofs.lemmas.Bool.{false_from_ne_true}
 use Rattle.rela_locations.specs.Names.{has_name}
-use Rattle.rela_locations.specs.Network.{index_of}
+use Rattle.rela_locations.specs.Tables.{index_of}
 use Rattle.rela_locations.proofs.Indexes.{index_of_known, known_at}
 use Rattle.rela_locations.proofs.lookup.find.Goals as goal
 

@@ -1,6 +1,6 @@
 use Rattle.std.proofs.Common.{◌<◌, ℕ, List, [], length, get_or, map, ap, ◌∙◌, Vec, Global}
 use Rattle.std.proofs.lemmas.Option.{slice_get_within}
-use Rattle.rela_locations.specs.Network.{index_of}
+use Rattle.rela_locations.specs.Tables.{index_of}
 use Rattle.rela_locations.proofs.Indexes.{index_of_known}
 use Rattle.rela_locations.proofs.Places.{field_at}
 use Rattle.rela_locations.proofs.lookup.inside.Goals as goal
