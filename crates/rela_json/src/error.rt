@@ -55,8 +55,8 @@ pub struct Shape;
 /// Why bytes give no JSON value.
 #[derive(Debug, Clone, Copy, PartialEq, Eq, Error)]
 pub enum ReadJsonError {
-    /// The bytes are no JSON text (RFC 8259) in UTF-8, nest deeper than 127 arrays and objects, or have a number that
-    /// no finite double-precision number is nearest to.
+    /// The bytes are no JSON text (RFC 8259) in UTF-8, nest arrays and objects more than 127 deep, or hold a number
+    /// that is too large for a finite double-precision one.
     #[error("not JSON")]
     NotJson,
     /// Memory ran out.

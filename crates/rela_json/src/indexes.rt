@@ -12,7 +12,8 @@ use std::alloc::Global;
 /// The entries of an array of whole numbers below a bound, in order. The first entry at fault decides the error.
 pub fn index_list(alloc: Global, value: &Value, below: u32) -> Result<Vec<u32>, ListError>
     ensures indexes { IfOk result (λ v. indexes_of below (view value.now) ≡ Ok v.items) }
-    ensures fault { IfErr result (λ e. e ≢ ListError.Memory → indexes_of below (view value.now) ≡ Err e) }
+    ensures fault { IfErr result (λ e. e ≢ ListError.Memory
+        → indexes_of below (view value.now) ≡ Err e) }
 {
     let entries = array(value)?;
     let mut indexes = Vec::with_capacity(alloc, entries.len())?;

@@ -9,7 +9,8 @@ use serde_json::Value;
 
 /// An object's member of that name, if it has one.
 pub fn member<'a>(value: &'a Value, name: &str) -> Result<Option<&'a Value>, Shape>
-    ensures found { IfOk result (λ m. member_of name.now (view value.now) ≡ Some (option_map (λ v. view v.now) m)) }
+    ensures found { IfOk result (λ m. member_of name.now (view value.now)
+        ≡ Some (option_map (λ v. view v.now) m)) }
     ensures shape { OnErr result (member_of name.now (view value.now) ≡ None) }
 {
     if value.is_object() {
@@ -38,7 +39,8 @@ pub fn number(value: &Value) -> Result<u64, Shape>
 
 /// The entries of an array, in order.
 pub fn array(value: &Value) -> Result<&[Value], Shape>
-    ensures found { IfOk result (λ entries. items_of (view value.now) ≡ Some (map view entries.now)) }
+    ensures found { IfOk result (λ entries. items_of (view value.now)
+        ≡ Some (map view entries.now)) }
     ensures shape { OnErr result (items_of (view value.now) ≡ None) }
 {
     let entries = value.as_array().ok_or(Shape)?;

@@ -1,16 +1,15 @@
 -- Lists of names that ascend by bytes.
-use Rattle.std.proofs.Common.{zero, suc, ◌-◌, ◌≡◌, ◌≢◌, ℕ, ◌+◌, ◌<◌, ◌≤◌, Bool, true, false, List, length, get_or, Option, Some, slice_get, inl, inr, arith, refl, sym, ap, ◌∙◌, subst}
-use Rattle.std.specs.Cmp.{IsTotalOrder}
+use Rattle.std.proofs.Common.{zero, suc, ◌-◌, ◌≡◌, ◌≢◌, ℕ, ◌+◌, ◌<◌, true, false, List, length, get_or, Some, slice_get, inl, inr, arith, refl, sym, ap, ◌∙◌, bytes_eq}
 use Rattle.std.specs.declared.cmp.Ordering.{Ordering}
 use Rattle.std.specs.declared.cmp.Ordering.TheVariants.{Less, Equal, Greater}
 use Rattle.std.specs.Ordering.{is_lt, is_eq, ordering_reverse, ordering_index}
-use Rattle.std.specs.List.{All, AllAdjacentBelow, HoldsAt}
-use Rattle.std.specs.List.Sorted.{IsSorted, IsNonDecreasingBy, IsPartitionPoint}
-use Rattle.std.specs.Str.{bytes_eq}
-use Rattle.std.proofs.lemmas.Cmp.{nat_list_cmp_total}
-use Rattle.std.proofs.lemmas.List.Sorted.{ranks_by, sorted_far, searchable_from_sorted}
+use Rattle.std.specs.List.{All, AllAdjacentBelow, AllPairs, HoldsAt}
+use Rattle.std.specs.List.Sorted.{IsPermutation, IsStrictlySortedBy, IsSorted, IsNonDecreasingBy, IsPartitionPoint}
+use Rattle.std.proofs.lemmas.Cmp.{nat_list_cmp_total, nat_list_eq_equiv}
+use Rattle.std.proofs.lemmas.List.Sorted.{searchable_from_sorted}
 use Rattle.std.proofs.lemmas.Bool.{cases_lt}
 use Rattle.std.proofs.lemmas.Option.{slice_get_cases, get_or_from_slice_get, slice_get-get_or}
+use Rattle.std.proofs.lemmas.Map.Keys.{Less-from_sorted, IsDistinct-from_apart, IsDistinct-IsPermutation, apart_from_distinct}
 use Rattle.std.proofs.lemmas.Map.Text.{is_eq-slice_cmp}
 use Rattle.std.proofs.lemmas.Slice.Eq.{bytes_eq-Decides}
 use Rattle.rela_names.specs.Name.{bytes_cmp, IsBytesBefore, IsAscending}
@@ -59,6 +58,24 @@ ascending_from_neighbours names next i j d below within =
 pub ascending_from_sorted : (names : List (List ℕ)) → IsSorted bytes_cmp names → AllAdjacentBelow (λ a b. a ≢ b) names (length names)
     → IsAscending names
 ascending_from_sorted names sorted distinct = ascending_from_neighbours names (neighbours_ascend names sorted distinct)
+
+-- so does a list in the order of an ordered map's keys
+pub ascending_from_keys : (names : List (List ℕ)) → IsStrictlySortedBy bytes_cmp names → IsAscending names
+ascending_from_keys names sorted i j d below within = Less-from_sorted bytes_cmp names i j d sorted below within
+
+apart : (a b : List ℕ) → a ≢ b → bytes_eq a b ≡ false
+apart a b differ = elim (bytes_eq a b) as (λ r. (r ≡ true → a ≡ b) → r ≡ false) [ true ↦ λ h. absurd (differ (h refl)) | false ↦ λ h. refl ]
+    (bytes_eq-Decides a b).0
+
+-- names that differ still do when they change places
+pub neighbours_differ : (names sorted : List (List ℕ)) → IsPermutation names sorted → AllPairs (λ a b. a ≢ b) names
+    → AllAdjacentBelow (λ a b. a ≢ b) sorted (length sorted)
+neighbours_differ names sorted moved differ k d within same =
+    let before = IsDistinct-from_apart bytes_eq names (λ i j d below in_names. apart (get_or names i d) (get_or names j d) (differ i j d below in_names)) in
+    let after = IsDistinct-IsPermutation bytes_eq nat_list_eq_equiv.symm names sorted moved before in
+    let no : bytes_eq (get_or sorted k d) (get_or sorted (k + 1) d) ≡ false = apart_from_distinct bytes_eq sorted k (k + 1) d after (omega arith) within in
+    let yes : bytes_eq (get_or sorted k d) (get_or sorted (k + 1) d) ≡ true = (bytes_eq-Decides (get_or sorted k d) (get_or sorted (k + 1) d)).1 same in
+    cc
 
 -- an ascending list is sorted
 pub sorted_from_ascending : (names : List (List ℕ)) → IsAscending names → IsSorted bytes_cmp names

@@ -1,5 +1,5 @@
 -- The location names of one level.
-use Rattle.std.specs.Prelude.{◌≡◌, ℕ, ◌+◌, ◌<◌, ◌≤◌, List, length}
+use Rattle.std.specs.Prelude.{ℕ, ◌+◌, ◌≤◌, List, length}
 use Rattle.std.specs.List.{All}
 use Rattle.rela_names.specs.Name.{IsLocationName, IsAscending}
 

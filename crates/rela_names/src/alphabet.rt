@@ -1,9 +1,9 @@
-ghost use Rattle.std.specs.Prelude.{◌≡◌, ◌≢◌, ℕ, ◌+◌, ◌-◌, ◌<◌, ◌≤◌, ◌↔◌, IfOk, IfNone, length, slice_get, ◌++◌};
+ghost use Rattle.std.specs.Prelude.{◌≡◌, ◌≢◌, ℕ, ◌+◌, ◌-◌, ◌<◌, ◌≤◌, ◌↔◌, IfOk, IfNone, IfSome, length, slice_get, ◌++◌};
 ghost use Rattle.std.specs.Fmt.{decimal};
 ghost use Rattle.std.specs.List.{All};
 ghost use Rattle.std.specs.Option.{option_copied};
 ghost use Rattle.rela_names.specs.Alphabet.{IsAlphabet, path_symbols};
-ghost use Rattle.rela_names.specs.Symbol.{word_text, symbol_text};
+ghost use Rattle.rela_names.specs.Symbol.{Location, Drop, Loop, Marker, SymbolOrder, meaning_of, word_text, symbol_text};
 
 use crate::name::Name;
 use crate::word::Symbol;
@@ -44,6 +44,15 @@ impl Alphabet {
         Alphabet { names }
     }
 
+    /// Smaller numbers stand for earlier symbols: the locations come in the order of their names by
+    /// bytes, then `drop`, `loop` and the markers in the order of their numbers. The call does
+    /// nothing, and its contract is this law.
+    pub fn symbols_are_in_order(&self)
+        ensures { (s t : ℕ) → s < t → SymbolOrder (meaning_of self.now s) (meaning_of self.now t) }
+    {
+        let _ = &self.names;
+    }
+
     /// How many path symbols there are: the locations, `drop` and `loop`.
     pub fn len(&self) -> u32
         ensures len { result ≡ length self.now + 2 }
@@ -54,14 +63,16 @@ impl Alphabet {
 
     /// The symbol of what ends a path where traffic is dropped.
     pub fn drop_symbol(&self) -> Symbol
-        ensures { result ≡ length self.now }
+        ensures number { result ≡ length self.now }
+        ensures meaning { meaning_of self.now result ≡ Drop }
     {
         self.len() - 2
     }
 
     /// The symbol of what ends a path that never leaves a cycle.
     pub fn loop_symbol(&self) -> Symbol
-        ensures { result ≡ length self.now + 1 }
+        ensures number { result ≡ length self.now + 1 }
+        ensures meaning { meaning_of self.now result ≡ Loop }
     {
         self.len() - 1
     }
@@ -69,15 +80,17 @@ impl Alphabet {
     /// The symbol of the marker `#k`.
     pub fn marker(&self, k: u32) -> Symbol
         requires positive { 1 ≤ k }
-        requires few { k ≤ 20000 }
-        ensures { result ≡ length self.now + 1 + k }
+        requires few { k ≤ MAX_MARKERS }
+        ensures number { result ≡ length self.now + 1 + k }
+        ensures meaning { meaning_of self.now result ≡ Marker k }
     {
         self.len() + k - 1
     }
 
     /// The name of a location, and `None` for any other symbol.
     pub fn name_of(&self, symbol: Symbol) -> Option<&Name>
-        ensures { option_copied result ≡ slice_get self.now symbol }
+        ensures name { option_copied result ≡ slice_get self.now symbol }
+        ensures meaning { IfSome result (λ name. meaning_of self.now symbol ≡ Location name.now) }
     {
         self.names.get(symbol as usize)
     }
@@ -100,7 +113,7 @@ impl Alphabet {
     /// The texts of the symbols with one blank between two, and `()` for the empty word. A location's
     /// text is its name, and the others' are `drop`, `loop` and `#k`.
     pub fn text_of(&self, alloc: Global, word: &[Symbol]) -> Result<Vec<u8>, AllocError>
-        requires { All (λ s. s < path_symbols self.now + 20000) word.now }
+        requires { All (λ s. s < path_symbols self.now + MAX_MARKERS) word.now }
         ensures { IfOk result (λ text. text.items ≡ word_text self.now word.now) }
     {
         let mut text = Vec::new(alloc);
@@ -117,7 +130,7 @@ impl Alphabet {
     }
 
     fn push_symbol(&self, text: &mut Vec<u8>, symbol: Symbol) -> Result<(), AllocError>
-        requires { symbol < path_symbols self.now + 20000 }
+        requires { symbol < path_symbols self.now + MAX_MARKERS }
         ensures { IfOk result (λ _. text.new.items ≡ text.old.items ++ symbol_text self.now symbol) }
     {
         if let Some(name) = self.name_of(symbol) {

@@ -1,10 +1,8 @@
-ghost use Rattle.std.specs.Prelude.{◌≡◌, ◌≢◌, ℕ, ◌<◌, ◌+◌, ◌↔◌, true, false, IsTrue, IfOk, OnOk, IsErrOf, length};
-ghost use Rattle.std.specs.List.Sorted.{IsSorted};
-ghost use Rattle.std.specs.List.{AllAdjacentBelow, list_all};
-ghost use Rattle.rela_names.specs.Name.{is_name_byte, is_name, IsName, is_reserved, IsLocationName, bytes_cmp, IsAscending};
+ghost use Rattle.std.specs.Prelude.{◌≡◌, ◌≢◌, ◌↔◌, true, false, IsTrue, IfOk, OnOk, IsErrOf};
+ghost use Rattle.std.specs.List.{list_all};
+ghost use Rattle.rela_names.specs.Name.{is_name_byte, is_name, IsName, is_reserved, IsLocationName};
 
 use std::alloc::{AllocError, AllocFailed, Global};
-use std::cmp::Ordering;
 use std::marker::Model;
 use thiserror::Error;
 
@@ -12,7 +10,7 @@ use thiserror::Error;
 pub const MAX_NAME_LEN: usize = 64;
 
 /// Why bytes are not taken as a name.
-#[derive(Debug, Drop, Error)]
+#[derive(Debug, PartialEq, Eq, Drop, Error)]
 pub enum NameError {
     #[error("a name has 1 to 64 letters, digits and the marks _ . : / -")]
     Bad,
@@ -28,6 +26,16 @@ impl From<AllocError> for NameError {
     ghost from_gives = { λ _ e. e ≡ Memory };
 
     fn from(_error: AllocError) -> NameError {
+        NameError::Memory
+    }
+}
+
+impl<T: Drop> From<AllocFailed<T>> for NameError {
+    ghost use Rattle.rela_names.specs.declared.name.NameError.TheVariants.{Memory};
+
+    ghost from_gives = { λ _ e. e ≡ Memory };
+
+    fn from(_error: AllocFailed<T>) -> NameError {
         NameError::Memory
     }
 }
@@ -129,65 +137,3 @@ impl Name {
         Ok(Name { bytes })
     }
 }
-
-impl PartialEq for Name {
-    ghost use Rattle.std.specs.Str.{bytes_eq};
-    ghost use Rattle.std.specs.Cmp.{partial_equiv_from_equiv};
-    ghost use Rattle.std.proofs.lemmas.Cmp.{nat_list_eq_equiv};
-
-    ghost eq = { bytes_eq };
-
-    ghost laws = { partial_equiv_from_equiv nat_list_eq_equiv };
-
-    fn eq(&self, other: &Name) -> bool {
-        self.as_bytes() == other.as_bytes()
-    }
-}
-
-impl Eq for Name {
-    ghost use Rattle.std.proofs.lemmas.Cmp.{nat_list_eq_equiv};
-
-    ghost laws = { nat_list_eq_equiv };
-}
-
-impl PartialOrd for Name {
-    ghost use Rattle.std.specs.Ordering.{as_partial_cmp};
-    ghost use Rattle.rela_names.specs.Name.{bytes_cmp};
-    ghost use Rattle.std.specs.Cmp.{partial_order_from_own_ties};
-    ghost use Rattle.std.specs.Cmp.Rules.{comparing};
-    ghost use Rattle.std.proofs.Common.{rules};
-
-    ghost partial_cmp = { as_partial_cmp bytes_cmp };
-
-    ghost laws = { partial_order_from_own_ties (Prim.search (comparing, rules)) (Prim.search (comparing, rules)) };
-
-    fn partial_cmp(&self, other: &Name) -> Option<Ordering> {
-        Some(self.cmp(other))
-    }
-}
-
-impl Ord for Name {
-    ghost use Rattle.rela_names.specs.Name.{bytes_cmp};
-    ghost use Rattle.std.specs.Cmp.Rules.{comparing};
-    ghost use Rattle.std.proofs.Common.{rules};
-
-    ghost cmp = { bytes_cmp };
-
-    ghost total = { Prim.search (comparing, rules) };
-
-    ghost matches_partial_cmp = { Prim.search (comparing, rules) };
-
-    ghost matches_eq = { Prim.search (comparing, rules) };
-
-    fn cmp(&self, other: &Name) -> Ordering {
-        self.as_bytes().cmp(other.as_bytes())
-    }
-}
-
-/// Names that were sorted, as by `Vec::sort`, and of which no two neighbours are equal ascend
-/// strictly.
-pub fn ascending_when_sorted(names: &[Name])
-    requires sorted { IsSorted bytes_cmp names.now }
-    requires distinct { AllAdjacentBelow (λ a b. a ≢ b) names.now (length names.now) }
-    ensures { IsAscending names.now }
-{}

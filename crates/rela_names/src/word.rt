@@ -35,3 +35,24 @@ impl Word {
         self.symbols.as_slice()
     }
 }
+
+impl PartialEq for Word {
+    ghost use Rattle.std.specs.Prelude.{nat_eq};
+    ghost use Rattle.std.specs.Cmp.{partial_equiv_from_equiv};
+    ghost use Rattle.std.specs.Cmp.Lexicographic.{pointwise};
+    ghost use Rattle.std.proofs.lemmas.Cmp.{nat_list_eq_equiv};
+
+    ghost eq = { pointwise nat_eq };
+
+    ghost laws = { partial_equiv_from_equiv nat_list_eq_equiv };
+
+    fn eq(&self, other: &Word) -> bool {
+        self.as_slice() == other.as_slice()
+    }
+}
+
+impl Eq for Word {
+    ghost use Rattle.std.proofs.lemmas.Cmp.{nat_list_eq_equiv};
+
+    ghost laws = { nat_list_eq_equiv };
+}

@@ -42,19 +42,37 @@ fn has_undecided(rows: &[ReportRow]) -> bool
 pub(crate) fn is_compliant(row: &ReportRow) -> bool
     ensures { result ≡ is_compliant row.now }
 {
-    matches!(row, ReportRow::Checked { row: Row::Compliant, .. })
+    matches!(
+        row,
+        ReportRow::Checked {
+            row: Row::Compliant,
+            ..
+        }
+    )
 }
 
 pub(crate) fn is_violated(row: &ReportRow) -> bool
     ensures { result ≡ is_violated row.now }
 {
-    matches!(row, ReportRow::Checked { row: Row::Violated { .. }, .. })
+    matches!(
+        row,
+        ReportRow::Checked {
+            row: Row::Violated { .. },
+            ..
+        }
+    )
 }
 
 pub(crate) fn is_undecided(row: &ReportRow) -> bool
     ensures { result ≡ is_undecided row.now }
 {
-    matches!(row, ReportRow::Checked { row: Row::Undecided, .. })
+    matches!(
+        row,
+        ReportRow::Checked {
+            row: Row::Undecided,
+            ..
+        }
+    )
 }
 
 pub(crate) fn is_unselected(row: &ReportRow) -> bool

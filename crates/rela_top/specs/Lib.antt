@@ -1,7 +1,10 @@
 pub mod Words
+pub mod Operands
 pub mod Refusal
 pub mod Answer
 pub mod Reading
+pub mod Loading
+pub mod Plain
 pub use Rattle.rela_io.specs.Count
 pub use Rattle.rela_io.specs.Bytes
 pub use Rattle.rela_io.specs.Held

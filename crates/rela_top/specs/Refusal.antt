@@ -1,8 +1,13 @@
 -- The line that a refused input gets: `refused`, the place, the number and name of the refusal, and its detail.
-use Rattle.std.specs.Prelude.{ℕ, List, [], ◌∷◌, ◌++◌, codes}
+use Rattle.std.specs.Prelude.{ℕ, List, [], ◌++◌, codes}
 use Rattle.std.specs.Fmt.{decimal}
 use Rattle.rela_json.specs.declared.error.LoadError.{LoadError}
 use Rattle.rela_json.specs.declared.error.LoadError.TheVariants as load
+use Rattle.rela_lex.specs.declared.error.SpecError.{SpecError}
+use Rattle.rela_lex.specs.declared.error.SpecError.TheVariants as spec
+use Rattle.rela_flows.specs.Notation.{text_of}
+use Rattle.rela_flows.specs.declared.predicate.FlowClass.{FlowClass}
+use Rattle.rela_report.specs.Text.{line}
 use Rattle.rela_top.specs.declared.refusal.Input.{Input}
 use Rattle.rela_top.specs.declared.refusal.Input.TheVariants.{Locations, Before, After, Spec}
 use Rattle.rela_top.specs.declared.refusal.Refusal.{Refusal}
@@ -14,19 +19,61 @@ input_text Before = codes "before"
 input_text After = codes "after"
 input_text Spec = codes "spec"
 
-abbrev pub row_text : ℕ → List ℕ
-row_text row = codes " row " ++ decimal row
+-- a refusal with the row that it stands in
+unfoldable pub in_row : List ℕ → ℕ → List ℕ
+in_row refusal row = refusal ++ (codes " row " ++ decimal row)
 
--- number, name and detail of what a decoder refused; want of memory is no refusal
+-- a shape refused by this rule
+unfoldable pub by_rule : ℕ → List ℕ
+by_rule rule = codes "12 WrongShape rule " ++ decimal rule
+
+-- what a decoder refused; want of memory is no refusal
 abbrev pub load_text : LoadError → List ℕ
 load_text load.NotJson = codes "11 NotJson"
-load_text (load.WrongShape rule row) = codes "12 WrongShape rule " ++ decimal rule ++ row_text row
+load_text (load.WrongShape rule row) = in_row (by_rule rule) row
 load_text load.BadVersion = codes "13 BadVersion"
-load_text (load.BadName row) = codes "14 BadName" ++ row_text row
-load_text (load.ReservedName row) = codes "15 ReservedName" ++ row_text row
-load_text (load.RepeatedEntry row) = codes "16 RepeatedEntry" ++ row_text row
-load_text (load.UnknownLocation row) = codes "17 UnknownLocation" ++ row_text row
-load_text (load.BadIndex row) = codes "18 BadIndex" ++ row_text row
-load_text (load.BadPrefix row) = codes "19 BadPrefix" ++ row_text row
-load_text (load.TooMany row) = codes "20 TooMany" ++ row_text row
+load_text (load.BadName row) = in_row (codes "14 BadName") row
+load_text (load.ReservedName row) = in_row (codes "15 ReservedName") row
+load_text (load.RepeatedEntry row) = in_row (codes "16 RepeatedEntry") row
+load_text (load.UnknownLocation row) = in_row (codes "17 UnknownLocation") row
+load_text (load.BadIndex row) = in_row (codes "18 BadIndex") row
+load_text (load.BadPrefix row) = in_row (codes "19 BadPrefix") row
+load_text (load.TooMany row) = in_row (codes "20 TooMany") row
+load_text (load.UnknownNode row) = in_row (codes "22 UnknownNode") row
 load_text load.Memory = []
+
+-- a refusal with the offset in the text that it stands at
+unfoldable pub at_offset : List ℕ → ℕ → List ℕ
+at_offset refusal at = refusal ++ (codes " at " ++ decimal at)
+
+-- what is refused of a specification; want of memory is no refusal
+abbrev pub spec_text : SpecError → List ℕ
+spec_text (spec.BadToken at) = at_offset (codes "31 BadToken") at
+spec_text (spec.Syntax at) = at_offset (codes "32 Syntax") at
+spec_text (spec.UnknownName at) = at_offset (codes "33 UnknownName") at
+spec_text (spec.RepeatedName at) = at_offset (codes "34 RepeatedName") at
+spec_text (spec.TooDeep at) = at_offset (codes "35 TooDeep") at
+spec_text (spec.TooLarge at) = at_offset (codes "36 TooLarge") at
+spec_text (spec.BadNumber at) = at_offset (codes "37 BadNumber") at
+spec_text (spec.FinerLevel at) = at_offset (codes "38 FinerLevel") at
+spec_text (spec.UnknownLocation at) = at_offset (codes "17 UnknownLocation") at
+spec_text (spec.NotBuilt at) = at_offset (codes "40 NotBuilt") at
+spec_text spec.Memory = []
+
+-- destination, source and class
+unfoldable pub class_text : FlowClass → List ℕ
+class_text flow = codes " dst " ++ (text_of flow.dst ++ (codes " src " ++ (text_of flow.src ++ (codes " class " ++ flow.class))))
+
+-- a flow of one name whose two snapshots tell different classes
+unfoldable pub differs_text : FlowClass → FlowClass → List ℕ
+differs_text before after = codes "21 FlowDiffers " ++ (before.name ++ (class_text before ++ class_text after))
+
+-- the place, and what is said of it
+unfoldable pub at_place : List ℕ → List ℕ → List ℕ
+at_place place said = codes "refused " ++ (place ++ (codes " " ++ line said))
+
+abbrev pub refusal_line : Refusal → List ℕ
+refusal_line (TooLong input) = at_place (input_text input) (codes "2 TooLong")
+refusal_line (Load input error) = at_place (input_text input) (load_text error)
+refusal_line (FlowDiffers before after) = at_place (codes "pair") (differs_text before after)
+refusal_line (Specification error) = at_place (codes "spec") (spec_text error)

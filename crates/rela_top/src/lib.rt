@@ -1,13 +1,30 @@
-// A library with one function.
+//! What the program does, from its words and the files they name to the bytes it writes.
 #![tactic(auto)]
 
-ghost use Rattle.std.specs.Prelude.{◌≡◌};
-ghost use Rattle.rela_top.specs.Echo.{echo_of};
+mod answer;
+mod loading;
+mod plain;
+mod reading;
+mod refusal;
+mod reporting;
+mod rows;
+mod running;
+mod verdict;
+mod words;
 
-// The `ensures` clause is the contract: what `echo` returns is `echo_of` of its argument, a definition
-// in `specs/Echo.antt`, which a caller's clause can cite too.
-pub fn echo(x: usize) -> usize
-    ensures { result ≡ echo_of x }
-{
-    x
-}
+pub use answer::{
+    Answer, BAD_WORDS, MET, NO_MEMORY, READ_FAULT, REFUSED, UNDECIDED, VIOLATED, WRITE_FAULT,
+    deliver,
+};
+pub use loading::{load_locations, load_snapshot, load_spec, pair_halt};
+pub use plain::{PlainCheck, read_plain};
+pub use reading::{Halt, MAX_FILE_BYTES, read_input};
+pub use refusal::{Input, Refusal, refusal_line};
+pub use reporting::report;
+pub use rows::{row_of, rows_of};
+pub use running::run;
+pub use verdict::decide_kept;
+pub use words::{Operands, read_words};
+
+#[cfg(test)]
+mod tests;

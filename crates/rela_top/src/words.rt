@@ -2,10 +2,14 @@
 
 ghost use Rattle.std.specs.Prelude.{◌≡◌, map, option_map, string_bytes};
 ghost use Rattle.rela_top.specs.Words.{Words, is_operand};
+ghost use Rattle.rela_top.specs.Operands.{files_of};
+ghost use Rattle.rela_top.specs.Reading.{name_of};
+
+use crate::refusal::Input;
 
 /// The names of the files that `check` reads.
 #[derive(Clone, Copy, Debug)]
-pub struct CheckFiles<'a> {
+pub struct Operands<'a> {
     /// The snapshot before the change.
     pub before: &'a str,
     /// The snapshot after the change.
@@ -16,12 +20,24 @@ pub struct CheckFiles<'a> {
     pub spec: &'a str,
 }
 
+impl<'a> Operands<'a> {
+    /// The name of the file that stands for this input.
+    pub fn name_of(&self, input: Input) -> &'a str
+        ensures { result.now ≡ name_of (files_of self.now) input }
+    {
+        match input {
+            Input::Locations => self.locations,
+            Input::Before => self.before,
+            Input::After => self.after,
+            Input::Spec => self.spec,
+        }
+    }
+}
+
 /// Reads `check BEFORE AFTER LOCATIONS SPEC`, where no file's name begins with a dash, and `None`
 /// for any other words.
-pub fn read_words(words: &[String]) -> Option<CheckFiles<'_>>
-    ensures { option_map (λ files. record {
-            before = files.before.now; after = files.after.now; locations = files.locations.now; spec = files.spec.now
-        }) result ≡ Words (map string_bytes words.now) }
+pub fn read_words(words: &[String]) -> Option<Operands<'_>>
+    ensures { option_map files_of result ≡ Words (map string_bytes words.now) }
 {
     let [command, before, after, locations, spec] = words else {
         return None;
@@ -34,7 +50,7 @@ pub fn read_words(words: &[String]) -> Option<CheckFiles<'_>>
         && is_operand(locations)
         && is_operand(spec)
     {
-        Some(CheckFiles {
+        Some(Operands {
             before,
             after,
             locations,

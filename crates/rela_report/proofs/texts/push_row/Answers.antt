@@ -9,6 +9,6 @@ returns-in_ok-extend_from_slice-in-Unselected-3 c =
       c.in_ok-extend_from_slice-in-Unselected-3.ensures.items,
       c.in_ok-extend_from_slice-in-Unselected-2.ensures.items,
       c.in_ok-extend_from_slice-in-Unselected.ensures.items,
-      c.as_bytes.ensures.bytes
+      c.as_bytes.ensures.bytes,
     )
     (simp append_assoc)

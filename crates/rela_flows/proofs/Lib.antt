@@ -1,0 +1,15 @@
+pub mod FirstBits
+pub mod PrefixSets
+pub mod Parts
+pub mod Numerals
+pub mod Exactly
+pub mod FieldRuns
+pub mod Addresses
+pub mod Gaps
+pub mod Elided
+pub mod Ipv6Addresses
+pub mod SamePrefix
+pub mod PrefixTexts
+pub mod OwnText
+pub mod SelectionLemmas
+pub mod PlanLemmas

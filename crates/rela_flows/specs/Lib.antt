@@ -1,0 +1,6 @@
+pub mod Address
+pub mod Fields
+pub mod Notation
+pub mod Network
+pub mod Selects
+pub mod Plan

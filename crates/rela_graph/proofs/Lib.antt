@@ -1,0 +1,13 @@
+pub mod Links
+pub mod Adjacent
+pub mod Flagged
+pub mod Ending
+pub mod Growing
+pub mod Arriving
+pub mod Squeezing
+pub mod Walking
+pub mod Ways
+pub mod Cycling
+pub mod Claiming
+pub mod Entering
+pub mod Chaining

@@ -1,0 +1,12 @@
+use Rattle.std.proofs.Common.{◌-◌}
+use Rattle.rela_graph.specs.Component.{SameFrame, AreBehind}
+use Rattle.rela_graph.proofs.graph.Graph.follow_back.Given as goal
+
+abbrev pub invariant-loop-next : goal.invariant-loop-next
+invariant-loop-next l = record {
+  frame : SameFrame l.fn.claimed l.claimed;
+  behind : AreBehind l.self l.claimed;
+}
+
+abbrev pub decreases-loop-next : goal.decreases-loop-next
+decreases-loop-next l = l.claimed.count - l.next

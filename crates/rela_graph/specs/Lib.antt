@@ -1,0 +1,10 @@
+pub mod Adjacency
+pub mod Component
+pub mod Incoming
+pub mod NodeSet
+pub mod Paths
+pub mod Spread
+pub mod Stored
+pub mod Topology
+pub mod Visit
+pub mod Walk

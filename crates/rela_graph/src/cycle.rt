@@ -1,0 +1,87 @@
+ghost use Rattle.std.specs.Prelude.{◌≡◌, ℕ, ◌<◌, ◌↔◌, IsTrue, IfOk, length, false, slice_index_or, vec_len, replicate, slice_index};
+ghost use Rattle.std.specs.List.{All, Any};
+ghost use Rattle.rela_graph.specs.Component.{AreComponents};
+ghost use Rattle.rela_graph.specs.Walk.{IsCyclic};
+
+use crate::graph::Graph;
+use crate::node::Link;
+use crate::node_set::NodeSet;
+use std::alloc::{AllocError, Global};
+
+impl Graph {
+    /// Whether the node lies on a cycle: one or more edges lead from it back to it.
+    pub fn on_cycle(&self, alloc: Global, n: u32) -> Result<bool, AllocError>
+        ensures cyclic { IfOk result (λ cyclic. IsTrue cyclic ↔ IsCyclic self.now n) }
+    {
+        let cyclic = self.cyclic_nodes(alloc)?;
+        Ok(cyclic.get(n as usize).copied().unwrap_or(false))
+    }
+
+    /// Whether each node lies on a cycle, in the order of their numbers. It takes a number of steps that
+    /// is linear in the nodes and the edges.
+    pub fn cyclic_nodes(&self, alloc: Global) -> Result<Vec<bool>, AllocError>
+        ensures nodes { IfOk result (λ cyclic. vec_len cyclic ≡ length self.now.nodes) }
+        ensures cyclic { IfOk result (λ cyclic. (n : ℕ) → IsTrue (slice_index_or cyclic.items n false) ↔ IsCyclic self.now n) }
+    {
+        match self.components(alloc)? {
+            Some(components) => self.cyclic_by_components(alloc, &components),
+            None => self.cyclic_by_searches(alloc),
+        }
+    }
+
+    /// The same by the components: a node lies on a cycle where an edge leads from it to a node of its
+    /// own component.
+    fn cyclic_by_components(
+        &self,
+        alloc: Global,
+        components: &[usize],
+    ) -> Result<Vec<bool>, AllocError>
+        requires { AreComponents self.now components.now }
+        ensures nodes { IfOk result (λ cyclic. vec_len cyclic ≡ length self.now.nodes) }
+        ensures cyclic { IfOk result (λ cyclic. (n : ℕ) → IsTrue (slice_index_or cyclic.items n false) ↔ IsCyclic self.now n) }
+    {
+        let count = self.nodes().len();
+        let mut cyclic = Vec::with_capacity(alloc, count)?;
+        for n in 0..count {
+            let edges = self.edges_from(n as u32);
+            cyclic.push(any_leads_into(edges, components, components[n]))?;
+        }
+        Ok(cyclic)
+    }
+
+    /// The same by a search from each node.
+    fn cyclic_by_searches(&self, alloc: Global) -> Result<Vec<bool>, AllocError>
+        ensures nodes { IfOk result (λ cyclic. vec_len cyclic ≡ length self.now.nodes) }
+        ensures cyclic { IfOk result (λ cyclic. (n : ℕ) → IsTrue (slice_index_or cyclic.items n false) ↔ IsCyclic self.now n) }
+    {
+        let count = self.nodes().len();
+        let labels = vec![in alloc; 0u32; count]?;
+        let mut cyclic = Vec::with_capacity(alloc, count)?;
+        for n in 0..count {
+            cyclic.push(self.returns_to(alloc, &labels, n as u32)?)?;
+        }
+        Ok(cyclic)
+    }
+
+    /// Whether one or more edges lead from the node back to it.
+    fn returns_to(&self, alloc: Global, labels: &[u32], n: u32) -> Result<bool, AllocError>
+        requires node { n < length self.now.nodes }
+        requires labels { labels.now ≡ replicate (length self.now.nodes) 0 }
+        ensures { IfOk result (λ cyclic. IsTrue cyclic ↔ IsCyclic self.now n) }
+    {
+        let mut reached = NodeSet::new(alloc, labels.len())?;
+        self.add_next(labels, 0, n, &mut reached)?;
+        self.spread(labels, 0, &mut reached)?;
+        Ok(reached.members().contains(&n))
+    }
+}
+
+/// Whether one of the edges leads to a node of the component.
+fn any_leads_into(edges: &[Link], components: &[usize], component: usize) -> bool
+    requires { All (λ link. link.b < length components.now) edges.now }
+    ensures { IsTrue result ↔ Any (λ link. slice_index components.now link.b ≡ component) edges.now }
+{
+    edges
+        .iter()
+        .any(|edge| components[edge.b as usize] == component)
+}

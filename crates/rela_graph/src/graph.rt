@@ -1,0 +1,192 @@
+ghost use Rattle.std.specs.Prelude.{◌≡◌, ℕ, ◌<◌, ◌≤◌, ◌↔◌, IsTrue, IfOk, Contains, length, vec_len};
+ghost use Rattle.std.specs.List.{All};
+ghost use Rattle.std.specs.List.Sorted.{IsSorted, IsPartitionPoint};
+ghost use Rattle.rela_graph.specs.Adjacency.{IsIndexed, link_cmp};
+ghost use Rattle.rela_graph.specs.Topology.{IsTopology, JoinsNodes, IsEdgeFrom, HasEdge, IsStart, IsDelivered, IsDropped, HasFlag};
+ghost use Rattle.rela_graph.specs.declared.node.Link.{Link};
+
+use crate::node::{Link, Node};
+use std::alloc::{AllocError, Global};
+use std::marker::Model;
+
+/// The greatest number of nodes of one graph.
+pub const MAX_NODES: usize = 10_000;
+
+/// The greatest number of edges of one graph.
+pub const MAX_EDGES: usize = 100_000;
+
+/// How one class of traffic is forwarded: a directed graph of nodes that are numbered from 0, some
+/// of which are starts, and some of which are listed as those that deliver or drop the traffic.
+/// Contracts see it as a [`Topology`]: the lists of its nodes and edges, and a flag of each kind for
+/// each node.
+#[derive(Debug, Drop)]
+pub struct Graph {
+    nodes: Vec<Node>,
+    /// Ascending by the first node and then by the second.
+    edges: Vec<Link>,
+    /// For each node, and for the number after the last, how many edges come from nodes before it.
+    offsets: Vec<u32>,
+    starts: Vec<bool>,
+    delivered: Vec<bool>,
+    dropped: Vec<bool>,
+}
+
+impl Model for Graph {
+    ghost use Rattle.rela_graph.specs.Topology.{Topology};
+
+    ghost Value = { Topology };
+
+    ghost use Rattle.rela_graph.specs.Stored.{topology, IsStored};
+
+    ghost view = { topology };
+
+    ghost invariant = { IsStored };
+}
+
+impl Graph {
+    /// The graph of these nodes, edges, starts and lists of nodes that deliver and that drop.
+    /// Repetitions count once. Nodes are named by their place in the list.
+    pub fn new(
+        alloc: Global,
+        nodes: Vec<Node>,
+        edges: &[Link],
+        starts: &[u32],
+        delivered: &[u32],
+        dropped: &[u32],
+    ) -> Result<Graph, AllocError>
+        requires few_nodes { length nodes.items ≤ MAX_NODES }
+        requires few_edges { length edges.now ≤ MAX_EDGES }
+        requires edges_join { All (JoinsNodes (length nodes.items)) edges.now }
+        requires starts_exist { All (λ n. n < length nodes.items) starts.now }
+        requires delivered_exist { All (λ n. n < length nodes.items) delivered.now }
+        requires dropped_exist { All (λ n. n < length nodes.items) dropped.now }
+        ensures nodes { IfOk result (λ graph. graph.nodes ≡ nodes.items) }
+        ensures edges { IfOk result (λ graph. (a b : ℕ) → HasEdge graph a b ↔ Contains edges.now (record { a = a; b = b })) }
+        ensures starts { IfOk result (λ graph. (n : ℕ) → IsStart graph n ↔ Contains starts.now n) }
+        ensures delivered { IfOk result (λ graph. (n : ℕ) → IsDelivered graph n ↔ Contains delivered.now n) }
+        ensures dropped { IfOk result (λ graph. (n : ℕ) → IsDropped graph n ↔ Contains dropped.now n) }
+    {
+        let count = nodes.len();
+        let edges = sorted(alloc, edges)?;
+        let offsets = offsets_of(alloc, &edges, count)?;
+        let starts = flags_of(alloc, starts, count)?;
+        let delivered = flags_of(alloc, delivered, count)?;
+        let dropped = flags_of(alloc, dropped, count)?;
+        Ok(Graph {
+            nodes,
+            edges,
+            offsets,
+            starts,
+            delivered,
+            dropped,
+        })
+    }
+
+    /// The nodes, in the order of their numbers.
+    pub fn nodes(&self) -> &[Node]
+        ensures nodes { result.now ≡ self.now.nodes }
+        ensures topology { IsTopology self.now }
+    {
+        self.nodes.as_slice()
+    }
+
+    /// Whether an edge leads from a to b.
+    pub fn has_edge(&self, a: u32, b: u32) -> bool
+        ensures edge { IsTrue result ↔ HasEdge self.now a b }
+        ensures nodes { IsTrue result → (a < length self.now.nodes) × (b < length self.now.nodes) }
+    {
+        self.edges.binary_search(&Link { a, b }).is_ok()
+    }
+
+    /// Whether a walk may begin at the node.
+    pub fn is_start(&self, n: u32) -> bool
+        ensures start { IsTrue result ↔ IsStart self.now n }
+        ensures node { IsTrue result → n < length self.now.nodes }
+    {
+        self.starts.get(n as usize).copied().unwrap_or(false)
+    }
+
+    /// Whether the node is listed as one that delivers.
+    pub fn is_delivered(&self, n: u32) -> bool
+        ensures delivered { IsTrue result ↔ IsDelivered self.now n }
+        ensures node { IsTrue result → n < length self.now.nodes }
+    {
+        self.delivered.get(n as usize).copied().unwrap_or(false)
+    }
+
+    /// Whether the node is listed as one that drops.
+    pub fn is_dropped(&self, n: u32) -> bool
+        ensures dropped { IsTrue result ↔ IsDropped self.now n }
+        ensures node { IsTrue result → n < length self.now.nodes }
+    {
+        self.dropped.get(n as usize).copied().unwrap_or(false)
+    }
+
+    /// The edges, by the node that they come from and then by the node that they lead to.
+    pub(crate) fn edges(&self) -> &[Link]
+        ensures edges { result.now ≡ self.now.edges }
+        ensures topology { IsTopology self.now }
+    {
+        self.edges.as_slice()
+    }
+
+    /// The edges that come from a node.
+    pub(crate) fn edges_from(&self, n: u32) -> &[Link]
+        requires { n < length self.now.nodes }
+        ensures few { length result.now ≤ length self.now.edges }
+        ensures each { All (IsEdgeFrom self.now n) result.now }
+        ensures all { (b : ℕ) → HasEdge self.now n b → Contains result.now (record { a = n; b = b }) }
+    {
+        let from = self.offsets[n as usize] as usize;
+        let to = self.offsets[n as usize + 1] as usize;
+        &self.edges[from..to]
+    }
+}
+
+/// The edges in ascending order, each once.
+fn sorted(alloc: Global, edges: &[Link]) -> Result<Vec<Link>, AllocError>
+    ensures same { IfOk result (λ v. (link : Link) → Contains v.items link ↔ Contains edges.now link) }
+    ensures ordered { IfOk result (λ v. IsSorted link_cmp v.items) }
+    ensures few { IfOk result (λ v. vec_len v ≤ length edges.now) }
+{
+    let mut edges = Vec::from_slice(alloc, edges)?;
+    edges.sort_unstable();
+    edges.dedup();
+    Ok(edges)
+}
+
+/// For each node, and for the number after the last, how many edges come from nodes before it.
+fn offsets_of(alloc: Global, edges: &[Link], count: usize) -> Result<Vec<u32>, AllocError>
+    requires ordered { IsSorted link_cmp edges.now }
+    requires few_edges { length edges.now ≤ MAX_EDGES }
+    requires few_nodes { count ≤ MAX_NODES }
+    ensures { IfOk result (λ v. IsIndexed count edges.now v.items) }
+{
+    let mut offsets = Vec::with_capacity(alloc, count + 1)?;
+    for n in 0..count + 1 {
+        offsets.push(edges_before(edges, n) as u32)?;
+    }
+    Ok(offsets)
+}
+
+/// How many edges come from nodes before n.
+fn edges_before(edges: &[Link], n: usize) -> usize
+    requires { IsSorted link_cmp edges.now }
+    ensures parted { IsPartitionPoint (λ link. link.a < n) (λ link. n ≤ link.a) edges.now result }
+    ensures within { result ≤ length edges.now }
+{
+    edges.partition_point(|edge| (edge.a as usize) < n)
+}
+
+/// A flag for each number below `count`, which is set for those that are listed.
+fn flags_of(alloc: Global, listed: &[u32], count: usize) -> Result<Vec<bool>, AllocError>
+    requires { All (λ n. n < count) listed.now }
+    ensures len { IfOk result (λ v. vec_len v ≡ count) }
+    ensures flags { IfOk result (λ v. (n : ℕ) → HasFlag v.items n ↔ Contains listed.now n) }
+{
+    let mut flags = vec![in alloc; false; count]?;
+    for n in listed {
+        flags[*n as usize] = true;
+    }
+    Ok(flags)
+}

@@ -1,0 +1,19 @@
+//! Forwarding graphs: their walks, their cycles and the paths that they allow.
+#![tactic(auto)]
+
+mod claimed;
+mod component;
+mod cycle;
+mod graph;
+mod incoming;
+mod leaving;
+mod node;
+mod node_set;
+mod path;
+mod reach;
+
+pub use graph::{Graph, MAX_EDGES, MAX_NODES};
+pub use node::{Link, Node};
+
+#[cfg(test)]
+mod tests;

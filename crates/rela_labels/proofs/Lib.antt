@@ -1,0 +1,5 @@
+pub mod BlocksInOrder
+pub mod KeysInOrder
+pub mod LettersOfWords
+pub mod Members
+pub mod WordBits

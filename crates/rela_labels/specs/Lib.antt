@@ -1,0 +1,4 @@
+pub mod Letters
+pub mod Numbering
+pub mod Partition
+pub mod Words

@@ -1,0 +1,17 @@
+//! Sets of letters, and partitions of symbols into blocks.
+#![tactic(auto)]
+
+mod block_set;
+mod label_set;
+mod numbering;
+mod partition;
+mod wide_set;
+mod words;
+
+pub use block_set::BlockSet;
+pub use label_set::LabelSet;
+pub use partition::Partition;
+pub use wide_set::WideSet;
+
+#[cfg(test)]
+mod tests;

@@ -1,0 +1,106 @@
+ghost use Rattle.std.specs.Prelude.{◌≡◌, ℕ, ◌<◌, ◌≤◌, ◌↔◌, IfOk, IfErr, All, Contains, length};
+ghost use Rattle.rela_labels.specs.Partition.{block_of, block_count, Together, IsPartition, IsLeastOf};
+
+use crate::numbering::{number_keys, numbers_below, split_keys};
+use rela_names::Symbol;
+use std::alloc::{AllocError, Global};
+use std::marker::Model;
+
+/// The symbols below some number, put into blocks. The blocks are numbered from 0 in the order of
+/// their least symbols. Contracts see it as the list of each symbol's block.
+#[derive(Debug, Drop)]
+pub struct Partition {
+    blocks: Vec<u32>,
+    least: Vec<Symbol>,
+}
+
+impl Model for Partition {
+    ghost use Rattle.std.specs.Prelude.{List, ℕ};
+    ghost use Rattle.rela_labels.specs.Partition.{IsNumbered};
+
+    ghost Value = { List ℕ };
+
+    ghost view = { λ partition. partition.blocks.items };
+
+    ghost invariant = { λ partition. IsNumbered partition.blocks.items partition.least.items };
+}
+
+impl Partition {
+    /// The partition of this many symbols into one block.
+    pub fn new(alloc: Global, symbols: u32) -> Result<Partition, AllocError>
+        requires { 1 ≤ symbols }
+        ensures symbols { IfOk result (λ partition. length partition ≡ symbols) }
+        ensures partition { IfOk result IsPartition }
+        ensures count { IfOk result (λ partition. block_count partition ≡ 1) }
+        ensures one_block { IfOk result (λ partition. (s : ℕ) → s < symbols → block_of partition s ≡ 0) }
+    {
+        let blocks = vec![in alloc; 0; symbols as usize]?;
+        let least = vec![in alloc; 0; 1]?;
+        Ok(Partition { blocks, least })
+    }
+
+    /// The partition of this many symbols in which each is a block of its own.
+    pub fn finest(alloc: Global, symbols: u32) -> Result<Partition, AllocError>
+        requires { 1 ≤ symbols }
+        ensures symbols { IfOk result (λ partition. length partition ≡ symbols) }
+        ensures partition { IfOk result IsPartition }
+        ensures count { IfOk result (λ partition. block_count partition ≡ symbols) }
+        ensures own_block { IfOk result (λ partition. (s : ℕ) → s < symbols → block_of partition s ≡ s) }
+    {
+        let blocks = numbers_below(alloc, symbols)?;
+        let least = numbers_below(alloc, symbols)?;
+        Ok(Partition { blocks, least })
+    }
+
+    /// Splits each block into the members and the others, in one pass over the symbols. The members
+    /// may come in any order. An error leaves the partition as it was.
+    pub fn refine(&mut self, alloc: Global, members: &[Symbol]) -> Result<(), AllocError>
+        requires { All (λ s. s < length self.old) members.now }
+        ensures symbols { IfOk result (λ _. length self.new ≡ length self.old) }
+        ensures partition { IfOk result (λ _. IsPartition self.new) }
+        ensures split { IfOk result (λ _. (s t : ℕ) → s < length self.old → t < length self.old
+            → Together self.new s t ↔ (Together self.old s t × (Contains members.now s ↔ Contains members.now t))) }
+        ensures unchanged { IfErr result (λ _. self.new ≡ self.old) }
+    {
+        let keys = split_keys(alloc, &self.blocks, members)?;
+        let (blocks, least) = number_keys(alloc, &keys, 2 * self.least.len())?;
+        *self = Partition { blocks, least };
+        Ok(())
+    }
+
+    /// Two partitions of as many symbols are the same where their symbols share blocks alike. The
+    /// call does nothing, and its contract is this law.
+    pub fn determined_by_blocks(&self, other: &Partition)
+        ensures { length self.now ≡ length other.now
+            → ((s t : ℕ) → s < length self.now → t < length self.now → Together self.now s t ↔ Together other.now s t)
+            → self.now ≡ other.now }
+    {
+        let _ = &self.blocks;
+        let _ = &other.blocks;
+    }
+
+    /// How many blocks there are: just the numbers below it are blocks.
+    pub fn blocks(&self) -> u32
+        ensures count { result ≡ block_count self.now }
+        ensures partition { IsPartition self.now }
+    {
+        self.least.len() as u32
+    }
+
+    /// The number of the symbol's block.
+    pub fn block_of(&self, s: Symbol) -> u32
+        requires { s < length self.now }
+        ensures block { result ≡ block_of self.now s }
+        ensures below { result < block_count self.now }
+    {
+        self.blocks[s as usize]
+    }
+
+    /// The least symbol of the block.
+    pub fn representative(&self, block: u32) -> Symbol
+        requires { block < block_count self.now }
+        ensures { IsLeastOf self.now block result }
+    {
+        self.least[block as usize]
+    }
+}

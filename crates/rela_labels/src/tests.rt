@@ -1,0 +1,80 @@
+ghost use Rattle.std.specs.Prelude.{◌≡◌, IfOk, length};
+
+use super::*;
+use std::alloc::{AllocError, Global};
+use std::test::Fail;
+
+fn set_of<L: LabelSet>(alloc: Global, size: u32, letters: &[u32]) -> Result<L, AllocError>
+    requires { L.fits size }
+    ensures { IfOk result (λ set. length (L.letters set) ≡ size) }
+{
+    let mut set = L::none(alloc, size)?;
+    for letter in letters {
+        if *letter < set.size() {
+            set.add(*letter);
+        }
+    }
+    Ok(set)
+}
+
+#[test]
+fn sets_of_blocks(rt: HostRuntime) -> Result<(), Fail> {
+    let alloc = rt.alloc();
+    let ends: BlockSet<1> = set_of(alloc, 64, &[0, 63])?;
+    assert_eq!(rt; ends.least(), Some(0));
+    let last: BlockSet<1> = set_of(alloc, 64, &[63])?;
+    assert!(rt; ends.meet(alloc, &last)?.same(&last));
+    let one: BlockSet<1> = set_of(alloc, 64, &[1])?;
+    assert!(rt; ends.join(alloc, &one)?.contains(1));
+    let zero: BlockSet<1> = set_of(alloc, 64, &[0])?;
+    assert_eq!(rt; ends.minus(alloc, &zero)?.least(), Some(63));
+    assert!(rt; ends.copy(alloc)?.same(&ends));
+    assert!(rt; !ends.contains(64));
+    assert!(rt; zero.minus(alloc, &zero)?.is_empty());
+    Ok(())
+}
+
+#[test]
+fn sets_of_more_words(rt: HostRuntime) -> Result<(), Fail> {
+    let alloc = rt.alloc();
+    let set: BlockSet<4> = set_of(alloc, 256, &[255])?;
+    assert_eq!(rt; set.least(), Some(255));
+    let set: BlockSet<16> = set_of(alloc, 1_000, &[999, 64])?;
+    assert_eq!(rt; set.least(), Some(64));
+    let set: BlockSet<64> = set_of(alloc, 4_096, &[4_095])?;
+    assert_eq!(rt; set.least(), Some(4_095));
+    Ok(())
+}
+
+#[test]
+fn wide_sets(rt: HostRuntime) -> Result<(), Fail> {
+    let alloc = rt.alloc();
+    let set: WideSet = set_of(alloc, 5_000, &[4_999])?;
+    assert_eq!(rt; set.least(), Some(4_999));
+    let none: WideSet = set_of(alloc, 5_000, &[])?;
+    assert!(rt; set.meet(alloc, &none)?.is_empty());
+    assert!(rt; set.join(alloc, &none)?.same(&set));
+    assert!(rt; !set.minus(alloc, &set)?.contains(4_999));
+    assert!(rt; !set.copy(alloc)?.is_empty());
+    Ok(())
+}
+
+#[test]
+fn refines(rt: HostRuntime) -> Result<(), Fail> {
+    let alloc = rt.alloc();
+    let mut partition = Partition::new(alloc, 6)?;
+    assert_eq!(rt; partition.blocks(), 1);
+    partition.refine(alloc, &[1, 2])?;
+    partition.refine(alloc, &[2])?;
+    assert_eq!(rt; partition.blocks(), 3);
+    let blocks = (0..6)
+        .map(|s| partition.block_of(s))
+        .collect::<Vec<u32>>(alloc)?;
+    assert_eq!(rt; blocks.as_slice(), [0, 1, 2, 0, 0, 0].as_slice());
+    assert_eq!(rt; partition.representative(0), 0);
+    assert_eq!(rt; partition.representative(2), 2);
+    let finest = Partition::finest(alloc, 3)?;
+    assert_eq!(rt; finest.blocks(), 3);
+    assert_eq!(rt; finest.representative(2), 2);
+    Ok(())
+}

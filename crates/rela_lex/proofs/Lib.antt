@@ -1,0 +1,5 @@
+mod Bytes
+mod Cuts
+mod Fronts
+mod Reached
+mod Runs

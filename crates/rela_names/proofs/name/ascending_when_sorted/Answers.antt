@@ -1,5 +1,0 @@
-use Rattle.rela_names.proofs.Ascending.{ascending_from_sorted}
-use Rattle.rela_names.proofs.name.ascending_when_sorted.Goals as goal
-
-pub returns : goal.returns
-returns c = ascending_from_sorted c.args.names.now c.requires.sorted c.requires.distinct

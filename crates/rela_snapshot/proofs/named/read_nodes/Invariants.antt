@@ -1,0 +1,13 @@
+use Rattle.std.proofs.Common.{◌≡◌, vec_len, length}
+use Rattle.std.specs.List.{All}
+use Rattle.rela_names.specs.declared.level.Level.TheVariants.{Interface}
+use Rattle.rela_snapshot.specs.Interfaces.{interfaces_in}
+use Rattle.rela_snapshot.specs.Located.{StandsAt}
+use Rattle.rela_snapshot.proofs.named.read_nodes.Given as goal
+
+abbrev pub invariant-loop-value : goal.invariant-loop-value
+invariant-loop-value l = record {
+  len : vec_len l.nodes ≡ l.value-index;
+  ids : length l.ids ≡ vec_len l.nodes;
+  located : All (StandsAt (interfaces_in l.locations) Interface) l.nodes.items;
+}

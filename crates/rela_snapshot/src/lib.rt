@@ -1,0 +1,20 @@
+//! Snapshots of how a network forwards its flows, read from JSON files, and the pairing of the
+//! flows of two snapshots.
+#![tactic(auto)]
+
+mod class;
+mod listing;
+mod name_table;
+mod named;
+mod numbered;
+mod pairing;
+mod parts;
+mod snapshot;
+mod version;
+mod walk;
+
+pub use pairing::{FlowPair, PairError, pair};
+pub use snapshot::{MAX_FLOWS, Snapshot};
+
+#[cfg(test)]
+mod tests;

@@ -1,0 +1,55 @@
+//! Names in the order in which they came, found by a hash.
+
+ghost use Rattle.std.specs.Prelude.{◌≡◌, ◌<◌, ◌≤◌, [], length, not, OnErr, IfOk, OnOk, IfSome};
+ghost use Rattle.rela_snapshot.specs.Names.{has_name, place_of, with_name};
+
+use indexmap::IndexSet;
+use rela_graph::MAX_NODES;
+use std::alloc::{AllocError, Global};
+use std::marker::Model;
+
+/// Names in the order in which they came, each once. Contracts see it as the list of them.
+#[derive(Drop)]
+pub(crate) struct NameTable<'a> {
+    names: IndexSet<&'a [u8]>,
+}
+
+impl<'a> Model for NameTable<'a> {
+    ghost use Rattle.std.specs.Prelude.{List, ℕ, map, length, ◌≤◌};
+
+    ghost Value = { List (List ℕ) };
+
+    ghost view = { λ table. map (λ name. name.now) table.names.keys };
+
+    ghost invariant = { λ table. length table.names.keys ≤ 10000 };
+}
+
+impl<'a> NameTable<'a> {
+    pub(crate) fn new(alloc: Global) -> NameTable<'a>
+        ensures { result ≡ [] }
+    {
+        NameTable {
+            names: IndexSet::new(alloc),
+        }
+    }
+
+    /// Adds a name, unless it is there. Says whether it is new.
+    pub(crate) fn add(&mut self, name: &'a [u8]) -> Result<bool, AllocError>
+        requires { length self.old < MAX_NODES }
+        ensures added { IfOk result (λ is_new. is_new ≡ not (has_name self.old name.now)) }
+        ensures names { OnOk result (self.new ≡ with_name self.old name.now) }
+    {
+        let (_, is_new) = self.names.insert_full(name)?;
+        Ok(is_new)
+    }
+
+    /// The place of a name.
+    pub(crate) fn place(&self, name: &[u8]) -> Option<u32>
+        ensures place { result ≡ place_of self.now name.now }
+        ensures within { IfSome result (λ place. place < length self.now) }
+        ensures few { length self.now ≤ MAX_NODES }
+    {
+        let place = self.names.get_index_of(name)?;
+        Some(place as u32)
+    }
+}

@@ -1,0 +1,90 @@
+//! A snapshot: the flows of a network, and how each is forwarded.
+
+ghost use Rattle.std.specs.Prelude.{◌≡◌, ◌<◌, ◌≤◌, IfOk, Some, option_map, length, slice_get, vec_len};
+ghost use Rattle.rela_names.specs.declared.level.Level.TheVariants.{Interface};
+ghost use Rattle.rela_locations.specs.Network.{alphabet_of};
+ghost use Rattle.rela_snapshot.specs.Located.{AreLocated};
+
+use crate::walk::read_snapshot;
+use rela_flows::FlowClass;
+use rela_graph::Graph;
+use rela_json::{LoadError, read};
+use rela_locations::Locations;
+use std::alloc::Global;
+use std::marker::Model;
+
+/// The greatest number of flows of one snapshot.
+pub const MAX_FLOWS: usize = 10_000;
+
+/// One flow: what is said of it, and the graph on which it is forwarded.
+#[derive(Drop)]
+pub(crate) struct Flow {
+    pub(crate) class: FlowClass,
+    pub(crate) graph: Graph,
+}
+
+/// The flows of a network at one time, in the order of their file.
+#[derive(Drop)]
+pub struct Snapshot {
+    flows: Vec<Flow>,
+}
+
+impl Model for Snapshot {
+    ghost use Rattle.std.specs.Prelude.{List, length, ◌≤◌};
+    ghost use Rattle.rela_snapshot.specs.declared.snapshot.Flow.{Flow};
+
+    ghost Value = { List Flow };
+
+    ghost view = { λ snapshot. snapshot.flows.items };
+
+    ghost invariant = { λ snapshot. length snapshot.flows.items ≤ 10000 };
+}
+
+impl Snapshot {
+    /// The flows that a file in JSON lists.
+    ///
+    /// # Errors
+    ///
+    /// `NotJson`; else the first fault of a walk of the file, with its row; `Memory`.
+    #[tactic(auto, unfolding(crate::specs::Interfaces::interfaces_in))]
+    pub fn decode(alloc: Global, bytes: &[u8], locations: &Locations) -> Result<Snapshot, LoadError>
+        requires { length bytes.now ≤ 33554432 }
+        ensures located { IfOk result (λ snapshot. AreLocated (alphabet_of Interface locations.now) Interface snapshot) }
+    {
+        let root = read(alloc, bytes)?;
+        let flows = read_snapshot(alloc, locations, &root)?;
+        Ok(Snapshot { flows })
+    }
+
+    /// The flows, to be moved on.
+    pub(crate) fn into_flows(self) -> Vec<Flow>
+        ensures flows { result.items ≡ self }
+        ensures few { vec_len result ≤ MAX_FLOWS }
+    {
+        let Snapshot { flows } = self;
+        flows
+    }
+
+    /// How many flows there are.
+    pub fn flows(&self) -> usize
+        ensures { result ≡ length self.now }
+    {
+        self.flows.len()
+    }
+
+    /// What is said of a flow.
+    pub fn class(&self, i: usize) -> &FlowClass
+        requires { i < length self.now }
+        ensures { option_map (λ flow. flow.class) (slice_get self.now i) ≡ Some result.now }
+    {
+        &self.flows[i].class
+    }
+
+    /// The graph of a flow.
+    pub fn graph(&self, i: usize) -> &Graph
+        requires { i < length self.now }
+        ensures { option_map (λ flow. flow.graph) (slice_get self.now i) ≡ Some result.now }
+    {
+        &self.flows[i].graph
+    }
+}

@@ -1,0 +1,24 @@
+-- What an error of a decoder ends a command with.
+use Rattle.rela_json.specs.declared.error.LoadError.{LoadError}
+use Rattle.rela_json.specs.declared.error.LoadError.TheVariants as load
+use Rattle.rela_lex.specs.declared.error.SpecError.{SpecError}
+use Rattle.rela_lex.specs.declared.error.SpecError.TheVariants as spec
+use Rattle.rela_snapshot.specs.declared.pairing.PairError.{PairError}
+use Rattle.rela_snapshot.specs.declared.pairing.PairError.TheVariants as pair
+use Rattle.rela_top.specs.declared.refusal.Input.{Input}
+use Rattle.rela_top.specs.declared.refusal.Refusal.TheVariants.{Load, FlowDiffers, Specification}
+use Rattle.rela_top.specs.declared.reading.Halt.{Halt}
+use Rattle.rela_top.specs.declared.reading.Halt.TheVariants.{Refused, Memory}
+
+-- want of memory, or the refusal of this input
+abbrev pub load_halt : Input → LoadError → Halt
+load_halt input load.Memory = Memory
+load_halt input error = Refused (Load input error)
+
+abbrev pub spec_halt : SpecError → Halt
+spec_halt spec.Memory = Memory
+spec_halt error = Refused (Specification error)
+
+abbrev pub pair_halt : PairError → Halt
+pair_halt pair.Memory = Memory
+pair_halt (pair.FlowDiffers row before after) = Refused (FlowDiffers before after)

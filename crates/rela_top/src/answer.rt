@@ -1,0 +1,53 @@
+//! The text that a run writes, and its status.
+
+ghost use Rattle.std.specs.Prelude.{◌≡◌, ◌<◌};
+ghost use Rattle.rela_io.specs.Count.{Rose};
+ghost use Rattle.rela_top.specs.Answer.{Delivers};
+
+use rela_io::{Sink, write_all};
+
+/// Every row is compliant or unselected.
+pub const MET: u8 = 0;
+
+/// Some row is violated.
+pub const VIOLATED: u8 = 1;
+
+/// The words of the command line aren't read.
+pub const BAD_WORDS: u8 = 2;
+
+/// No row is violated, and some row is undecided.
+pub const UNDECIDED: u8 = 3;
+
+/// An input is refused.
+pub const REFUSED: u8 = 4;
+
+/// A file can't be read.
+pub const READ_FAULT: u8 = 5;
+
+/// The answer can't be written.
+pub const WRITE_FAULT: u8 = 6;
+
+/// Memory ran out.
+pub const NO_MEMORY: u8 = 7;
+
+/// A text that is made whole before any of it is written, and the status that says what it is.
+#[derive(Debug, Drop)]
+pub struct Answer {
+    /// The lines, each with its line feed.
+    pub text: Vec<u8>,
+    /// The status once they are written.
+    pub status: u8,
+}
+
+/// Writes the text, and gives the status, or [`WRITE_FAULT`] where a write fails.
+pub fn deliver<K: Sink>(out: &mut K, text: &[u8], status: u8) -> u8
+    requires { status < WRITE_FAULT }
+    ensures delivered { Delivers (K.taken out.old) (K.taken out.new) status text.now result }
+    ensures fault_counted { result ≡ WRITE_FAULT → Rose (K.faults out.old) (K.faults out.new) }
+    ensures counted_is_fault { K.faults out.old < K.faults out.new → result ≡ WRITE_FAULT }
+{
+    match write_all(out, text) {
+        Ok(()) => status,
+        Err(_) => WRITE_FAULT,
+    }
+}

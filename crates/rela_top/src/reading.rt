@@ -1,0 +1,59 @@
+//! Reading the files that a command names.
+
+ghost use Rattle.std.specs.Prelude.{◌≡◌, ◌≢◌, ◌≤◌, Err, IsTrue, IfOk, IfErr, OnOk, vec_len};
+ghost use Rattle.rela_top.specs.Operands.{files_of};
+ghost use Rattle.rela_top.specs.Reading.{max_file_bytes, HoldsFiles, HaltsBy};
+
+use crate::refusal::{Input, Refusal};
+use crate::words::Operands;
+use rela_io::{Files, ReadError, read_all};
+use std::alloc::{AllocError, Global};
+
+/// The most bytes that a file may have.
+pub const MAX_FILE_BYTES: usize = 33_554_432;
+
+/// Why a command ends before its answer.
+#[derive(Debug, Drop)]
+pub enum Halt {
+    /// An input is refused.
+    Refused(Refusal),
+    /// A file can't be read.
+    ReadFault,
+    /// Memory ran out.
+    Memory,
+}
+
+impl From<AllocError> for Halt {
+    ghost use Rattle.rela_top.specs.declared.reading.Halt.TheVariants.{Memory};
+
+    ghost from_gives = { λ _ e. e ≡ Memory };
+
+    fn from(_refused: AllocError) -> Halt {
+        Halt::Memory
+    }
+}
+
+/// The bytes of one input.
+pub fn read_input<F: Files>(
+    alloc: Global,
+    files: &mut F,
+    operands: &Operands<'_>,
+    input: Input,
+) -> Result<Vec<u8>, Halt>
+    ensures ok_within { IfOk result (λ bytes. vec_len bytes ≤ max_file_bytes) }
+    ensures ok_given { OnOk result (F.given files.new ≤ max_file_bytes) }
+    ensures ok_keeps_count { OnOk result (F.faults files.new ≡ F.faults files.old) }
+    ensures halts { IfErr result (HaltsBy (F.holds files.old) (files_of operands.now)
+        (F.faults files.old) (F.faults files.new) (F.given files.new)) }
+    ensures steady_is_no_fault { IsTrue (F.steady files.old) → HoldsFiles (F.holds files.old) (files_of operands.now) →
+        result ≢ Err Halt.ReadFault }
+    ensures same_holds { F.holds files.new ≡ F.holds files.old }
+    ensures same_steady { F.steady files.new ≡ F.steady files.old }
+{
+    match read_all(alloc, files, operands.name_of(input), MAX_FILE_BYTES) {
+        Ok(bytes) => Ok(bytes),
+        Err(ReadError::Fault) => Err(Halt::ReadFault),
+        Err(ReadError::TooLong) => Err(Halt::Refused(Refusal::TooLong(input))),
+        Err(ReadError::Memory) => Err(Halt::Memory),
+    }
+}

@@ -1,0 +1,168 @@
+//! Why an input is refused, and the line that says so.
+
+ghost use Rattle.std.specs.Prelude.{◌≡◌, ◌++◌, IfOk, OnOk, string_bytes};
+ghost use Rattle.rela_top.specs.Refusal.{input_text, in_row, by_rule, load_text, at_offset, spec_text, class_text, differs_text, at_place, refusal_line};
+
+use rela_flows::FlowClass;
+use rela_json::LoadError;
+use rela_lex::SpecError;
+use std::alloc::{AllocError, Global};
+
+/// One of the files that a command reads.
+#[derive(Clone, Copy, Debug, PartialEq, Eq)]
+pub enum Input {
+    /// The location file.
+    Locations,
+    /// The snapshot before the change.
+    Before,
+    /// The snapshot after the change.
+    After,
+    /// The specification.
+    Spec,
+}
+
+/// Why an input is refused.
+#[derive(Debug, Drop)]
+pub enum Refusal {
+    /// The file has more bytes than are allowed.
+    TooLong(Input),
+    /// The first fault of the file, in the order in which it is walked. It isn't want of memory.
+    Load { input: Input, error: LoadError },
+    /// A flow of one name whose two snapshots tell different classes of it.
+    FlowDiffers { before: FlowClass, after: FlowClass },
+    /// The first fault of the specification. It isn't want of memory.
+    Specification(SpecError),
+}
+
+/// The line that a refused input gets, with its line feed.
+pub fn refusal_line(alloc: Global, refusal: &Refusal) -> Result<Vec<u8>, AllocError>
+    ensures { IfOk result (λ text. text.items ≡ refusal_line refusal.now) }
+{
+    match refusal {
+        Refusal::TooLong(input) => at_place(alloc, input_text(*input), b"2 TooLong"),
+        Refusal::Load { input, error } => {
+            let said = load_text(alloc, error)?;
+            at_place(alloc, input_text(*input), said.as_bytes())
+        }
+        Refusal::FlowDiffers { before, after } => {
+            let said = differs_text(alloc, before, after)?;
+            at_place(alloc, "pair", said.as_slice())
+        }
+        Refusal::Specification(error) => {
+            let said = spec_text(alloc, error)?;
+            at_place(alloc, "spec", said.as_bytes())
+        }
+    }
+}
+
+fn input_text(input: Input) -> &'static str
+    ensures { result.now ≡ input_text input }
+{
+    match input {
+        Input::Locations => "locations",
+        Input::Before => "before",
+        Input::After => "after",
+        Input::Spec => "spec",
+    }
+}
+
+#[tactic(auto, unfolding(crate::specs::Refusal::at_place))]
+fn at_place(alloc: Global, place: &str, said: &[u8]) -> Result<Vec<u8>, AllocError>
+    ensures { IfOk result (λ text. text.items ≡ at_place place.now said.now) }
+{
+    let mut text = Vec::new(alloc);
+    text.extend_from_slice(b"refused ")?;
+    text.extend_from_slice(place.as_bytes())?;
+    text.extend_from_slice(b" ")?;
+    text.extend_from_slice(said)?;
+    text.extend_from_slice(b"\n")?;
+    Ok(text)
+}
+
+fn load_text(alloc: Global, error: &LoadError) -> Result<String, AllocError>
+    ensures { IfOk result (λ text. string_bytes text ≡ load_text error.now) }
+{
+    match *error {
+        LoadError::NotJson => String::from_str(alloc, "11 NotJson"),
+        LoadError::WrongShape { rule, row } => {
+            let refusal = by_rule(alloc, rule)?;
+            in_row(alloc, refusal.as_str(), row)
+        }
+        LoadError::BadVersion => String::from_str(alloc, "13 BadVersion"),
+        LoadError::BadName { row } => in_row(alloc, "14 BadName", row),
+        LoadError::ReservedName { row } => in_row(alloc, "15 ReservedName", row),
+        LoadError::RepeatedEntry { row } => in_row(alloc, "16 RepeatedEntry", row),
+        LoadError::UnknownLocation { row } => in_row(alloc, "17 UnknownLocation", row),
+        LoadError::BadIndex { row } => in_row(alloc, "18 BadIndex", row),
+        LoadError::BadPrefix { row } => in_row(alloc, "19 BadPrefix", row),
+        LoadError::TooMany { row } => in_row(alloc, "20 TooMany", row),
+        LoadError::UnknownNode { row } => in_row(alloc, "22 UnknownNode", row),
+        LoadError::Memory => Ok(String::new(alloc)),
+    }
+}
+
+#[tactic(auto, unfolding(crate::specs::Refusal::by_rule))]
+fn by_rule(alloc: Global, rule: u8) -> Result<String, AllocError>
+    ensures { IfOk result (λ text. string_bytes text ≡ by_rule rule) }
+{
+    format!(in alloc; "12 WrongShape rule {rule}")
+}
+
+#[tactic(auto, unfolding(crate::specs::Refusal::in_row))]
+fn in_row(alloc: Global, refusal: &str, row: u32) -> Result<String, AllocError>
+    ensures { IfOk result (λ text. string_bytes text ≡ in_row refusal.now row) }
+{
+    format!(in alloc; "{refusal} row {row}")
+}
+
+fn spec_text(alloc: Global, error: &SpecError) -> Result<String, AllocError>
+    ensures { IfOk result (λ text. string_bytes text ≡ spec_text error.now) }
+{
+    match *error {
+        SpecError::BadToken { at } => at_offset(alloc, "31 BadToken", at),
+        SpecError::Syntax { at } => at_offset(alloc, "32 Syntax", at),
+        SpecError::UnknownName { at } => at_offset(alloc, "33 UnknownName", at),
+        SpecError::RepeatedName { at } => at_offset(alloc, "34 RepeatedName", at),
+        SpecError::TooDeep { at } => at_offset(alloc, "35 TooDeep", at),
+        SpecError::TooLarge { at } => at_offset(alloc, "36 TooLarge", at),
+        SpecError::BadNumber { at } => at_offset(alloc, "37 BadNumber", at),
+        SpecError::FinerLevel { at } => at_offset(alloc, "38 FinerLevel", at),
+        SpecError::UnknownLocation { at } => at_offset(alloc, "17 UnknownLocation", at),
+        SpecError::NotBuilt { at } => at_offset(alloc, "40 NotBuilt", at),
+        SpecError::Memory => Ok(String::new(alloc)),
+    }
+}
+
+#[tactic(auto, unfolding(crate::specs::Refusal::at_offset))]
+fn at_offset(alloc: Global, refusal: &str, at: u32) -> Result<String, AllocError>
+    ensures { IfOk result (λ text. string_bytes text ≡ at_offset refusal.now at) }
+{
+    format!(in alloc; "{refusal} at {at}")
+}
+
+#[tactic(auto, unfolding(crate::specs::Refusal::differs_text))]
+fn differs_text(alloc: Global, before: &FlowClass, after: &FlowClass) -> Result<Vec<u8>, AllocError>
+    ensures { IfOk result (λ text. text.items ≡ differs_text before.now after.now) }
+{
+    let mut text = Vec::new(alloc);
+    text.extend_from_slice(b"21 FlowDiffers ")?;
+    text.extend_from_slice(before.name.as_bytes())?;
+    push_class(alloc, &mut text, before)?;
+    push_class(alloc, &mut text, after)?;
+    Ok(text)
+}
+
+#[tactic(auto, unfolding(crate::specs::Refusal::class_text))]
+fn push_class(alloc: Global, text: &mut Vec<u8>, flow: &FlowClass) -> Result<(), AllocError>
+    ensures { OnOk result (text.new.items ≡ text.old.items ++ class_text flow.now) }
+{
+    let destination = flow.dst.text(alloc)?;
+    let source = flow.src.text(alloc)?;
+    text.extend_from_slice(b" dst ")?;
+    text.extend_from_slice(destination.as_slice())?;
+    text.extend_from_slice(b" src ")?;
+    text.extend_from_slice(source.as_slice())?;
+    text.extend_from_slice(b" class ")?;
+    text.extend_from_slice(flow.class.as_bytes())?;
+    Ok(())
+}

@@ -1,0 +1,75 @@
+//! From the four files to the report.
+
+ghost use Rattle.std.specs.Prelude.{◌≡◌, ◌≢◌, ◌<◌, ◌≤◌, All, Err, IsTrue, IfOk, IfErr, OnOk};
+ghost use Rattle.rela_top.specs.Operands.{files_of};
+ghost use Rattle.rela_top.specs.Reading.{max_file_bytes, HoldsFiles, HaltsBy};
+ghost use Rattle.rela_top.specs.Answer.{IsReport};
+ghost use Rattle.rela_names.specs.Alphabet.{path_symbols};
+ghost use Rattle.rela_names.specs.declared.level.Level.TheVariants.{Interface};
+ghost use Rattle.rela_snapshot.specs.Interfaces.{interfaces_in};
+ghost use Rattle.rela_snapshot.specs.PairsLocated.{ArePairsLocated};
+
+use crate::answer::Answer;
+use crate::loading::{load_locations, load_snapshot, load_spec, pair_halt};
+use crate::plain::PlainCheck;
+use crate::reading::Halt;
+use crate::refusal::Input;
+use crate::rows::rows_of;
+use crate::words::Operands;
+use rela_io::Files;
+use rela_locations::Locations;
+use rela_names::{Alphabet, Level};
+use rela_report::{status, text};
+use rela_snapshot::{FlowPair, pair};
+use std::alloc::{AllocError, Global};
+
+/// Reads the locations, the snapshot before, the snapshot after and the specification, in this
+/// order, and makes the report. The first refusal or fault ends it.
+pub fn report<F: Files>(
+    alloc: Global,
+    files: &mut F,
+    operands: &Operands<'_>,
+) -> Result<Answer, Halt>
+    ensures reports { IfOk result (λ answer. IsReport answer.text.items answer.status) }
+    ensures ok_given { OnOk result (F.given files.new ≤ max_file_bytes) }
+    ensures ok_keeps_count { OnOk result (F.faults files.new ≡ F.faults files.old) }
+    ensures halts { IfErr result (HaltsBy (F.holds files.old) (files_of operands.now)
+        (F.faults files.old) (F.faults files.new) (F.given files.new)) }
+    ensures steady_is_no_fault { IsTrue (F.steady files.old) → HoldsFiles (F.holds files.old) (files_of operands.now) →
+        result ≢ Err Halt.ReadFault }
+{
+    let locations = load_locations(alloc, files, operands)?;
+    let before = load_snapshot(alloc, files, operands, Input::Before, &locations)?;
+    let after = load_snapshot(alloc, files, operands, Input::After, &locations)?;
+    let pairs = match pair(alloc, before, after) {
+        Ok(pairs) => pairs,
+        Err(error) => return Err(pair_halt(error)),
+    };
+    let interfaces = interfaces_of(&locations);
+    let check = load_spec(alloc, files, operands, interfaces)?;
+    Ok(report_on(alloc, &pairs, &check, interfaces)?)
+}
+
+#[tactic(auto, unfolding(rela_snapshot::specs::Interfaces::interfaces_in))]
+fn interfaces_of(locations: &Locations) -> &Alphabet
+    ensures { result.now ≡ interfaces_in locations.now }
+{
+    locations.alphabet(Level::Interface)
+}
+
+// The report on these flows, made whole.
+fn report_on(
+    alloc: Global,
+    pairs: &[FlowPair],
+    check: &PlainCheck,
+    interfaces: &Alphabet,
+) -> Result<Answer, AllocError>
+    requires located { ArePairsLocated interfaces.now Interface pairs.now }
+    requires symbols { All (λ s. s < path_symbols interfaces.now) check.now.word.items }
+    ensures { IfOk result (λ answer. IsReport answer.text.items answer.status) }
+{
+    let rows = rows_of(alloc, pairs, check, interfaces)?;
+    let text = text(alloc, &rows, interfaces)?;
+    let status = status(&rows);
+    Ok(Answer { text, status })
+}

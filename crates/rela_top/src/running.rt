@@ -1,0 +1,81 @@
+//! The one call that the program makes.
+
+ghost use Rattle.std.specs.Prelude.{◌≡◌, ◌≢◌, ◌<◌, ◌⊎◌, None, Err, IsTrue, IfSome, IfOk, OnOk, map, string_bytes};
+ghost use Rattle.rela_io.specs.Count.{Rose};
+ghost use Rattle.rela_top.specs.Words.{Words};
+ghost use Rattle.rela_top.specs.Reading.{HoldsFiles};
+ghost use Rattle.rela_top.specs.Answer.{Answers, GivenBy};
+ghost use Rattle.rela_top.specs.Operands.{files_of};
+
+use crate::answer::{Answer, BAD_WORDS, NO_MEMORY, READ_FAULT, REFUSED, WRITE_FAULT, deliver};
+use crate::reading::Halt;
+use crate::refusal::refusal_line;
+use crate::reporting::report;
+use crate::words::{Operands, read_words};
+use rela_io::{Files, Sink};
+use std::alloc::Global;
+
+/// Does what the words ask for, those after the program's name: reads `files`, writes the whole
+/// answer to `out`, and gives the exit status. The answer is made before any of it is written.
+pub fn run<F: Files, K: Sink>(alloc: Global, words: &[String], files: &mut F, out: &mut K) -> u8
+    // An answer that fits the words and what the files gave was written, to its end or up to a failed write.
+    ensures answers { result ≢ READ_FAULT → result ≢ NO_MEMORY → Answers (Words (map string_bytes words.now))
+        (F.holds files.old) (F.given files.new) (K.taken out.old) (K.taken out.new) result }
+    ensures bad_words { result ≡ BAD_WORDS → Words (map string_bytes words.now) ≡ None }
+    ensures unread_words { Words (map string_bytes words.now) ≡ None → (result ≡ BAD_WORDS) ⊎ (result ≡ WRITE_FAULT) }
+    ensures unread_words_open_nothing { Words (map string_bytes words.now) ≡ None → files.new ≡ files.old }
+
+    // A read fault, exactly where one was counted.
+    ensures read_fault_counted { result ≡ READ_FAULT → Rose (F.faults files.old) (F.faults files.new) }
+    ensures counted_is_read_fault { F.faults files.old < F.faults files.new → result ≡ READ_FAULT }
+    ensures steady_is_no_fault { IsTrue (F.steady files.old) →
+        IfSome (Words (map string_bytes words.now)) (HoldsFiles (F.holds files.old)) →
+        (result ≢ READ_FAULT) × (F.faults files.new ≡ F.faults files.old) }
+
+    // A write fault, exactly where one was counted.
+    ensures write_fault_counted { result ≡ WRITE_FAULT → Rose (K.faults out.old) (K.faults out.new) }
+    ensures counted_is_write_fault { K.faults out.old < K.faults out.new → result ≡ WRITE_FAULT }
+
+    ensures read_fault_writes_nothing { result ≡ READ_FAULT → out.new ≡ out.old }
+    ensures no_memory_writes_nothing { result ≡ NO_MEMORY → out.new ≡ out.old }
+{
+    let Some(operands) = read_words(words) else {
+        return deliver(out, b"rela: bad command line\n", BAD_WORDS);
+    };
+    match answer(alloc, files, &operands) {
+        Ok(answer) => deliver(out, answer.text.as_slice(), answer.status),
+        Err(Stop::ReadFault) => READ_FAULT,
+        Err(Stop::Memory) => NO_MEMORY,
+    }
+}
+
+// Why a run writes nothing.
+#[derive(Clone, Copy)]
+enum Stop {
+    ReadFault,
+    Memory,
+}
+
+// The report, or the line that an input is refused with.
+fn answer<F: Files>(alloc: Global, files: &mut F, operands: &Operands<'_>) -> Result<Answer, Stop>
+    ensures fits { IfOk result (λ answer. GivenBy (files_of operands.now) (F.holds files.old) (F.given files.new)
+        answer.text.items answer.status) }
+    ensures ok_keeps_count { OnOk result (F.faults files.new ≡ F.faults files.old) }
+    ensures fault_counted { result ≡ Err Stop.ReadFault → Rose (F.faults files.old) (F.faults files.new) }
+    ensures memory_keeps_count { result ≡ Err Stop.Memory → F.faults files.new ≡ F.faults files.old }
+    ensures steady_is_no_fault { IsTrue (F.steady files.old) → HoldsFiles (F.holds files.old) (files_of operands.now) →
+        (result ≢ Err Stop.ReadFault) × (F.faults files.new ≡ F.faults files.old) }
+{
+    match report(alloc, files, operands) {
+        Ok(answer) => Ok(answer),
+        Err(Halt::Refused(refusal)) => match refusal_line(alloc, &refusal) {
+            Ok(text) => Ok(Answer {
+                text,
+                status: REFUSED,
+            }),
+            Err(_) => Err(Stop::Memory),
+        },
+        Err(Halt::ReadFault) => Err(Stop::ReadFault),
+        Err(Halt::Memory) => Err(Stop::Memory),
+    }
+}
