@@ -1,5 +1,5 @@
 -- Where names stand in a list.
-use Rattle.std.proofs.Common.{zero, suc, ◌≡◌, ℕ, ◌+◌, ◌<◌, Bool, true, false, cond, not, ◌||◌, List, [], ◌∷◌, length, get_or, Some, slice_get, refl, ap, sym, ◌∙◌, arith, inl, inr}
+use Rattle.std.proofs.Common.{suc, ◌≡◌, ℕ, ◌+◌, ◌<◌, Bool, true, false, cond, not, ◌||◌, List, [], ◌∷◌, get_or, Some, slice_get, refl, ap, sym, ◌∙◌, arith, inl, inr}
 use Rattle.std.specs.Str.{bytes_eq}
 use Rattle.std.specs.declared.cmp.Ordering.TheVariants.{Less}
 use Rattle.std.specs.Ordering.{is_eq}
@@ -8,13 +8,9 @@ use Rattle.std.proofs.lemmas.Map.Text.{is_eq-slice_cmp}
 use Rattle.std.proofs.lemmas.Option.{slice_get_within, get_or_from_slice_get}
 use Rattle.rela_names.specs.Name.{IsAscending, bytes_cmp}
 use Rattle.rela_locations.specs.Names.{has_name}
-use Rattle.rela_locations.specs.Network.{index_of}
+use Rattle.rela_locations.specs.Tables.{index_of, IsOnce}
 use Rattle.rela_locations.proofs.Bools.{any_of_place}
 use Rattle.rela_locations.proofs.NameSets.{same_name, name_is_itself}
-
--- each name comes at one place
-abbrev pub IsOnce : List (List ℕ) → Type 0
-IsOnce names = (k l : ℕ) (n : List ℕ) → slice_get names k ≡ Some n → slice_get names l ≡ Some n → k ≡ l
 
 stands_by_test : (n name : List ℕ) (names : List (List ℕ)) (b : Bool) → bytes_eq name n ≡ b → (b || has_name names name) ≡ true
     → (has_name names name ≡ true → slice_get names (index_of names name) ≡ Some name)

@@ -1,13 +1,13 @@
 -- What stands in a list is among its names.
-use Rattle.std.proofs.Common.{zero, suc, ◌≡◌, ℕ, ◌<◌, Bool, true, false, ◌||◌, List, [], ◌∷◌, ◌++◌, length, get_or, take, ◌+◌, append_assoc, map, refl, ap, sym, ◌∙◌, arith}
+use Rattle.std.proofs.Common.{zero, suc, ◌≡◌, ℕ, ◌<◌, Bool, true, ◌||◌, List, [], ◌∷◌, ◌++◌, length, get_or, take, ◌+◌, append_assoc, map, refl, ap, sym, ◌∙◌, arith}
 use Rattle.std.specs.List.{list_any, flat_map}
 use Rattle.std.specs.Str.{bytes_eq}
 use Rattle.std.proofs.lemmas.List.Folds.{list_any-append}
 use Rattle.std.proofs.lemmas.List.{map-append, append-nil, take_more}
 use Rattle.std.proofs.lemmas.Grind.{flat_map-append}
 use Rattle.rela_locations.specs.Names.{has_name}
-use Rattle.rela_locations.specs.Network.{Device, Network, devices_in}
-use Rattle.rela_locations.specs.Tables.{AreKnown, device_names, interface_names}
+use Rattle.rela_locations.specs.Network.{Network, devices_in}
+use Rattle.rela_locations.specs.Tables.{device_names, interface_names}
 use Rattle.rela_locations.proofs.Bools.{or_true, or_false}
 use Rattle.rela_locations.proofs.NameSets.{name_is_itself}
 

@@ -14,3 +14,6 @@ pub mod Lookups
 pub mod TableLaws
 pub mod OwnNames
 pub mod TagLaws
+pub mod NumberLists
+pub mod TagMembers
+pub mod MemberLaws

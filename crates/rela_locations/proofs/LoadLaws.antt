@@ -1,8 +1,6 @@
 -- In what a file stands for no two entries of one kind have one name.
-use Rattle.std.proofs.Common.{◌≡◌, ℕ, Bool, true, false, List, [], ◌∷◌, ◌++◌, Option, Some, None, Result, Ok, Err, map, ◌==◌, if◌then◌else◌, codes, subst, refl, ap, sym, ◌∙◌, arith}
-use Rattle.std.specs.List.{flat_map}
+use Rattle.std.proofs.Common.{◌≡◌, ℕ, false, List, [], ◌∷◌, ◌++◌, Some, Result, Ok, Err, map, ◌==◌, if◌then◌else◌, codes, subst, refl, ap, arith}
 use Rattle.serde_json.specs.Data.{Data}
-use Rattle.rela_json.specs.declared.error.LoadError.{LoadError}
 use Rattle.rela_json.specs.Results.{◌>>=◌}
 use Rattle.rela_locations.specs.Names.{with_name, with_names, next_row, new_name, has_name}
 use Rattle.rela_locations.specs.Network.{Device, Group, Network, devices_in}

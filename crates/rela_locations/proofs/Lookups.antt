@@ -1,7 +1,7 @@
 -- What is looked up in a table of parents.
-use Rattle.std.proofs.Common.{zero, suc, ◌≡◌, ◌≢◌, ℕ, ◌+◌, ◌<◌, ◌≤◌, Bool, true, false, cond, ◌&&◌, ◌||◌, ◌==◌, List, [], ◌∷◌, ◌++◌, length, get_or, Some, slice_get, map, option_map, filter, replicate, refl, ap, sym, ◌∙◌, arith}
+use Rattle.std.proofs.Common.{zero, suc, ◌≡◌, ℕ, ◌+◌, ◌<◌, ◌≤◌, Bool, true, false, ◌||◌, ◌==◌, List, [], ◌∷◌, length, get_or, slice_get, map, option_map, filter, replicate, refl, ap, sym, ◌∙◌, arith}
 use Rattle.std.specs.Prelude.{slice_index}
-use Rattle.std.specs.List.{list_any, flat_map, position_or_len, range_with_len, All}
+use Rattle.std.specs.List.{list_any, position_or_len, range_with_len, All}
 use Rattle.std.specs.Str.{bytes_eq}
 use Rattle.std.proofs.lemmas.Bool.{eq-eqb, false_from_ne_true}
 use Rattle.std.proofs.lemmas.List.{length-replicate, length-map}
@@ -10,11 +10,10 @@ use Rattle.std.proofs.lemmas.List.FromFn.{fill_by_all}
 use Rattle.std.proofs.lemmas.List.Sums.{position_or_len_is}
 use Rattle.std.proofs.lemmas.Option.{slice_get-map, slice_get-get_or, get_or_from_slice_get}
 use Rattle.rela_locations.specs.Names.{ascending, has_name}
-use Rattle.rela_locations.specs.Network.{index_of}
-use Rattle.rela_locations.specs.Tables.{places_of, with_entries, AreNew}
+use Rattle.rela_locations.specs.Tables.{places_of, AreNew, IsOnce}
 use Rattle.rela_locations.proofs.Bools.{any_of_place, or_true}
-use Rattle.rela_locations.proofs.NameSets.{one_place, same_name, name_is_itself, has_name-ascending}
-use Rattle.rela_locations.proofs.Indexes.{IsOnce, known_at}
+use Rattle.rela_locations.proofs.NameSets.{one_place, name_is_itself, has_name-ascending}
+use Rattle.rela_locations.proofs.Indexes.{known_at}
 use Rattle.rela_locations.proofs.PairLaws.{is_pair, child_of, pairs_of, children_of, firsts_are_children}
 use Rattle.rela_locations.proofs.Parents.{Pair, ArePairs, name_at, numbered, parent_table, table_tells_pairs, table_in_range, equal_numbers}
 use Rattle.rela_locations.proofs.Places.{field_at}
@@ -111,6 +110,9 @@ module _ (children parents : List (List ℕ)) (pairs : List Pair) (are : ArePair
   parents_found f is =
       fill_by_all f (parent_table children parents pairs) (length children) 0 (length-parent_table children parents pairs)
       (λ s within. sym (is s ∙ parent_found s within))
+
+  pub parent_told : (s d : ℕ) → s < length children → d < length parents → lies (name_at children s) (name_at parents d) ≡ (position_or_len (lies (name_at children s)) parents == d)
+  parent_told s d within below = tells s d within below ∙ ap (λ t. t == d) (sym (parent_found s within))
 
   pub parent_known : (s : ℕ) → s < length children → position_or_len (lies (name_at children s)) parents < length parents
   parent_known s within = rw (parent_found s within) (table_in_range children parents pairs s are within)

@@ -1,6 +1,6 @@
 -- What lies in a location of its own level: itself.
-use Rattle.std.proofs.Common.{zero, suc, ◌≡◌, ℕ, ◌+◌, ◌<◌, ◌≤◌, Bool, true, false, cond, ◌&&◌, ◌||◌, ◌==◌, List, [], ◌∷◌, ◌++◌, length, get_or, Some, slice_get, map, filter, refl, ap, sym, ◌∙◌, arith, inl, inr}
-use Rattle.std.specs.List.{list_any, flat_map, position_or_len, range_with_len}
+use Rattle.std.proofs.Common.{zero, suc, ◌≡◌, ℕ, ◌+◌, ◌<◌, ◌≤◌, Bool, true, false, cond, ◌&&◌, ◌||◌, ◌==◌, List, [], ◌∷◌, ◌++◌, length, Some, slice_get, map, filter, refl, ap, sym, ◌∙◌, arith, inl, inr}
+use Rattle.std.specs.List.{position_or_len, range_with_len}
 use Rattle.std.specs.Str.{bytes_eq}
 use Rattle.std.proofs.lemmas.Bool.{eq-eqb, false_from_ne_true, cases_lt}
 use Rattle.std.proofs.lemmas.List.{map-append}
@@ -9,10 +9,10 @@ use Rattle.std.proofs.lemmas.Option.{slice_get-get_or, slice_get_within, get_or_
 use Rattle.rela_names.specs.declared.level.Level.{Level}
 use Rattle.rela_names.specs.declared.level.Level.TheVariants as level
 use Rattle.rela_locations.specs.Names.{has_name}
-use Rattle.rela_locations.specs.Network.{Device, Group, Network, devices_in, with_devices, with_interfaces, within, names_at, alphabet_of, name_of, by_level, index_of, members_of}
-use Rattle.rela_locations.specs.Tables.{interface_names, device_names}
-use Rattle.rela_locations.proofs.Bools.{same_test, true_left, true_right, both_true, and_or, and_false, and_true}
-use Rattle.rela_locations.proofs.Indexes.{IsOnce, known_at, index_of_known, index_of_place}
+use Rattle.rela_locations.specs.Network.{Device, Network, devices_in, with_devices, with_interfaces, within, names_at, alphabet_of, by_level, members_of}
+use Rattle.rela_locations.specs.Tables.{index_of, interface_names, device_names, IsOnce}
+use Rattle.rela_locations.proofs.Bools.{same_test, and_false}
+use Rattle.rela_locations.proofs.Indexes.{known_at, index_of_known}
 use Rattle.rela_locations.proofs.Lookups.{place_told, same_below}
 use Rattle.rela_locations.proofs.NameSets.{same_name, name_is_itself, has_name-ascending}
 use Rattle.rela_locations.proofs.Parents.{name_at, equal_numbers}

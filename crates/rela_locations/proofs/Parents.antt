@@ -1,18 +1,17 @@
 -- A table of parents: for each child's number its parent's.
-use Rattle.std.proofs.Common.{zero, suc, ◌≡◌, ◌≢◌, ℕ, ◌+◌, ◌<◌, ◌≤◌, Bool, true, false, ◌&&◌, ◌==◌, List, [], ◌∷◌, length, get_or, Some, slice_get, map, option_map, replicate, refl, ap, sym, ◌∙◌, arith}
+use Rattle.std.proofs.Common.{zero, suc, ◌≡◌, ℕ, ◌<◌, true, ◌==◌, List, [], ◌∷◌, length, get_or, Some, slice_get, map, option_map, replicate, refl, ap, sym, ◌∙◌, arith}
 use Rattle.std.specs.Prelude.{slice_index}
 use Rattle.std.specs.List.{list_any}
 use Rattle.std.specs.Str.{bytes_eq}
 use Rattle.std.proofs.lemmas.Bool.{eq-eqb}
 use Rattle.std.proofs.lemmas.List.{length-replicate}
-use Rattle.std.proofs.lemmas.Option.{slice_get-map, slice_get_within, slice_get-get_or, get_or_from_slice_get}
+use Rattle.std.proofs.lemmas.Option.{slice_get-map, slice_get_within, slice_get-get_or}
 use Rattle.rela_locations.specs.Names.{has_name}
-use Rattle.rela_locations.specs.Network.{index_of}
+use Rattle.rela_locations.specs.Tables.{index_of, IsOnce, with_entries}
 use Rattle.rela_locations.proofs.Bools.{place_of_any, any_of_place, true_left, true_right, both_true, same_test}
 use Rattle.rela_locations.proofs.NameSets.{same_name, name_is_itself}
-use Rattle.rela_locations.proofs.Indexes.{IsOnce, index_of_known, index_of_place}
+use Rattle.rela_locations.proofs.Indexes.{index_of_known, index_of_place}
 use Rattle.rela_locations.proofs.PairLaws.{is_pair, child_of}
-use Rattle.rela_locations.specs.Tables.{with_entries}
 use Rattle.rela_locations.proofs.Writes.{written}
 
 -- pairs of a child's name and its parent's

@@ -1,17 +1,16 @@
 -- What lies in what, by pairs of names.
-use Rattle.std.proofs.Common.{zero, suc, ◌≡◌, ℕ, ◌<◌, Bool, true, false, cond, ◌&&◌, List, [], ◌∷◌, ◌++◌, map, filter, refl, ap, sym, ◌∙◌}
-use Rattle.std.specs.List.{list_any, flat_map}
+use Rattle.std.proofs.Common.{◌≡◌, ℕ, Bool, List, [], ◌∷◌, ◌++◌, map, filter, refl, ap, sym, ◌∙◌}
+use Rattle.std.specs.List.{list_any}
 use Rattle.std.specs.Str.{bytes_eq}
-use Rattle.std.proofs.lemmas.List.{map-append, append_assoc}
+use Rattle.std.proofs.lemmas.List.{map-append}
 use Rattle.std.proofs.lemmas.List.Elements.{filter-append}
-use Rattle.std.proofs.lemmas.Grind.{flat_map-append}
 use Rattle.rela_names.specs.declared.level.Level.TheVariants as level
 use Rattle.rela_locations.specs.declared.members.By.TheVariants as by
 use Rattle.rela_locations.specs.Names.{has_name}
-use Rattle.rela_locations.specs.Network.{Device, Group, Network, devices_in, with_devices, within, names_at, index_of}
-use Rattle.rela_locations.specs.Tables.{device_names, interface_names, under, numbered_pairs}
+use Rattle.rela_locations.specs.Network.{Device, Group, Network, devices_in, with_devices, within, names_at}
+use Rattle.rela_locations.specs.Tables.{index_of, device_names, interface_names, under, numbered_pairs}
 use Rattle.rela_locations.proofs.Known.{device_names_by_group, interface_names_by_group}
-use Rattle.rela_locations.proofs.PairLaws.{is_pair, child_of, pairs_of, children_of, lies_under, firsts_are_children}
+use Rattle.rela_locations.proofs.PairLaws.{is_pair, pairs_of, lies_under}
 use Rattle.rela_locations.proofs.Parents.{Pair, numbered}
 
 abbrev pub name_of_device : Device → List ℕ

@@ -1,5 +1,5 @@
 -- What the tables of a network say.
-use Rattle.std.proofs.Common.{◌≡◌, ℕ, ◌+◌, ◌<◌, arith, Bool, List, [], length, get_or, map, option_map, slice_get, Some, Result, Ok, Err, IfOk, replicate, refl, ap, sym, ◌∙◌}
+use Rattle.std.proofs.Common.{◌≡◌, ℕ, ◌+◌, ◌<◌, arith, Bool, List, [], length, get_or, map, option_map, slice_get, Some, Result, Ok, Err, IfOk, refl, ap, sym, ◌∙◌}
 use Rattle.std.specs.List.{All, list_any, range_with_len}
 use Rattle.std.proofs.lemmas.List.{length-map}
 use Rattle.std.proofs.lemmas.List.FromFn.{length-range_with_len, get_or-map-range_with_len}
@@ -10,15 +10,15 @@ use Rattle.rela_names.specs.declared.level.Level.TheVariants as level
 use Rattle.rela_locations.specs.declared.alphabets.Alphabets.{Alphabets}
 use Rattle.rela_locations.specs.declared.containment.Containment.{Containment}
 use Rattle.rela_locations.specs.Names.{has_name}
-use Rattle.rela_locations.specs.Network.{Network, devices_in, names_at, alphabet_of, name_of, by_level, within, index_of, members_of}
-use Rattle.rela_locations.specs.Tables.{AreKnown, AreAlphabets, IsNamedOnce, IsContainment, device_names, interface_names, numbered_pairs, with_entries, places_of, outer_of}
+use Rattle.rela_locations.specs.Network.{Network, devices_in, names_at, alphabet_of, by_level, within, members_of}
+use Rattle.rela_locations.specs.Tables.{index_of, AreKnown, AreAlphabets, IsNamedOnce, IsContainment, numbered_pairs, places_of, outer_of}
 use Rattle.rela_locations.proofs.Indexes.{once_when_ascending, index_of_known}
 use Rattle.rela_locations.proofs.Known.{device_names_by_group, interface_names_by_group}
-use Rattle.rela_locations.proofs.Lookups.{pairs_are, parents_found, all_children_found, parent_known}
+use Rattle.rela_locations.proofs.Lookups.{pairs_are, parents_found, all_children_found, parent_known, parent_told}
 use Rattle.rela_locations.proofs.NameSets.{has_name-ascending}
-use Rattle.rela_locations.proofs.Parents.{Pair, ArePairs, numbered, parent_table, name_at}
+use Rattle.rela_locations.proofs.Parents.{Pair, ArePairs, numbered, parent_table}
 use Rattle.rela_locations.proofs.PairLaws.{is_pair}
-use Rattle.rela_locations.proofs.Relations.{name_of_device, name_of_group, interfaces_of_device, interfaces_of_group, devices_of_group, interface_device_pairs, interface_group_pairs, device_group_pairs, lies_in_device, lies_in_group, device_lies_in_group, numbers_of_pairs}
+use Rattle.rela_locations.proofs.Relations.{name_of_device, name_of_group, interfaces_of_device, interfaces_of_group, devices_of_group, interface_device_pairs, interface_group_pairs, device_group_pairs, numbers_of_pairs}
 
 -- an alphabet has all names of its level
 pub known_names : (names alphabet : List (List ℕ)) (at : Level) (network : Network) → alphabet ≡ alphabet_of at network → names_at at network ≡ names → AreKnown alphabet names
@@ -64,6 +64,7 @@ module _ (child parent : Level) (network : Network) (pairs : List Pair) (are : A
     outer = outer ∙ parents_found cs ps pairs are lies lies_by_pair (outer_of child parent network) (λ s. refl);
     inner = inner ∙ all_children_found cs ps pairs are lies lies_by_pair (λ name. members_of child (by_level parent) name network) (λ n. refl);
     known = λ s within. parent_known cs ps pairs are lies lies_by_pair s within;
+    told = λ s d within below. parent_told cs ps pairs are lies lies_by_pair s d within below;
   }
 
 -- two facts of what a call gives, as one

@@ -1,7 +1,8 @@
 -- What a location file stands for: a network, or the first fault of a walk of the file. The walk takes the groups in
 -- order, in each its devices in order, in each device its tags and then its interfaces. A row counts the earlier
 -- entries of the same kind in the whole file: groups in rules 4 to 6, devices in rules 7 to 11, interfaces in rule 12.
-use Rattle.std.specs.Prelude.{ℕ, List, [], ◌∷◌, length, map, Option, Some, None, option_and_then, Result, Ok, Err, ◌==◌, if◌then◌else◌, codes}
+-- The names of earlier entries are kept ascending. None comes twice, so they are as many as the entries.
+use Rattle.std.specs.Prelude.{ℕ, List, [], ◌∷◌, map, Option, Some, None, option_and_then, Result, Ok, Err, ◌==◌, if◌then◌else◌, codes}
 use Rattle.std.specs.List.{flat_map}
 use Rattle.serde_json.specs.Data.{Data}
 use Rattle.rela_json.specs.declared.error.LoadError.{LoadError}

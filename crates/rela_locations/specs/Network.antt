@@ -38,10 +38,6 @@ alphabet_of at network = ascending (names_at at network)
 abbrev pub name_of : Level → Network → ℕ → List ℕ
 name_of at network symbol = slice_index_or (alphabet_of at network) symbol []
 
--- the place of a name among these
-abbrev pub index_of : List (List ℕ) → List ℕ → ℕ
-index_of names name = position_or_len (bytes_eq name) names
-
 -- the network with some of its devices alone
 abbrev pub with_devices : (List Device → List Device) → Network → Network
 with_devices some = map {A = Group} (λ group. record group { devices = some group.devices })

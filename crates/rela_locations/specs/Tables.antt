@@ -1,9 +1,10 @@
 -- What is kept of a network beside its list of groups.
-use Rattle.std.specs.Prelude.{◌≡◌, ℕ, ◌<◌, ◌==◌, true, false, List, [], ◌∷◌, length, map, filter, fold, slice_set, slice_index, replicate}
+use Rattle.std.specs.Prelude.{◌≡◌, ℕ, ◌<◌, ◌==◌, true, false, List, [], ◌∷◌, length, map, filter, fold, slice_set, slice_index}
 use Rattle.std.specs.BTreeMap.{BTreeMap, get}
 use Rattle.std.specs.Option.{option_map_or}
-use Rattle.std.specs.Prelude.{Vec, is_some, ◌&&◌, Bool}
+use Rattle.std.specs.Prelude.{Vec, is_some, ◌&&◌, Bool, Some, slice_get}
 use Rattle.std.specs.declared.alloc.Global.{Global}
+use Rattle.std.specs.Str.{bytes_eq}
 use Rattle.rela_names.specs.Name.{bytes_cmp}
 use Rattle.std.specs.List.{list_any, flat_map, position_or_len, range_with_len}
 use Rattle.rela_names.specs.Name.{IsAscending}
@@ -13,7 +14,7 @@ use Rattle.rela_locations.specs.declared.alphabets.Alphabets.{Alphabets}
 use Rattle.rela_locations.specs.declared.containment.Containment.{Containment}
 use Rattle.rela_locations.specs.declared.tables.Tables.{Tables}
 use Rattle.rela_locations.specs.Names.{has_name, with_name}
-use Rattle.rela_locations.specs.Network.{Device, Network, devices_in, names_at, alphabet_of, name_of, index_of, by_level, within, members_of}
+use Rattle.rela_locations.specs.Network.{Device, Network, devices_in, names_at, alphabet_of, name_of, by_level, within, members_of}
 
 pub record AreAlphabets (network : Network) (alphabets : Alphabets) : Type 0 where
   pub interfaces : alphabets.interfaces ≡ alphabet_of level.Interface network
@@ -29,6 +30,10 @@ device_names devices = map (λ device. device.name) devices
 
 abbrev pub interface_names : List Device → List (List ℕ)
 interface_names devices = flat_map (λ device. device.interfaces) devices
+
+-- the place of a name among these
+abbrev pub index_of : List (List ℕ) → List ℕ → ℕ
+index_of names name = position_or_len (bytes_eq name) names
 
 -- the numbers of some children, each with its parent's
 abbrev pub under : List (List ℕ) → List (List ℕ) → ℕ → List (ℕ × ℕ)
@@ -61,6 +66,12 @@ pub record IsContainment (child parent : Level) (network : Network) (containment
   pub inner_ascend : IsAscending (alphabet_of child network)
   pub outer_ascend : IsAscending (alphabet_of parent network)
   pub known : (symbol : ℕ) → symbol < length (alphabet_of child network) → outer_of child parent network symbol < length (alphabet_of parent network)
+  pub told : (inner outer : ℕ) → inner < length (alphabet_of child network) → outer < length (alphabet_of parent network)
+      → has_name (names_at child (within (by_level parent) (name_of parent network outer) network)) (name_of child network inner) ≡ (outer_of child parent network inner == outer)
+
+-- each name comes at one place
+abbrev pub IsOnce : List (List ℕ) → Type 0
+IsOnce names = (k l : ℕ) (n : List ℕ) → slice_get names k ≡ Some n → slice_get names l ≡ Some n → k ≡ l
 
 -- each name is new where it comes
 abbrev pub AreNew : List (List ℕ) → List (List ℕ) → Type 0
@@ -93,6 +104,8 @@ pub record AreTables (network : Network) (tables : Tables) : Type 0 where
   pub interfaces_in_devices : IsContainment level.Interface level.Device network tables.interfaces_in_devices
   pub interfaces_in_groups : IsContainment level.Interface level.Group network tables.interfaces_in_groups
   pub devices_in_groups : IsContainment level.Device level.Group network tables.devices_in_groups
+  pub are_tagged : AreTagged (alphabet_of level.Device network) (devices_in network) tables.tagged
+  pub devices_once : IsOnce (device_names (devices_in network))
 
 pub record IsIndexed (network : Network) (alphabets : Alphabets) (tables : Tables) : Type 0 where
   pub are_alphabets : AreAlphabets network alphabets

@@ -5,6 +5,7 @@
 mod alphabets;
 mod containment;
 mod locations;
+mod lookup;
 mod members;
 mod name_set;
 mod network;
@@ -16,3 +17,6 @@ mod walk;
 
 pub use locations::Locations;
 pub use members::{By, MemberError};
+
+#[cfg(test)]
+mod tests;

@@ -1,15 +1,16 @@
 //! The locations of a network, and what is asked of them.
 
-ghost use Rattle.std.specs.Prelude.{◌≡◌, ◌≢◌, ◌<◌, ◌≤◌, Ok, Err, IfOk, IfErr, length};
+ghost use Rattle.std.specs.Prelude.{◌≡◌, ◌≢◌, ◌<◌, ◌≤◌, Ok, Err, IfOk, IfErr, IsErrOf, IsTrue, false, length, ◌↔◌};
 
 use crate::alphabets::Alphabets;
+use crate::lookup::{devices_with, inside, interfaces_with, itself};
 use crate::members::{By, MemberError};
 use crate::network::GroupEntry;
 use crate::tables::Tables;
 use crate::walk::read_network;
 use rela_json::{LoadError, read};
 use rela_names::{Alphabet, Level, List, Name, Symbol};
-use std::alloc::{AllocError, Global};
+use std::alloc::Global;
 use std::marker::Model;
 
 /// The locations of a network at its three levels, and the tags of its devices.
@@ -33,14 +34,33 @@ impl Model for Locations {
 
 impl Locations {
     ghost use Rattle.rela_names.specs.declared.level.Level.TheVariants as levels;
-    ghost use Rattle.rela_locations.specs.Network.{alphabet_of, location_of};
+    ghost use Rattle.rela_locations.specs.declared.members.By.TheVariants as bys;
+    ghost use Rattle.rela_locations.specs.Names.{has_name};
+    ghost use Rattle.rela_locations.specs.Network.{alphabet_of, location_of, members_of, is_finer, names_by};
     ghost use Rattle.rela_locations.specs.Load.{Load};
 
-    /// The locations that a file in JSON lists.
+    /// The locations that a file in JSON lists, in time n log n.
+    ///
+    /// The file is an object with the members `version`, which is 1, and `groups`, an array of
+    /// groups. A group is an object with a `name` and an array `devices`. A device is an object with
+    /// a `name`, an array `interfaces` of names and maybe an array `tags`. Other members count for
+    /// nothing. There are at most 100,000 groups, devices and interfaces each. The name of
+    /// each differs from those of its kind and is neither `drop` nor `loop`; a tag is any name.
     ///
     /// # Errors
     ///
-    /// `NotJson`; else the first fault of a walk of the file, with its row; `Memory`.
+    /// `NotJson`; else the first fault of a walk of the file, which takes the groups in order, in
+    /// each its devices in order, and in each device its tags and then its interfaces; `Memory`.
+    ///
+    /// `WrongShape` has the number of the rule that is broken: 1 the file is an object, 2 its
+    /// `version` is a whole number, 3 its `groups` are an array, 4 a group is an object, 5 its `name`
+    /// is a string, 6 its `devices` are an array, 7 a device is an object, 8 its `name` is a string,
+    /// 9 its `tags`, if there, are an array, 10 a tag is a string, 11 its `interfaces` are an array,
+    /// 12 an interface is a string. The row counts the earlier entries of the same kind in the whole
+    /// file: of groups for the rules 4 to 6, of devices for 7 to 11, of interfaces for 12.
+    ///
+    /// `TooMany` comes before the shape of an entry, and `BadVersion` after that of the version.
+    /// After the shape of a name come `BadName`, `ReservedName` and `RepeatedEntry`, in this order.
     pub fn decode(alloc: Global, bytes: &[u8]) -> Result<Locations, LoadError>
         requires { length bytes.now ≤ 33554432 }
         ensures network { IfOk result (λ locations. Load bytes.now ≡ Ok locations) }
@@ -82,7 +102,9 @@ impl Locations {
         }
     }
 
-    /// The locations of a level that lie in the named location, or in a device with the named tag, ascending.
+    /// The locations of a level that lie in the named location, or in a device with the named tag,
+    /// ascending. It takes a look-up by binary search and, but for a tag, time linear in the answer;
+    /// for a tag it sorts the answer.
     ///
     /// # Errors
     ///
@@ -94,7 +116,11 @@ impl Locations {
         level: Level,
         by: By,
         name: &Name,
-    ) -> Result<Vec<Symbol>, MemberError> {
+    ) -> Result<Vec<Symbol>, MemberError>
+        ensures members { IfOk result (λ symbols. symbols.items ≡ members_of level by name.now self.now) }
+        ensures finer { IsErrOf result MemberError.Finer ↔ IsTrue (is_finer by level) }
+        ensures unknown { IsErrOf result MemberError.Unknown ↔ ((is_finer by level ≡ false) × (has_name (names_by by self.now) name.now ≡ false)) }
+    {
         match by {
             By::Interface => self.in_interface(alloc, level, name),
             By::Device => self.in_device(alloc, level, name),
@@ -108,12 +134,13 @@ impl Locations {
         alloc: Global,
         level: Level,
         name: &Name,
-    ) -> Result<Vec<Symbol>, MemberError> {
+    ) -> Result<Vec<Symbol>, MemberError>
+        ensures members { IfOk result (λ symbols. symbols.items ≡ members_of level bys.Interface name.now self.now) }
+        ensures finer { IsErrOf result MemberError.Finer ↔ IsTrue (is_finer bys.Interface level) }
+        ensures unknown { IsErrOf result MemberError.Unknown ↔ ((is_finer bys.Interface level ≡ false) × (has_name (names_by bys.Interface self.now) name.now ≡ false)) }
+    {
         match level {
-            Level::Interface => {
-                let symbol = find(&self.alphabets.interfaces, name)?;
-                Ok(single(alloc, symbol)?)
-            }
+            Level::Interface => itself(alloc, &self.alphabets.interfaces, name),
             Level::Device | Level::Group => Err(MemberError::Finer),
         }
     }
@@ -123,35 +150,38 @@ impl Locations {
         alloc: Global,
         level: Level,
         name: &Name,
-    ) -> Result<Vec<Symbol>, MemberError> {
+    ) -> Result<Vec<Symbol>, MemberError>
+        ensures members { IfOk result (λ symbols. symbols.items ≡ members_of level bys.Device name.now self.now) }
+        ensures finer { IsErrOf result MemberError.Finer ↔ IsTrue (is_finer bys.Device level) }
+        ensures unknown { IsErrOf result MemberError.Unknown ↔ ((is_finer bys.Device level ≡ false) × (has_name (names_by bys.Device self.now) name.now ≡ false)) }
+    {
+        let devices = &self.alphabets.devices;
         match level {
             Level::Interface => {
-                let symbol = find(&self.alphabets.devices, name)?;
-                Ok(list_at(alloc, &self.tables.interfaces_in_devices.inner, symbol)?)
+                let lists = self.tables.interfaces_in_devices.inner.as_slice();
+                inside(alloc, devices, lists, name)
             }
-            Level::Device => {
-                let symbol = find(&self.alphabets.devices, name)?;
-                Ok(single(alloc, symbol)?)
-            }
+            Level::Device => itself(alloc, devices, name),
             Level::Group => Err(MemberError::Finer),
         }
     }
 
-    fn in_group(
-        &self,
-        alloc: Global,
-        level: Level,
-        name: &Name,
-    ) -> Result<Vec<Symbol>, MemberError> {
-        let symbol = find(&self.alphabets.groups, name)?;
+    fn in_group(&self, alloc: Global, level: Level, name: &Name) -> Result<Vec<Symbol>, MemberError>
+        ensures members { IfOk result (λ symbols. symbols.items ≡ members_of level bys.Group name.now self.now) }
+        ensures finer { IsErrOf result MemberError.Finer ↔ IsTrue (is_finer bys.Group level) }
+        ensures unknown { IsErrOf result MemberError.Unknown ↔ ((is_finer bys.Group level ≡ false) × (has_name (names_by bys.Group self.now) name.now ≡ false)) }
+    {
+        let groups = &self.alphabets.groups;
         match level {
-            Level::Interface => Ok(list_at(
-                alloc,
-                &self.tables.interfaces_in_groups.inner,
-                symbol,
-            )?),
-            Level::Device => Ok(list_at(alloc, &self.tables.devices_in_groups.inner, symbol)?),
-            Level::Group => Ok(single(alloc, symbol)?),
+            Level::Interface => {
+                let lists = self.tables.interfaces_in_groups.inner.as_slice();
+                inside(alloc, groups, lists, name)
+            }
+            Level::Device => {
+                let lists = self.tables.devices_in_groups.inner.as_slice();
+                inside(alloc, groups, lists, name)
+            }
+            Level::Group => itself(alloc, groups, name),
         }
     }
 
@@ -160,43 +190,19 @@ impl Locations {
         alloc: Global,
         level: Level,
         name: &Name,
-    ) -> Result<Vec<Symbol>, MemberError> {
-        if level == Level::Group {
-            return Err(MemberError::Finer);
-        }
-        let Some(devices) = self.tables.tagged.get(name) else {
-            return Err(MemberError::Unknown);
-        };
-        let mut symbols = Vec::new(alloc);
-        for device in devices {
-            match level {
-                Level::Interface => {
-                    let inside = list_at(alloc, &self.tables.interfaces_in_devices.inner, *device)?;
-                    symbols.extend_from_slice(inside.as_slice())?;
-                }
-                Level::Device | Level::Group => symbols.push(*device)?,
+    ) -> Result<Vec<Symbol>, MemberError>
+        ensures members { IfOk result (λ symbols. symbols.items ≡ members_of level bys.Tag name.now self.now) }
+        ensures finer { IsErrOf result MemberError.Finer ↔ IsTrue (is_finer bys.Tag level) }
+        ensures unknown { IsErrOf result MemberError.Unknown ↔ ((is_finer bys.Tag level ≡ false) × (has_name (names_by bys.Tag self.now) name.now ≡ false)) }
+    {
+        let tagged = &self.tables.tagged;
+        match level {
+            Level::Interface => {
+                let lists = self.tables.interfaces_in_devices.inner.as_slice();
+                interfaces_with(alloc, tagged, lists, name)
             }
+            Level::Device => devices_with(alloc, tagged, name),
+            Level::Group => Err(MemberError::Finer),
         }
-        symbols.sort_unstable();
-        Ok(symbols)
-    }
-}
-
-fn find(alphabet: &Alphabet, name: &Name) -> Result<Symbol, MemberError> {
-    alphabet.find(name.as_bytes()).ok_or(MemberError::Unknown)
-}
-
-fn single(alloc: Global, symbol: Symbol) -> Result<Vec<Symbol>, AllocError> {
-    Vec::from_slice(alloc, &[symbol])
-}
-
-fn list_at(
-    alloc: Global,
-    table: &Vec<Vec<Symbol>>,
-    symbol: Symbol,
-) -> Result<Vec<Symbol>, AllocError> {
-    match table.get(symbol as usize) {
-        Some(list) => Vec::from_slice(alloc, list.as_slice()),
-        None => Ok(Vec::new(alloc)),
     }
 }

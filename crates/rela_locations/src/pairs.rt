@@ -2,8 +2,8 @@
 
 ghost use Rattle.std.specs.Prelude.{◌≡◌, ◌++◌, IsTrue, IfOk, map};
 ghost use Rattle.rela_locations.specs.Names.{has_name};
-ghost use Rattle.rela_locations.specs.Network.{devices_in, index_of};
-ghost use Rattle.rela_locations.specs.Tables.{AreKnown, device_names, interface_names, under, numbered_pairs};
+ghost use Rattle.rela_locations.specs.Network.{devices_in};
+ghost use Rattle.rela_locations.specs.Tables.{index_of, AreKnown, device_names, interface_names, under, numbered_pairs};
 
 use crate::alphabets::Alphabets;
 use crate::network::{DeviceEntry, GroupEntry};

@@ -160,7 +160,7 @@ fn read_tags(alloc: Global, tags: Option<&Value>, row: u32) -> Result<Vec<Name>,
         return Ok(Vec::new(alloc));
     }
     let values = entries(tags, 9, row)?;
-    let mut tags = Vec::with_capacity(alloc, values.len())?;
+    let mut tags = Vec::new(alloc);
     for value in values {
         let tag = read_tag(alloc, value, row)?;
         tags.push(tag)?;
@@ -188,7 +188,7 @@ fn read_interfaces(
     ensures seen { IfOk result (λ names. seen.new ≡ with_names seen.old names.items) }
     ensures fault { IfErr result (λ e. e ≢ LoadError.Memory → load_interfaces seen.old (map view values.now) ≡ Err e) }
 {
-    let mut interfaces = Vec::with_capacity(alloc, values.len())?;
+    let mut interfaces = Vec::new(alloc);
     for value in values {
         let name = read_interface(alloc, seen, value)?;
         interfaces.push(name)?;

@@ -1,5 +1,4 @@
-use Rattle.rela_locations.proofs.TableLaws
-use Rattle.std.proofs.Common.{◌≡◌, ◌<◌, ◌≤◌, ◌+◌, ◌++◌, ◌∷◌, [], List, ℕ, length, map, get_or, arith, ap, sym, ◌∙◌, vec_len, Vec, Global}
+use Rattle.std.proofs.Common.{◌≡◌, ◌<◌, ◌++◌, ◌∷◌, [], List, ℕ, length, map, get_or, arith, ap, sym, ◌∙◌, Vec, Global}
 use Rattle.std.specs.Prelude.{slice_index, slice_set}
 use Rattle.std.proofs.lemmas.List.{map-set, length-map}
 use Rattle.std.proofs.lemmas.List.FromFn.{fill_by_all}

@@ -1,6 +1,5 @@
-use Rattle.std.proofs.Common.{◌≡◌, sym, ap, ◌∙◌, true}
+use Rattle.std.proofs.Common.{◌≡◌, ap, ◌∙◌}
 use Rattle.rela_locations.specs.Network.{Device}
-use Rattle.rela_locations.specs.Names.{has_name}
 use Rattle.rela_locations.proofs.Known.{known_inside}
 use Rattle.rela_locations.proofs.pairs.add_all_interfaces.Goals as goal
 

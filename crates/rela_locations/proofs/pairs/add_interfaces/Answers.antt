@@ -1,8 +1,6 @@
-use Rattle.std.proofs.Common.{◌≡◌, sym, ap, ◌∙◌, true, arith}
-use Rattle.std.proofs.lemmas.Grind.{common_steps}
-use Rattle.rela_locations.specs.Network.{Device, index_of}
-use Rattle.rela_locations.specs.Tables.{under}
-use Rattle.rela_locations.specs.Names.{has_name}
+use Rattle.std.proofs.Common.{◌≡◌, ap, ◌∙◌}
+use Rattle.rela_locations.specs.Network.{Device}
+use Rattle.rela_locations.specs.Tables.{index_of, under}
 use Rattle.rela_locations.proofs.Known.{known_inside, known_field, added_more}
 use Rattle.rela_locations.proofs.pairs.add_interfaces.Goals as goal
 

@@ -1,4 +1,4 @@
-use Rattle.std.proofs.Common.{◌≡◌, ◌++◌, take}
+use Rattle.std.proofs.Common.{◌≡◌, take}
 use Rattle.rela_locations.specs.Tables.{numbered_pairs, device_names}
 use Rattle.rela_locations.proofs.pairs.devices_with_groups.Given as goal
 

@@ -1,7 +1,7 @@
-use Rattle.std.proofs.Common.{◌≡◌, [], sym, ap, ◌∙◌, true}
-use Rattle.rela_locations.specs.Network.{Device, Group, index_of}
+use Rattle.std.proofs.Common.{◌≡◌, ap, ◌∙◌}
+use Rattle.rela_locations.specs.Network.{Group}
 use Rattle.rela_locations.specs.Names.{has_name}
-use Rattle.rela_locations.specs.Tables.{under, device_names, interface_names}
+use Rattle.rela_locations.specs.Tables.{device_names, interface_names}
 use Rattle.rela_locations.proofs.Known.{known_inside, device_names_by_group, interface_names_by_group}
 use Rattle.rela_locations.proofs.pairs.interfaces_with_devices.Goals as goal
 

@@ -1,4 +1,4 @@
-use Rattle.std.proofs.Common.{◌≡◌, ◌++◌, take}
+use Rattle.std.proofs.Common.{◌≡◌, take}
 use Rattle.rela_locations.specs.Network.{devices_in}
 use Rattle.rela_locations.specs.Tables.{numbered_pairs}
 use Rattle.rela_locations.proofs.pairs.interfaces_with_devices.Given as goal

@@ -1,7 +1,7 @@
-use Rattle.std.proofs.Common.{◌≡◌, [], sym, ap, ◌∙◌, true}
-use Rattle.rela_locations.specs.Network.{Device, Group, index_of}
+use Rattle.std.proofs.Common.{◌≡◌, [], ap, ◌∙◌}
+use Rattle.rela_locations.specs.Network.{Group}
+use Rattle.rela_locations.specs.Tables.{index_of, under, interface_names}
 use Rattle.rela_locations.specs.Names.{has_name}
-use Rattle.rela_locations.specs.Tables.{under, interface_names}
 use Rattle.rela_locations.proofs.Known.{known_inside, known_field, added_more, interface_names_by_group}
 use Rattle.rela_locations.proofs.pairs.interfaces_with_groups.Goals as goal
 

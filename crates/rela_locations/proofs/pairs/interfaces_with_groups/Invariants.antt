@@ -1,4 +1,4 @@
-use Rattle.std.proofs.Common.{◌≡◌, ◌++◌, take}
+use Rattle.std.proofs.Common.{◌≡◌, take}
 use Rattle.rela_locations.specs.Tables.{numbered_pairs, interface_names}
 use Rattle.rela_locations.proofs.pairs.interfaces_with_groups.Given as goal
 

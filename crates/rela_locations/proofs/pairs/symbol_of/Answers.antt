@@ -1,5 +1,5 @@
-use Rattle.std.proofs.Common.{◌≡◌, Some, slice_get, ◌∙◌, sym, ap}
-use Rattle.rela_locations.specs.Network.{index_of}
+use Rattle.std.proofs.Common.{Some, ◌∙◌, sym, ap}
+use Rattle.rela_locations.specs.Tables.{index_of}
 use Rattle.rela_locations.proofs.Indexes.{index_of_known}
 use Rattle.rela_locations.proofs.pairs.symbol_of.Goals as goal
 

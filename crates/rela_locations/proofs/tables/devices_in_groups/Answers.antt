@@ -1,8 +1,8 @@
-use Rattle.std.proofs.Common.{◌≡◌, ℕ, List, length, map, replicate, refl, ap, sym, ◌∙◌}
+use Rattle.std.proofs.Common.{◌≡◌, ℕ, List, length, map, replicate, refl, ap, ◌∙◌}
 use Rattle.rela_names.specs.Name.{IsAscending}
 use Rattle.rela_names.specs.declared.level.Level.TheVariants as level
 use Rattle.rela_locations.specs.Network.{alphabet_of}
-use Rattle.rela_locations.specs.Tables.{IsContainment, places_of, with_entries}
+use Rattle.rela_locations.specs.Tables.{with_entries}
 use Rattle.rela_locations.proofs.Lookups.{parents_in_range}
 use Rattle.rela_locations.proofs.Parents.{numbered, parent_table}
 use Rattle.rela_locations.proofs.Relations.{device_group_pairs, device_lies_in_group}

@@ -1,4 +1,4 @@
-use Rattle.std.proofs.Common.{◌≡◌, ℕ, List, ◌&&◌, ◌||◌, ◌==◌, is_some, take}
+use Rattle.std.proofs.Common.{◌≡◌, ℕ, List, ◌||◌, is_some, take}
 use Rattle.std.specs.BTreeMap.{get}
 use Rattle.std.specs.List.{flat_map}
 use Rattle.rela_names.specs.Name.{bytes_cmp}

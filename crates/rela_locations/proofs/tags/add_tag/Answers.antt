@@ -1,4 +1,4 @@
-use Rattle.std.proofs.Common.{◌≡◌, ℕ, List, Bool, Some, None, ◌||◌, ◌==◌, ◌∷◌, [], IsSome, ap, sym, ◌∙◌, Vec, Global, Option, true, slice_get}
+use Rattle.std.proofs.Common.{◌≡◌, ℕ, Some, ◌||◌, ◌==◌, [], ap, sym, ◌∙◌, Vec, Global, Option, true}
 use Rattle.std.specs.BTreeMap.{Updates}
 use Rattle.std.specs.Option.{option_map_or}
 use Rattle.rela_names.specs.Name.{bytes_cmp}

@@ -1,4 +1,4 @@
-use Rattle.std.proofs.Common.{◌≡◌, ℕ, List, Bool, ◌&&◌, ◌||◌, ◌==◌, take, ap, sym, ◌∙◌}
+use Rattle.std.proofs.Common.{◌&&◌, ◌==◌, take, ap, sym, ◌∙◌}
 use Rattle.std.specs.Str.{bytes_eq}
 use Rattle.rela_locations.specs.Names.{has_name}
 use Rattle.rela_locations.proofs.Bools.{and_or}

@@ -1,5 +1,5 @@
-use Rattle.std.proofs.Common.{◌≡◌, sym, ap, ◌∙◌}
-use Rattle.rela_locations.specs.Network.{Device, Group}
+use Rattle.std.proofs.Common.{◌≡◌, ap, ◌∙◌}
+use Rattle.rela_locations.specs.Network.{Group}
 use Rattle.rela_locations.specs.Names.{has_name}
 use Rattle.rela_locations.specs.Tables.{device_names}
 use Rattle.rela_locations.proofs.Known.{known_inside, device_names_by_group}

@@ -1,4 +1,3 @@
-use Rattle.std.proofs.Common.{◌≡◌, ap, sym, ◌∙◌}
 use Rattle.serde_json.specs.View.{view}
 use Rattle.rela_locations.proofs.LoadLaws.{loaded_names}
 use Rattle.rela_locations.proofs.locations.Locations.decode.Goals as goal

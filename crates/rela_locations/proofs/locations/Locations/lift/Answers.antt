@@ -1,6 +1,6 @@
-use Rattle.std.proofs.Common.{◌≡◌, ℕ, ◌<◌, length, refl, ap, sym, ◌∙◌, vec_len}
+use Rattle.std.proofs.Common.{◌<◌, length, sym, ◌∙◌}
 use Rattle.rela_names.specs.declared.level.Level.TheVariants as levels
-use Rattle.rela_locations.specs.Network.{alphabet_of, location_of}
+use Rattle.rela_locations.specs.Network.{alphabet_of}
 use Rattle.rela_locations.proofs.Indexes.{once_when_ascending}
 use Rattle.rela_locations.proofs.OwnNames.{own_location}
 use Rattle.rela_locations.proofs.TableLaws.{outer_within, outer_told}
