@@ -1,0 +1,4 @@
+pub mod SizeForms
+pub mod SizeLaws
+pub mod MeaningForms
+pub mod Stars

@@ -1,0 +1,5 @@
+pub mod Words
+pub mod Meaning
+pub mod Places
+pub mod Limit
+pub mod Size

@@ -1,0 +1,71 @@
+-- The words of a path term and the pairs of words of a relation term.
+use Rattle.std.specs.Prelude.{◌≡◌, ℕ, ◌<◌, ◌⊎◌, ◌↔◌, List, [], ◌∷◌, Some, slice_get, MatchBool, All, Contains}
+use Rattle.rela_rir.specs.Words.{WordSet, Relation, Concatenation, Star, ImageOf, PairConcatenation, PairStar, Composition}
+use Rattle.rela_rir.specs.declared.set.SymbolSet.{SymbolSet}
+use Rattle.rela_rir.specs.declared.assertion.Assertion.{Assertion}
+use Rattle.rela_rir.specs.declared.assertion.Assertion.TheVariants.{Equal, Included}
+use Rattle.rela_rir.specs.declared.term.PathTerm.{PathTerm}
+use Rattle.rela_rir.specs.declared.term.RelTerm.{RelTerm}
+use Rattle.rela_rir.specs.declared.term.PathTerm.TheOpen.{PathTerm-F, None, Empty, Class, One, PathTerm::Union, PathTerm::Concat, PathTerm::Star, Meet, Complement, Pre, Post, Image, RelTerm-F, Identity, Product, RelTerm::Union, RelTerm::Concat, RelTerm::Star, Compose}
+use Rattle.rela_rir.specs.declared.term.PathTerm.TheFolds.{rec-PathTerm, rec-RelTerm}
+
+-- what a term is read in: the class table, the number of path symbols, and the path sets that `Pre` and
+-- `Post` stand for. The path symbols are the numbers below their number.
+pub record Setting : Type 1 where
+  pub classes : List SymbolSet
+  pub path_symbols : ℕ
+  pub pre : List ℕ → Type 0
+  pub post : List ℕ → Type 0
+
+abbrev pub setting : List SymbolSet → ℕ → WordSet → WordSet → Setting
+setting classes path_symbols pre post = record { classes = classes; path_symbols = path_symbols; pre = pre; post = post }
+
+-- the path symbol is one of the members, or none of them where the set is negated
+pub record HasSymbol (path_symbols : ℕ) (set : SymbolSet) (s : ℕ) : Type 0 where
+  pub path : s < path_symbols
+  pub chosen : MatchBool set.negated (¬ Contains set.members s) (Contains set.members s)
+
+-- the symbol is in the entry k of the class table
+abbrev pub IsInClass : Setting → ℕ → ℕ → Type 0
+IsInClass m k s = (set : SymbolSet) × (slice_get m.classes k ≡ Some set) × HasSymbol m.path_symbols set s
+
+-- a word of path symbols
+abbrev pub IsPathWord : ℕ → List ℕ → Type 0
+IsPathWord path_symbols w = All (λ s. s < path_symbols) w
+
+-- The words of one layer of a path term, where it is given what its parts mean.
+abbrev pub LayerIn : {X Y : Type 0} → Setting → (X → WordSet) → (Y → Relation) → PathTerm-F X Y → WordSet
+LayerIn m set relation None w = ⊥
+LayerIn m set relation Empty w = w ≡ []
+LayerIn m set relation (Class k) w = (s : ℕ) × (w ≡ s ∷ []) × IsInClass m k s
+LayerIn m set relation (One s) w = w ≡ s ∷ []
+LayerIn m set relation (PathTerm::Union x y) w = set x w ⊎ set y w
+LayerIn m set relation (PathTerm::Concat x y) w = Concatenation (set x) (set y) w
+LayerIn m set relation (PathTerm::Star x) w = Star (set x) w
+LayerIn m set relation (Meet x y) w = set x w × set y w
+LayerIn m set relation (Complement x) w = IsPathWord m.path_symbols w × (¬ set x w)
+LayerIn m set relation Pre w = m.pre w
+LayerIn m set relation Post w = m.post w
+LayerIn m set relation (Image x r) w = ImageOf (set x) (relation r) w
+
+-- The pairs of one layer of a relation term, likewise.
+abbrev pub LayerInR : {X Y : Type 0} → (X → WordSet) → (Y → Relation) → RelTerm-F X Y → Relation
+LayerInR set relation (Identity x) u v = (u ≡ v) × set x u
+LayerInR set relation (Product x y) u v = set x u × set y v
+LayerInR set relation (RelTerm::Union r s) u v = relation r u v ⊎ relation s u v
+LayerInR set relation (RelTerm::Concat r s) u v = PairConcatenation (relation r) (relation s) u v
+LayerInR set relation (RelTerm::Star r) u v = PairStar (relation r) u v
+LayerInR set relation (Compose r s) u v = Composition (relation r) (relation s) u v
+
+-- The word is in the path term, by recursion on the term.
+abbrev pub In : Setting → PathTerm → WordSet
+In m = rec-PathTerm WordSet Relation (λ X Y _ _ set relation layer. LayerIn m set relation layer) (λ X Y _ _ set relation layer. LayerInR set relation layer)
+
+-- The pair of words is in the relation term, likewise.
+abbrev pub InR : Setting → RelTerm → Relation
+InR m = rec-RelTerm WordSet Relation (λ X Y _ _ set relation layer. LayerIn m set relation layer) (λ X Y _ _ set relation layer. LayerInR set relation layer)
+
+-- The assertion holds: the two terms have the same words, or each word of the one is in the other.
+abbrev pub Holds : Setting → Assertion → Type 0
+Holds m (Equal x y) = (w : List ℕ) → In m x w ↔ In m y w
+Holds m (Included x y) = (w : List ℕ) → In m x w → In m y w

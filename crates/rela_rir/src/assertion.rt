@@ -1,0 +1,10 @@
+use crate::term::PathTerm;
+
+/// What may be asserted of two sets of words.
+#[derive(Debug, PartialEq, Eq, Drop)]
+pub enum Assertion {
+    /// They have the same words.
+    Equal(PathTerm, PathTerm),
+    /// Each word of the first is in the second.
+    Included(PathTerm, PathTerm),
+}

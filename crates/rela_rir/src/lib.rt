@@ -1,0 +1,20 @@
+//! The terms that a specification is translated to: sets of words, relations between words, and what
+//! is asserted of sets. Each has a meaning that speaks of words alone, a size, and places that a
+//! reader of it passes through.
+#![tactic(auto)]
+
+mod assertion;
+mod copy_term;
+mod laws;
+mod made;
+mod set;
+mod size;
+mod term;
+
+pub use assertion::Assertion;
+pub use laws::{
+    path_terms_mean, rel_terms_mean, sizes_of_path_terms, sizes_of_rel_terms, star_unfolds, terms_are_no_deeper_than_large,
+};
+pub use set::SymbolSet;
+pub use size::{depth, nodes};
+pub use term::{PathTerm, RelTerm};

@@ -1,0 +1,94 @@
+//! Terms made of their parts, which are put into boxes. Each answers only want of memory else.
+ghost use Rattle.std.specs.Prelude.{◌≡◌, IfOk};
+
+use crate::term::{PathTerm, RelTerm};
+use rela_names::Boxed;
+use std::alloc::{AllocError, Global};
+
+impl PathTerm {
+    /// The words of both.
+    pub fn union(alloc: Global, a: PathTerm, b: PathTerm) -> Result<PathTerm, AllocError>
+        ensures { IfOk result (λ term. term ≡ PathTerm.Union a b) }
+    {
+        Ok(PathTerm::Union(Boxed::new(alloc, a)?, Boxed::new(alloc, b)?))
+    }
+
+    /// A word of the first, and then one of the second.
+    pub fn concat(alloc: Global, a: PathTerm, b: PathTerm) -> Result<PathTerm, AllocError>
+        ensures { IfOk result (λ term. term ≡ PathTerm.Concat a b) }
+    {
+        Ok(PathTerm::Concat(Boxed::new(alloc, a)?, Boxed::new(alloc, b)?))
+    }
+
+    /// Words of the part, one after another.
+    pub fn star(alloc: Global, part: PathTerm) -> Result<PathTerm, AllocError>
+        ensures { IfOk result (λ term. term ≡ PathTerm.Star part) }
+    {
+        Ok(PathTerm::Star(Boxed::new(alloc, part)?))
+    }
+
+    /// The words that are in both.
+    pub fn meet(alloc: Global, a: PathTerm, b: PathTerm) -> Result<PathTerm, AllocError>
+        ensures { IfOk result (λ term. term ≡ PathTerm.Meet a b) }
+    {
+        Ok(PathTerm::Meet(Boxed::new(alloc, a)?, Boxed::new(alloc, b)?))
+    }
+
+    /// The words of path symbols that are not in the part.
+    pub fn complement(alloc: Global, part: PathTerm) -> Result<PathTerm, AllocError>
+        ensures { IfOk result (λ term. term ≡ PathTerm.Complement part) }
+    {
+        Ok(PathTerm::Complement(Boxed::new(alloc, part)?))
+    }
+
+    /// What the relation makes of the words of the set.
+    pub fn image(alloc: Global, set: PathTerm, relation: RelTerm) -> Result<PathTerm, AllocError>
+        ensures { IfOk result (λ term. term ≡ PathTerm.Image set relation) }
+    {
+        Ok(PathTerm::Image(Boxed::new(alloc, set)?, Boxed::new(alloc, relation)?))
+    }
+}
+
+impl RelTerm {
+    /// Each word of the set with itself.
+    pub fn identity(alloc: Global, set: PathTerm) -> Result<RelTerm, AllocError>
+        ensures { IfOk result (λ term. term ≡ RelTerm.Identity set) }
+    {
+        Ok(RelTerm::Identity(Boxed::new(alloc, set)?))
+    }
+
+    /// Each word of the first set with each of the second.
+    pub fn product(alloc: Global, a: PathTerm, b: PathTerm) -> Result<RelTerm, AllocError>
+        ensures { IfOk result (λ term. term ≡ RelTerm.Product a b) }
+    {
+        Ok(RelTerm::Product(Boxed::new(alloc, a)?, Boxed::new(alloc, b)?))
+    }
+
+    /// The pairs of both.
+    pub fn union(alloc: Global, a: RelTerm, b: RelTerm) -> Result<RelTerm, AllocError>
+        ensures { IfOk result (λ term. term ≡ RelTerm.Union a b) }
+    {
+        Ok(RelTerm::Union(Boxed::new(alloc, a)?, Boxed::new(alloc, b)?))
+    }
+
+    /// A pair of the first, and then one of the second.
+    pub fn concat(alloc: Global, a: RelTerm, b: RelTerm) -> Result<RelTerm, AllocError>
+        ensures { IfOk result (λ term. term ≡ RelTerm.Concat a b) }
+    {
+        Ok(RelTerm::Concat(Boxed::new(alloc, a)?, Boxed::new(alloc, b)?))
+    }
+
+    /// Pairs of the part, one after another.
+    pub fn star(alloc: Global, part: RelTerm) -> Result<RelTerm, AllocError>
+        ensures { IfOk result (λ term. term ≡ RelTerm.Star part) }
+    {
+        Ok(RelTerm::Star(Boxed::new(alloc, part)?))
+    }
+
+    /// By the first to some word, and from that word by the second.
+    pub fn compose(alloc: Global, a: RelTerm, b: RelTerm) -> Result<RelTerm, AllocError>
+        ensures { IfOk result (λ term. term ≡ RelTerm.Compose a b) }
+    {
+        Ok(RelTerm::Compose(Boxed::new(alloc, a)?, Boxed::new(alloc, b)?))
+    }
+}

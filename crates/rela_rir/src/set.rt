@@ -1,0 +1,13 @@
+ghost use Rattle.std.specs.List.Sorted.{IsStrictlyIncreasing};
+
+use rela_names::Word;
+
+/// An entry of a class table: some path symbols.
+#[derive(Debug, PartialEq, Eq, Drop)]
+pub struct SymbolSet {
+    /// Whether the set is all path symbols but the members.
+    pub negated: bool,
+    /// The members, in ascending order.
+    pub members: Word,
+    ghost ascending: { IsStrictlyIncreasing members },
+}

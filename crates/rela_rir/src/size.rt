@@ -1,0 +1,82 @@
+//! How large a term is.
+ghost use Rattle.std.specs.Prelude.{◌≡◌, ◌+◌, ◌-◌, ◌^◌, ◌≤◌, min};
+ghost use Rattle.rela_rir.specs.Size.{count, count_r};
+ghost use Rattle.rela_rir.specs.Size as size;
+
+use crate::term::{PathTerm, RelTerm};
+
+/// The number of nodes of the term, those of its parts too; a class is one node. Where there are more
+/// than 2^64 - 1, it is 2^64 - 1.
+#[cycle(nodes)]
+#[tactic(auto, using(crate::proofs::SizeForms::size_forms))]
+pub fn nodes(r: &RelTerm) -> u64
+    requires { size.depth_r r.now ≤ 1000 }
+    ensures { result ≡ min (count_r r.now) (2 ^ 64 - 1) }
+{
+    match r {
+        RelTerm::Identity(set) => path_nodes(set.get()).saturating_add(1),
+        RelTerm::Product(a, b) => with_parts(path_nodes(a.get()), path_nodes(b.get())),
+        RelTerm::Union(a, b) => with_parts(nodes(a.get()), nodes(b.get())),
+        RelTerm::Concat(a, b) => with_parts(nodes(a.get()), nodes(b.get())),
+        RelTerm::Star(part) => nodes(part.get()).saturating_add(1),
+        RelTerm::Compose(a, b) => with_parts(nodes(a.get()), nodes(b.get())),
+    }
+}
+
+#[cycle(nodes)]
+#[tactic(auto, using(crate::proofs::SizeForms::size_forms))]
+fn path_nodes(t: &PathTerm) -> u64
+    requires { size.depth t.now ≤ 1000 }
+    ensures { result ≡ min (count t.now) (2 ^ 64 - 1) }
+{
+    match t {
+        PathTerm::Union(a, b) => with_parts(path_nodes(a.get()), path_nodes(b.get())),
+        PathTerm::Concat(a, b) => with_parts(path_nodes(a.get()), path_nodes(b.get())),
+        PathTerm::Star(part) => path_nodes(part.get()).saturating_add(1),
+        PathTerm::Meet(a, b) => with_parts(path_nodes(a.get()), path_nodes(b.get())),
+        PathTerm::Complement(part) => path_nodes(part.get()).saturating_add(1),
+        PathTerm::Image(set, relation) => with_parts(path_nodes(set.get()), nodes(relation.get())),
+        PathTerm::None | PathTerm::Empty | PathTerm::Class(_) | PathTerm::One(_) | PathTerm::Pre | PathTerm::Post => 1,
+    }
+}
+
+// one node more than its two parts have
+fn with_parts(a: u64, b: u64) -> u64
+    ensures { result ≡ min (a + b + 1) (2 ^ 64 - 1) }
+{
+    a.saturating_add(b).saturating_add(1)
+}
+
+/// The number of nodes on a longest way down the term: 1 more than of its deepest part.
+#[cycle(depth)]
+#[tactic(auto, using(crate::proofs::SizeForms::depth_forms))]
+pub fn depth(r: &RelTerm) -> u64
+    requires { size.depth_r r.now ≤ 1000 }
+    ensures { result ≡ size.depth_r r.now }
+{
+    match r {
+        RelTerm::Identity(set) => path_depth(set.get()) + 1,
+        RelTerm::Product(a, b) => path_depth(a.get()).max(path_depth(b.get())) + 1,
+        RelTerm::Union(a, b) => depth(a.get()).max(depth(b.get())) + 1,
+        RelTerm::Concat(a, b) => depth(a.get()).max(depth(b.get())) + 1,
+        RelTerm::Star(part) => depth(part.get()) + 1,
+        RelTerm::Compose(a, b) => depth(a.get()).max(depth(b.get())) + 1,
+    }
+}
+
+#[cycle(depth)]
+#[tactic(auto, using(crate::proofs::SizeForms::depth_forms))]
+fn path_depth(t: &PathTerm) -> u64
+    requires { size.depth t.now ≤ 1000 }
+    ensures { result ≡ size.depth t.now }
+{
+    match t {
+        PathTerm::Union(a, b) => path_depth(a.get()).max(path_depth(b.get())) + 1,
+        PathTerm::Concat(a, b) => path_depth(a.get()).max(path_depth(b.get())) + 1,
+        PathTerm::Star(part) => path_depth(part.get()) + 1,
+        PathTerm::Meet(a, b) => path_depth(a.get()).max(path_depth(b.get())) + 1,
+        PathTerm::Complement(part) => path_depth(part.get()) + 1,
+        PathTerm::Image(set, relation) => path_depth(set.get()).max(depth(relation.get())) + 1,
+        PathTerm::None | PathTerm::Empty | PathTerm::Class(_) | PathTerm::One(_) | PathTerm::Pre | PathTerm::Post => 1,
+    }
+}
