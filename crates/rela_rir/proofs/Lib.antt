@@ -1,4 +1,12 @@
 pub mod SizeForms
 pub mod SizeLaws
 pub mod MeaningForms
+pub mod PlaceForms
 pub mod Stars
+pub mod Examples
+pub mod Splits
+pub mod SetsFollow
+pub mod PairsFollow
+pub mod TermsFollow
+pub mod Subterms
+pub mod Licences

@@ -33,10 +33,10 @@ natural_r m X Y v v' k k' (F.RelTerm::Concat r s) = refl
 natural_r m X Y v v' k k' (F.RelTerm::Star r) = refl
 natural_r m X Y v v' k k' (F.Compose r s) = refl
 
-in_roll : (m : Setting) (x : F.PathTerm-F PathTerm RelTerm) → In m (roll-PathTerm x) ≡ LayerIn m (In m) (InR m) x
+pub in_roll : (m : Setting) (x : F.PathTerm-F PathTerm RelTerm) → In m (roll-PathTerm x) ≡ LayerIn m (In m) (InR m) x
 in_roll m x = rec-roll-PathTerm WordSet Relation (λ X Y _ _ set relation layer. LayerIn m set relation layer) (λ X Y _ _ set relation layer. LayerInR set relation layer) (natural m) x
 
-in_roll_r : (m : Setting) (x : F.RelTerm-F PathTerm RelTerm) → InR m (roll-RelTerm x) ≡ LayerInR (In m) (InR m) x
+pub in_roll_r : (m : Setting) (x : F.RelTerm-F PathTerm RelTerm) → InR m (roll-RelTerm x) ≡ LayerInR (In m) (InR m) x
 in_roll_r m x = rec-roll-RelTerm WordSet Relation (λ X Y _ _ set relation layer. LayerIn m set relation layer) (λ X Y _ _ set relation layer. LayerInR set relation layer) (natural_r m) x
 
 pub in_none : (m : Setting) → In m P.None ≡ (λ w. ⊥)

@@ -1,5 +1,5 @@
 -- A term has at least as many nodes as it is deep, by induction on terms.
-use Rattle.std.proofs.Common.{◌≡◌, ℕ, ◌≤◌, subst, arith}
+use Rattle.std.proofs.Common.{◌≤◌, subst, arith}
 use Rattle.rela_rir.specs.Size.{count, count_r, depth, depth_r}
 use Rattle.rela_rir.proofs.SizeForms.{count_roll, count_roll_r, depth_roll, depth_roll_r}
 use Rattle.rela_rir.specs.declared.term.PathTerm.{PathTerm}

@@ -1,5 +1,6 @@
 pub mod Words
 pub mod Meaning
 pub mod Places
+pub mod Following
 pub mod Limit
 pub mod Size

@@ -14,19 +14,27 @@ use Rattle.rela_rir.specs.declared.term.PathTerm.TheFolds.{rec-PathTerm, rec-Rel
 abbrev pub IsCheckWord : Scene → List ℕ → Type 0
 IsCheckWord m w = All (λ s. s < m.setting.path_symbols + m.markers) w
 
--- k places of the path term, of which each two are apart, and each is reached by some word
+-- some word reaches the place of the path term
+abbrev pub IsReached : Scene → PathTerm → Place → Type 0
+IsReached m t p = (w : List ℕ) × IsCheckWord m w × At m t p w
+
+-- some pair of words reaches the place of the relation term
+abbrev pub IsReachedR : Scene → RelTerm → Place → Type 0
+IsReachedR m r p = (u v : List ℕ) × IsCheckWord m u × IsCheckWord m v × AtR m r p u v
+
+-- k places of the path term, of which each two are apart, and each is reached
 pub record Reached (m : Scene) (t : PathTerm) (k : ℕ) : Type 0 where
   pub places : List Place
   pub many : length places ≡ k
   pub apart : AllPairs (Apart m t) places
-  pub reached : All (λ p. (w : List ℕ) × IsCheckWord m w × At m t p w) places
+  pub reached : All (IsReached m t) places
 
--- k places of the relation term, of which each two are apart, and each is reached by some pair of words
+-- k places of the relation term, of which each two are apart, and each is reached
 pub record ReachedR (m : Scene) (r : RelTerm) (k : ℕ) : Type 0 where
   pub places : List Place
   pub many : length places ≡ k
   pub apart : AllPairs (ApartR m r) places
-  pub reached : All (λ p. (u v : List ℕ) × IsCheckWord m u × IsCheckWord m v × AtR m r p u v) places
+  pub reached : All (IsReachedR m r) places
 
 -- some place of one of the two terms is reached by just one of the two words
 abbrev pub ToldByPlace : Scene → PathTerm → PathTerm → List ℕ → List ℕ → Type 0
@@ -59,12 +67,20 @@ LayerSomeR part part_r (RelTerm::Concat r s) = part_r r ⊎ part_r s
 LayerSomeR part part_r (RelTerm::Star r) = part_r r
 LayerSomeR part part_r (Compose r s) = part_r r ⊎ part_r s
 
+-- what is asked of a path term at each layer, and of a relation term
+abbrev pub LayerHas : {X Y : Type 0} → (PathTerm → Type 0) → (X → PathTerm) → (Y → RelTerm) → (X → Type 0) → (Y → Type 0) → PathTerm-F X Y → Type 0
+LayerHas {X} {Y} P term relation part part_r layer = P (roll-PathTerm (map-PathTerm X Y PathTerm RelTerm term relation layer)) ⊎ LayerSome part part_r layer
+
+abbrev pub LayerHasR : {X Y : Type 0} → (RelTerm → Type 0) → (X → PathTerm) → (Y → RelTerm) → (X → Type 0) → (Y → Type 0) → RelTerm-F X Y → Type 0
+LayerHasR {X} {Y} R term relation part part_r layer = R (roll-RelTerm (map-RelTerm X Y PathTerm RelTerm term relation layer)) ⊎ LayerSomeR part part_r layer
+
 -- The path term has P, or some path term at any depth in it has P, or some relation term there has R.
 abbrev pub SomeSubterm : (PathTerm → Type 0) → (RelTerm → Type 0) → PathTerm → Type 0
-SomeSubterm P R =
-    rec-PathTerm (Type 0) (Type 0)
-        (λ X Y term relation part part_r layer. P (roll-PathTerm (map-PathTerm X Y PathTerm RelTerm term relation layer)) ⊎ LayerSome part part_r layer)
-        (λ X Y term relation part part_r layer. R (roll-RelTerm (map-RelTerm X Y PathTerm RelTerm term relation layer)) ⊎ LayerSomeR part part_r layer)
+SomeSubterm P R = rec-PathTerm (Type 0) (Type 0) (λ X Y term relation part part_r layer. LayerHas P term relation part part_r layer) (λ X Y term relation part part_r layer. LayerHasR R term relation part part_r layer)
+
+-- The relation term has R, or some relation term at any depth in it has R, or some path term there has P.
+abbrev pub SomeSubtermR : (PathTerm → Type 0) → (RelTerm → Type 0) → RelTerm → Type 0
+SomeSubtermR P R = rec-RelTerm (Type 0) (Type 0) (λ X Y term relation part part_r layer. LayerHas P term relation part part_r layer) (λ X Y term relation part part_r layer. LayerHasR R term relation part part_r layer)
 
 -- the path terms whose places are counted against a limit: meets, complements and images
 abbrev pub LayerIsCounted : {X Y : Type 0} → PathTerm-F X Y → Type 0

@@ -17,9 +17,6 @@ pub record Setting : Type 1 where
   pub pre : List ℕ → Type 0
   pub post : List ℕ → Type 0
 
-abbrev pub setting : List SymbolSet → ℕ → WordSet → WordSet → Setting
-setting classes path_symbols pre post = record { classes = classes; path_symbols = path_symbols; pre = pre; post = post }
-
 -- the path symbol is one of the members, or none of them where the set is negated
 pub record HasSymbol (path_symbols : ℕ) (set : SymbolSet) (s : ℕ) : Type 0 where
   pub path : s < path_symbols

@@ -23,7 +23,10 @@ impl PathTerm {
             PathTerm::Complement(part) => PathTerm::Complement(copy_path(alloc, part)?),
             PathTerm::Pre => PathTerm::Pre,
             PathTerm::Post => PathTerm::Post,
-            PathTerm::Image(set, relation) => PathTerm::Image(copy_path(alloc, set)?, copy_relation(alloc, relation)?),
+            PathTerm::Image(set, relation) => PathTerm::Image(
+                copy_path(alloc, set)?,
+                copy_relation(alloc, relation)?,
+            ),
         })
     }
 }
@@ -37,10 +40,19 @@ impl RelTerm {
         Ok(match self {
             RelTerm::Identity(set) => RelTerm::Identity(copy_path(alloc, set)?),
             RelTerm::Product(a, b) => RelTerm::Product(copy_path(alloc, a)?, copy_path(alloc, b)?),
-            RelTerm::Union(a, b) => RelTerm::Union(copy_relation(alloc, a)?, copy_relation(alloc, b)?),
-            RelTerm::Concat(a, b) => RelTerm::Concat(copy_relation(alloc, a)?, copy_relation(alloc, b)?),
+            RelTerm::Union(a, b) => RelTerm::Union(
+                copy_relation(alloc, a)?,
+                copy_relation(alloc, b)?,
+            ),
+            RelTerm::Concat(a, b) => RelTerm::Concat(
+                copy_relation(alloc, a)?,
+                copy_relation(alloc, b)?,
+            ),
             RelTerm::Star(part) => RelTerm::Star(copy_relation(alloc, part)?),
-            RelTerm::Compose(a, b) => RelTerm::Compose(copy_relation(alloc, a)?, copy_relation(alloc, b)?),
+            RelTerm::Compose(a, b) => RelTerm::Compose(
+                copy_relation(alloc, a)?,
+                copy_relation(alloc, b)?,
+            ),
         })
     }
 }

@@ -2,91 +2,47 @@
 //! its contract is the law.
 ghost use Rattle.std.specs.Prelude.{◌≡◌, ℕ, ◌+◌, ◌≤◌, ◌⊎◌, ◌↔◌, max, List, [], ◌∷◌};
 ghost use Rattle.rela_rir.specs.Words.{Concatenation, Star, ImageOf, PairConcatenation, PairStar, Composition};
-ghost use Rattle.rela_rir.specs.Meaning.{setting, In, InR, IsInClass, IsPathWord};
+ghost use Rattle.rela_rir.specs.Meaning.{Setting, In, InR, IsInClass, IsPathWord};
 ghost use Rattle.rela_rir.specs.Size.{count, count_r, depth, depth_r};
 
-use crate::set::SymbolSet;
 use crate::term::{PathTerm, RelTerm};
 use rela_names::WordSet;
+use std::marker::Brand;
+
+/// What terms are read in, which only contracts name.
+pub trait Reading {
+    ghost setting: { Setting };
+}
+
+// What a caller's proof picks stands in the place of this one.
+impl Reading for Brand {
+    ghost setting = { record { classes = []; path_symbols = 0; pre = λ _. Unit {0}; post = λ _. Unit {0} } };
+}
 
 /// The words of a path term, by its form and what its parts mean.
-pub fn path_terms_mean<Before: WordSet, After: WordSet>()
-    ensures none {
-        (classes : List SymbolSet) (symbols : ℕ) (w : List ℕ) →
-            let m = setting classes symbols Before.contains After.contains in ¬ In m PathTerm.None w
-    }
-    ensures empty {
-        (classes : List SymbolSet) (symbols : ℕ) (w : List ℕ) →
-            let m = setting classes symbols Before.contains After.contains in In m PathTerm.Empty w ↔ (w ≡ [])
-    }
-    ensures class {
-        (classes : List SymbolSet) (symbols : ℕ) (k : ℕ) (w : List ℕ) →
-            let m = setting classes symbols Before.contains After.contains in In m (PathTerm.Class k) w ↔ ((s : ℕ) × (w ≡ s ∷ []) × IsInClass m k s)
-    }
-    ensures one {
-        (classes : List SymbolSet) (symbols : ℕ) (s : ℕ) (w : List ℕ) →
-            let m = setting classes symbols Before.contains After.contains in In m (PathTerm.One s) w ↔ (w ≡ s ∷ [])
-    }
-    ensures union {
-        (classes : List SymbolSet) (symbols : ℕ) (x y : PathTerm) (w : List ℕ) →
-            let m = setting classes symbols Before.contains After.contains in In m (PathTerm.Union x y) w ↔ (In m x w ⊎ In m y w)
-    }
-    ensures concat {
-        (classes : List SymbolSet) (symbols : ℕ) (x y : PathTerm) (w : List ℕ) →
-            let m = setting classes symbols Before.contains After.contains in In m (PathTerm.Concat x y) w ↔ Concatenation (In m x) (In m y) w
-    }
-    ensures star {
-        (classes : List SymbolSet) (symbols : ℕ) (x : PathTerm) (w : List ℕ) →
-            let m = setting classes symbols Before.contains After.contains in In m (PathTerm.Star x) w ↔ Star (In m x) w
-    }
-    ensures meet {
-        (classes : List SymbolSet) (symbols : ℕ) (x y : PathTerm) (w : List ℕ) →
-            let m = setting classes symbols Before.contains After.contains in In m (PathTerm.Meet x y) w ↔ (In m x w × In m y w)
-    }
-    ensures complement {
-        (classes : List SymbolSet) (symbols : ℕ) (x : PathTerm) (w : List ℕ) →
-            let m = setting classes symbols Before.contains After.contains in In m (PathTerm.Complement x) w ↔ (IsPathWord symbols w × (¬ In m x w))
-    }
-    ensures before {
-        (classes : List SymbolSet) (symbols : ℕ) (w : List ℕ) →
-            let m = setting classes symbols Before.contains After.contains in In m PathTerm.Pre w ↔ Before.contains w
-    }
-    ensures after {
-        (classes : List SymbolSet) (symbols : ℕ) (w : List ℕ) →
-            let m = setting classes symbols Before.contains After.contains in In m PathTerm.Post w ↔ After.contains w
-    }
-    ensures image {
-        (classes : List SymbolSet) (symbols : ℕ) (x : PathTerm) (r : RelTerm) (v : List ℕ) →
-            let m = setting classes symbols Before.contains After.contains in In m (PathTerm.Image x r) v ↔ ImageOf (In m x) (InR m r) v
-    }
+pub fn path_terms_mean<M: Reading>()
+    ensures none { (w : List ℕ) → ¬ In M.setting PathTerm.None w }
+    ensures empty { (w : List ℕ) → In M.setting PathTerm.Empty w ↔ (w ≡ []) }
+    ensures class { (k : ℕ) (w : List ℕ) → In M.setting (PathTerm.Class k) w ↔ ((s : ℕ) × (w ≡ s ∷ []) × IsInClass M.setting k s) }
+    ensures one { (s : ℕ) (w : List ℕ) → In M.setting (PathTerm.One s) w ↔ (w ≡ s ∷ []) }
+    ensures union { (x y : PathTerm) (w : List ℕ) → In M.setting (PathTerm.Union x y) w ↔ (In M.setting x w ⊎ In M.setting y w) }
+    ensures concat { (x y : PathTerm) (w : List ℕ) → In M.setting (PathTerm.Concat x y) w ↔ Concatenation (In M.setting x) (In M.setting y) w }
+    ensures star { (x : PathTerm) (w : List ℕ) → In M.setting (PathTerm.Star x) w ↔ Star (In M.setting x) w }
+    ensures meet { (x y : PathTerm) (w : List ℕ) → In M.setting (PathTerm.Meet x y) w ↔ (In M.setting x w × In M.setting y w) }
+    ensures complement { (x : PathTerm) (w : List ℕ) → In M.setting (PathTerm.Complement x) w ↔ (IsPathWord M.setting.path_symbols w × (¬ In M.setting x w)) }
+    ensures before { (w : List ℕ) → In M.setting PathTerm.Pre w ↔ M.setting.pre w }
+    ensures after { (w : List ℕ) → In M.setting PathTerm.Post w ↔ M.setting.post w }
+    ensures image { (x : PathTerm) (r : RelTerm) (v : List ℕ) → In M.setting (PathTerm.Image x r) v ↔ ImageOf (In M.setting x) (InR M.setting r) v }
 {}
 
 /// The pairs of words of a relation term, by its form and what its parts mean.
-pub fn rel_terms_mean<Before: WordSet, After: WordSet>()
-    ensures identity {
-        (classes : List SymbolSet) (symbols : ℕ) (x : PathTerm) (u v : List ℕ) →
-            let m = setting classes symbols Before.contains After.contains in InR m (RelTerm.Identity x) u v ↔ ((u ≡ v) × In m x u)
-    }
-    ensures product {
-        (classes : List SymbolSet) (symbols : ℕ) (x y : PathTerm) (u v : List ℕ) →
-            let m = setting classes symbols Before.contains After.contains in InR m (RelTerm.Product x y) u v ↔ (In m x u × In m y v)
-    }
-    ensures union {
-        (classes : List SymbolSet) (symbols : ℕ) (r s : RelTerm) (u v : List ℕ) →
-            let m = setting classes symbols Before.contains After.contains in InR m (RelTerm.Union r s) u v ↔ (InR m r u v ⊎ InR m s u v)
-    }
-    ensures concat {
-        (classes : List SymbolSet) (symbols : ℕ) (r s : RelTerm) (u v : List ℕ) →
-            let m = setting classes symbols Before.contains After.contains in InR m (RelTerm.Concat r s) u v ↔ PairConcatenation (InR m r) (InR m s) u v
-    }
-    ensures star {
-        (classes : List SymbolSet) (symbols : ℕ) (r : RelTerm) (u v : List ℕ) →
-            let m = setting classes symbols Before.contains After.contains in InR m (RelTerm.Star r) u v ↔ PairStar (InR m r) u v
-    }
-    ensures compose {
-        (classes : List SymbolSet) (symbols : ℕ) (r s : RelTerm) (u v : List ℕ) →
-            let m = setting classes symbols Before.contains After.contains in InR m (RelTerm.Compose r s) u v ↔ Composition (InR m r) (InR m s) u v
-    }
+pub fn rel_terms_mean<M: Reading>()
+    ensures identity { (x : PathTerm) (u v : List ℕ) → InR M.setting (RelTerm.Identity x) u v ↔ ((u ≡ v) × In M.setting x u) }
+    ensures product { (x y : PathTerm) (u v : List ℕ) → InR M.setting (RelTerm.Product x y) u v ↔ (In M.setting x u × In M.setting y v) }
+    ensures union { (r s : RelTerm) (u v : List ℕ) → InR M.setting (RelTerm.Union r s) u v ↔ (InR M.setting r u v ⊎ InR M.setting s u v) }
+    ensures concat { (r s : RelTerm) (u v : List ℕ) → InR M.setting (RelTerm.Concat r s) u v ↔ PairConcatenation (InR M.setting r) (InR M.setting s) u v }
+    ensures star { (r : RelTerm) (u v : List ℕ) → InR M.setting (RelTerm.Star r) u v ↔ PairStar (InR M.setting r) u v }
+    ensures compose { (r s : RelTerm) (u v : List ℕ) → InR M.setting (RelTerm.Compose r s) u v ↔ Composition (InR M.setting r) (InR M.setting s) u v }
 {}
 
 /// A word is some words of a set one after another where it is empty, or one of them and then some more.

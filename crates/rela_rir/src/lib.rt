@@ -6,6 +6,7 @@
 mod assertion;
 mod copy_term;
 mod laws;
+mod limit_laws;
 mod made;
 mod set;
 mod size;
@@ -13,8 +14,13 @@ mod term;
 
 pub use assertion::Assertion;
 pub use laws::{
-    path_terms_mean, rel_terms_mean, sizes_of_path_terms, sizes_of_rel_terms, star_unfolds, terms_are_no_deeper_than_large,
+    Reading, path_terms_mean, rel_terms_mean, sizes_of_path_terms, sizes_of_rel_terms,
+    star_unfolds, terms_are_no_deeper_than_large,
 };
+pub use limit_laws::{Staging, forced_is_licensed, places_tell_what_follows};
 pub use set::SymbolSet;
 pub use size::{depth, nodes};
 pub use term::{PathTerm, RelTerm};
+
+#[cfg(test)]
+mod tests;

@@ -36,7 +36,12 @@ fn path_nodes(t: &PathTerm) -> u64
         PathTerm::Meet(a, b) => with_parts(path_nodes(a.get()), path_nodes(b.get())),
         PathTerm::Complement(part) => path_nodes(part.get()).saturating_add(1),
         PathTerm::Image(set, relation) => with_parts(path_nodes(set.get()), nodes(relation.get())),
-        PathTerm::None | PathTerm::Empty | PathTerm::Class(_) | PathTerm::One(_) | PathTerm::Pre | PathTerm::Post => 1,
+        PathTerm::None
+        | PathTerm::Empty
+        | PathTerm::Class(_)
+        | PathTerm::One(_)
+        | PathTerm::Pre
+        | PathTerm::Post => 1,
     }
 }
 
@@ -77,6 +82,11 @@ fn path_depth(t: &PathTerm) -> u64
         PathTerm::Meet(a, b) => path_depth(a.get()).max(path_depth(b.get())) + 1,
         PathTerm::Complement(part) => path_depth(part.get()) + 1,
         PathTerm::Image(set, relation) => path_depth(set.get()).max(depth(relation.get())) + 1,
-        PathTerm::None | PathTerm::Empty | PathTerm::Class(_) | PathTerm::One(_) | PathTerm::Pre | PathTerm::Post => 1,
+        PathTerm::None
+        | PathTerm::Empty
+        | PathTerm::Class(_)
+        | PathTerm::One(_)
+        | PathTerm::Pre
+        | PathTerm::Post => 1,
     }
 }

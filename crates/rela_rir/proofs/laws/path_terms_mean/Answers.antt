@@ -1,39 +1,38 @@
-use Rattle.rela_rir.specs.Meaning.{setting}
 use Rattle.rela_rir.proofs.MeaningForms as forms
 use Rattle.rela_rir.proofs.laws.path_terms_mean.Goals as goal
 
 pub returns-clause-none : goal.returns-clause-none
-returns-clause-none g c classes symbols w = (forms.at_word (forms.in_none (setting classes symbols g.Before.WordSet.contains g.After.WordSet.contains)) w).0
+returns-clause-none g c w = (forms.at_word (forms.in_none g.M.Reading.setting) w).0
 
 pub returns-clause-empty : goal.returns-clause-empty
-returns-clause-empty g c classes symbols w = forms.at_word (forms.in_empty (setting classes symbols g.Before.WordSet.contains g.After.WordSet.contains)) w
+returns-clause-empty g c w = forms.at_word (forms.in_empty g.M.Reading.setting) w
 
 pub returns-clause-class : goal.returns-clause-class
-returns-clause-class g c classes symbols k w = forms.at_word (forms.in_class (setting classes symbols g.Before.WordSet.contains g.After.WordSet.contains) k) w
+returns-clause-class g c k w = forms.at_word (forms.in_class g.M.Reading.setting k) w
 
 pub returns-clause-one : goal.returns-clause-one
-returns-clause-one g c classes symbols s w = forms.at_word (forms.in_one (setting classes symbols g.Before.WordSet.contains g.After.WordSet.contains) s) w
+returns-clause-one g c s w = forms.at_word (forms.in_one g.M.Reading.setting s) w
 
 pub returns-clause-union : goal.returns-clause-union
-returns-clause-union g c classes symbols x y w = forms.at_word (forms.in_union (setting classes symbols g.Before.WordSet.contains g.After.WordSet.contains) x y) w
+returns-clause-union g c x y w = forms.at_word (forms.in_union g.M.Reading.setting x y) w
 
 pub returns-clause-concat : goal.returns-clause-concat
-returns-clause-concat g c classes symbols x y w = forms.at_word (forms.in_concat (setting classes symbols g.Before.WordSet.contains g.After.WordSet.contains) x y) w
+returns-clause-concat g c x y w = forms.at_word (forms.in_concat g.M.Reading.setting x y) w
 
 pub returns-clause-star : goal.returns-clause-star
-returns-clause-star g c classes symbols x w = forms.at_word (forms.in_star (setting classes symbols g.Before.WordSet.contains g.After.WordSet.contains) x) w
+returns-clause-star g c x w = forms.at_word (forms.in_star g.M.Reading.setting x) w
 
 pub returns-clause-meet : goal.returns-clause-meet
-returns-clause-meet g c classes symbols x y w = forms.at_word (forms.in_meet (setting classes symbols g.Before.WordSet.contains g.After.WordSet.contains) x y) w
+returns-clause-meet g c x y w = forms.at_word (forms.in_meet g.M.Reading.setting x y) w
 
 pub returns-clause-complement : goal.returns-clause-complement
-returns-clause-complement g c classes symbols x w = forms.at_word (forms.in_complement (setting classes symbols g.Before.WordSet.contains g.After.WordSet.contains) x) w
+returns-clause-complement g c x w = forms.at_word (forms.in_complement g.M.Reading.setting x) w
 
 pub returns-clause-before : goal.returns-clause-before
-returns-clause-before g c classes symbols w = forms.at_word (forms.in_pre (setting classes symbols g.Before.WordSet.contains g.After.WordSet.contains)) w
+returns-clause-before g c w = forms.at_word (forms.in_pre g.M.Reading.setting) w
 
 pub returns-clause-after : goal.returns-clause-after
-returns-clause-after g c classes symbols w = forms.at_word (forms.in_post (setting classes symbols g.Before.WordSet.contains g.After.WordSet.contains)) w
+returns-clause-after g c w = forms.at_word (forms.in_post g.M.Reading.setting) w
 
 pub returns-clause-image : goal.returns-clause-image
-returns-clause-image g c classes symbols x r w = forms.at_word (forms.in_image (setting classes symbols g.Before.WordSet.contains g.After.WordSet.contains) x r) w
+returns-clause-image g c x r w = forms.at_word (forms.in_image g.M.Reading.setting x r) w
