@@ -25,7 +25,7 @@ natural m X Y v v' k k' F.Pre = refl
 natural m X Y v v' k k' F.Post = refl
 natural m X Y v v' k k' (F.Image a r) = refl
 
-natural_r : (m : Setting) (X Y : Type 0) (v : X → PathTerm) (v' : Y → RelTerm) (k : PathTerm → WordSet) (k' : RelTerm → Relation) (x : F.RelTerm-F X Y) → LayerInR (λ p. k (v p)) (λ p. k' (v' p)) x ≡ LayerInR k k' (map-RelTerm X Y PathTerm RelTerm v v' x)
+natural_r : (m : Setting) (X Y : Type 0) (v : X → PathTerm) (v' : Y → RelTerm) (k : PathTerm → WordSet) (k' : RelTerm → Relation) (x : F.RelTerm-F X Y) → LayerInR m (λ p. k (v p)) (λ p. k' (v' p)) x ≡ LayerInR m k k' (map-RelTerm X Y PathTerm RelTerm v v' x)
 natural_r m X Y v v' k k' (F.Identity a) = refl
 natural_r m X Y v v' k k' (F.Product a b) = refl
 natural_r m X Y v v' k k' (F.RelTerm::Union r s) = refl
@@ -34,10 +34,10 @@ natural_r m X Y v v' k k' (F.RelTerm::Star r) = refl
 natural_r m X Y v v' k k' (F.Compose r s) = refl
 
 pub in_roll : (m : Setting) (x : F.PathTerm-F PathTerm RelTerm) → In m (roll-PathTerm x) ≡ LayerIn m (In m) (InR m) x
-in_roll m x = rec-roll-PathTerm WordSet Relation (λ X Y _ _ set relation layer. LayerIn m set relation layer) (λ X Y _ _ set relation layer. LayerInR set relation layer) (natural m) x
+in_roll m x = rec-roll-PathTerm WordSet Relation (λ X Y _ _ set relation layer. LayerIn m set relation layer) (λ X Y _ _ set relation layer. LayerInR m set relation layer) (natural m) x
 
-pub in_roll_r : (m : Setting) (x : F.RelTerm-F PathTerm RelTerm) → InR m (roll-RelTerm x) ≡ LayerInR (In m) (InR m) x
-in_roll_r m x = rec-roll-RelTerm WordSet Relation (λ X Y _ _ set relation layer. LayerIn m set relation layer) (λ X Y _ _ set relation layer. LayerInR set relation layer) (natural_r m) x
+pub in_roll_r : (m : Setting) (x : F.RelTerm-F PathTerm RelTerm) → InR m (roll-RelTerm x) ≡ LayerInR m (In m) (InR m) x
+in_roll_r m x = rec-roll-RelTerm WordSet Relation (λ X Y _ _ set relation layer. LayerIn m set relation layer) (λ X Y _ _ set relation layer. LayerInR m set relation layer) (natural_r m) x
 
 pub in_none : (m : Setting) → In m P.None ≡ (λ w. ⊥)
 in_none m = ap (In m) (sym P.rolls-None) ∙ in_roll m F.None

@@ -10,7 +10,7 @@ use Rattle.rela_rir.specs.declared.term.RelTerm.TheVariants as R
 use Rattle.rela_rir.specs.declared.term.PathTerm.TheViews.{roll-PathTerm, roll-RelTerm}
 use Rattle.rela_rir.specs.declared.term.PathTerm.TheFolds.{map-PathTerm, map-RelTerm, rec-roll-PathTerm, rec-roll-RelTerm}
 
-at_natural : (m : Scene) (X Y : Type 0) (v : X → PathTerm) (v' : Y → RelTerm) (k : PathTerm → Places) (k' : RelTerm → PairPlaces) (x : F.PathTerm-F X Y) → LayerAt m v (λ p. k (v p)) (λ p. k' (v' p)) x ≡ LayerAt m (λ p. p) k k' (map-PathTerm X Y PathTerm RelTerm v v' x)
+at_natural : (m : Scene) (X Y : Type 0) (v : X → PathTerm) (v' : Y → RelTerm) (k : PathTerm → Places) (k' : RelTerm → PairPlaces) (x : F.PathTerm-F X Y) → LayerAt m v v' (λ p. k (v p)) (λ p. k' (v' p)) x ≡ LayerAt m (λ p. p) (λ p. p) k k' (map-PathTerm X Y PathTerm RelTerm v v' x)
 at_natural m X Y v v' k k' F.None = refl
 at_natural m X Y v v' k k' F.Empty = refl
 at_natural m X Y v v' k k' (F.Class n) = refl
@@ -46,7 +46,7 @@ apart_natural m X Y v v' k k' F.Pre = refl
 apart_natural m X Y v v' k k' F.Post = refl
 apart_natural m X Y v v' k k' (F.Image a r) = refl
 
-apart_natural_r : (m : Scene) (X Y : Type 0) (v : X → PathTerm) (v' : Y → RelTerm) (k : PathTerm → Tells) (k' : RelTerm → Tells) (x : F.RelTerm-F X Y) → LayerApartR (λ p. k (v p)) (λ p. k' (v' p)) x ≡ LayerApartR k k' (map-RelTerm X Y PathTerm RelTerm v v' x)
+apart_natural_r : (m : Scene) (X Y : Type 0) (v : X → PathTerm) (v' : Y → RelTerm) (k : PathTerm → Tells) (k' : RelTerm → Tells) (x : F.RelTerm-F X Y) → LayerApartR m v (λ p. k (v p)) (λ p. k' (v' p)) x ≡ LayerApartR m (λ p. p) k k' (map-RelTerm X Y PathTerm RelTerm v v' x)
 apart_natural_r m X Y v v' k k' (F.Identity a) = refl
 apart_natural_r m X Y v v' k k' (F.Product a b) = refl
 apart_natural_r m X Y v v' k k' (F.RelTerm::Union r s) = refl
@@ -54,17 +54,17 @@ apart_natural_r m X Y v v' k k' (F.RelTerm::Concat r s) = refl
 apart_natural_r m X Y v v' k k' (F.RelTerm::Star r) = refl
 apart_natural_r m X Y v v' k k' (F.Compose r s) = refl
 
-pub at_roll : (m : Scene) (x : F.PathTerm-F PathTerm RelTerm) → At m (roll-PathTerm x) ≡ LayerAt m (λ p. p) (At m) (AtR m) x
-at_roll m x = rec-roll-PathTerm Places PairPlaces (λ X Y term relation at pairs layer. LayerAt m term at pairs layer) (λ X Y term relation at pairs layer. LayerAtR m term relation at pairs layer) (at_natural m) x
+pub at_roll : (m : Scene) (x : F.PathTerm-F PathTerm RelTerm) → At m (roll-PathTerm x) ≡ LayerAt m (λ p. p) (λ p. p) (At m) (AtR m) x
+at_roll m x = rec-roll-PathTerm Places PairPlaces (λ X Y term relation at pairs layer. LayerAt m term relation at pairs layer) (λ X Y term relation at pairs layer. LayerAtR m term relation at pairs layer) (at_natural m) x
 
 pub at_roll_r : (m : Scene) (x : F.RelTerm-F PathTerm RelTerm) → AtR m (roll-RelTerm x) ≡ LayerAtR m (λ p. p) (λ p. p) (At m) (AtR m) x
-at_roll_r m x = rec-roll-RelTerm Places PairPlaces (λ X Y term relation at pairs layer. LayerAt m term at pairs layer) (λ X Y term relation at pairs layer. LayerAtR m term relation at pairs layer) (at_natural_r m) x
+at_roll_r m x = rec-roll-RelTerm Places PairPlaces (λ X Y term relation at pairs layer. LayerAt m term relation at pairs layer) (λ X Y term relation at pairs layer. LayerAtR m term relation at pairs layer) (at_natural_r m) x
 
 pub apart_roll : (m : Scene) (x : F.PathTerm-F PathTerm RelTerm) → Apart m (roll-PathTerm x) ≡ LayerApart m (λ p. p) (Apart m) (ApartR m) x
-apart_roll m x = rec-roll-PathTerm Tells Tells (λ X Y term _ apart apart_r layer. LayerApart m term apart apart_r layer) (λ X Y _ _ apart apart_r layer. LayerApartR apart apart_r layer) (apart_natural m) x
+apart_roll m x = rec-roll-PathTerm Tells Tells (λ X Y term _ apart apart_r layer. LayerApart m term apart apart_r layer) (λ X Y term _ apart apart_r layer. LayerApartR m term apart apart_r layer) (apart_natural m) x
 
-pub apart_roll_r : (m : Scene) (x : F.RelTerm-F PathTerm RelTerm) → ApartR m (roll-RelTerm x) ≡ LayerApartR (Apart m) (ApartR m) x
-apart_roll_r m x = rec-roll-RelTerm Tells Tells (λ X Y term _ apart apart_r layer. LayerApart m term apart apart_r layer) (λ X Y _ _ apart apart_r layer. LayerApartR apart apart_r layer) (apart_natural_r m) x
+pub apart_roll_r : (m : Scene) (x : F.RelTerm-F PathTerm RelTerm) → ApartR m (roll-RelTerm x) ≡ LayerApartR m (λ p. p) (Apart m) (ApartR m) x
+apart_roll_r m x = rec-roll-RelTerm Tells Tells (λ X Y term _ apart apart_r layer. LayerApart m term apart apart_r layer) (λ X Y term _ apart apart_r layer. LayerApartR m term apart apart_r layer) (apart_natural_r m) x
 
 pub at_none : (m : Scene) → At m P.None ≡ EmptyPlaces
 at_none m = ap (At m) (sym P.rolls-None) ∙ at_roll m F.None

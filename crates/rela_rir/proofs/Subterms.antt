@@ -8,7 +8,7 @@ use Rattle.rela_rir.specs.declared.term.PathTerm.TheViews.{roll-PathTerm, roll-R
 use Rattle.rela_rir.specs.declared.term.PathTerm.TheFolds.{map-PathTerm, map-RelTerm, ind-PathTerm, rec-roll-PathTerm, rec-roll-RelTerm}
 
 natural : (P : PathTerm → Type 0) (X Y : Type 0) (v : X → PathTerm) (v' : Y → RelTerm) (k : PathTerm → Type 0) (k' : RelTerm → Type 0) (x : F.PathTerm-F X Y) →
-    LayerHas P v v' (λ p. k (v p)) (λ p. k' (v' p)) x ≡ LayerHas P (λ y. y) (λ y. y) k k' (map-PathTerm X Y PathTerm RelTerm v v' x)
+    LayerHas v v' (λ p. k (v p)) (λ p. k' (v' p)) P x ≡ LayerHas (λ y. y) (λ y. y) k k' P (map-PathTerm X Y PathTerm RelTerm v v' x)
 natural P X Y v v' k k' F.None = refl
 natural P X Y v v' k k' F.Empty = refl
 natural P X Y v v' k k' (F.Class n) = refl
@@ -23,7 +23,7 @@ natural P X Y v v' k k' F.Post = refl
 natural P X Y v v' k k' (F.Image a r) = refl
 
 natural_r : (R : RelTerm → Type 0) (X Y : Type 0) (v : X → PathTerm) (v' : Y → RelTerm) (k : PathTerm → Type 0) (k' : RelTerm → Type 0) (x : F.RelTerm-F X Y) →
-    LayerHasR R v v' (λ p. k (v p)) (λ p. k' (v' p)) x ≡ LayerHasR R (λ y. y) (λ y. y) k k' (map-RelTerm X Y PathTerm RelTerm v v' x)
+    LayerHasR v v' (λ p. k (v p)) (λ p. k' (v' p)) R x ≡ LayerHasR (λ y. y) (λ y. y) k k' R (map-RelTerm X Y PathTerm RelTerm v v' x)
 natural_r R X Y v v' k k' (F.Identity a) = refl
 natural_r R X Y v v' k k' (F.Product a b) = refl
 natural_r R X Y v v' k k' (F.RelTerm::Union r t) = refl
@@ -32,12 +32,12 @@ natural_r R X Y v v' k k' (F.RelTerm::Star r) = refl
 natural_r R X Y v v' k k' (F.Compose r t) = refl
 
 some_roll : (P : PathTerm → Type 0) (R : RelTerm → Type 0) (x : F.PathTerm-F PathTerm RelTerm) →
-    SomeSubterm P R (roll-PathTerm x) ≡ LayerHas P (λ y. y) (λ y. y) (SomeSubterm P R) (SomeSubtermR P R) x
-some_roll P R x = rec-roll-PathTerm (Type 0) (Type 0) (λ X Y term relation part part_r layer. LayerHas P term relation part part_r layer) (λ X Y term relation part part_r layer. LayerHasR R term relation part part_r layer) (natural P) x
+    SomeSubterm P R (roll-PathTerm x) ≡ LayerHas (λ y. y) (λ y. y) (SomeSubterm P R) (SomeSubtermR P R) P x
+some_roll P R x = rec-roll-PathTerm (Type 0) (Type 0) (λ X Y term relation part part_r layer. LayerHas term relation part part_r P layer) (λ X Y term relation part part_r layer. LayerHasR term relation part part_r R layer) (natural P) x
 
 some_roll_r : (P : PathTerm → Type 0) (R : RelTerm → Type 0) (x : F.RelTerm-F PathTerm RelTerm) →
-    SomeSubtermR P R (roll-RelTerm x) ≡ LayerHasR R (λ y. y) (λ y. y) (SomeSubterm P R) (SomeSubtermR P R) x
-some_roll_r P R x = rec-roll-RelTerm (Type 0) (Type 0) (λ X Y term relation part part_r layer. LayerHas P term relation part part_r layer) (λ X Y term relation part part_r layer. LayerHasR R term relation part part_r layer) (natural_r R) x
+    SomeSubtermR P R (roll-RelTerm x) ≡ LayerHasR (λ y. y) (λ y. y) (SomeSubterm P R) (SomeSubtermR P R) R x
+some_roll_r P R x = rec-roll-RelTerm (Type 0) (Type 0) (λ X Y term relation part part_r layer. LayerHas term relation part part_r P layer) (λ X Y term relation part part_r layer. LayerHasR term relation part part_r R layer) (natural_r R) x
 
 either : {A B C D : Type 0} → (A → C) → (B → D) → A ⊎ B → C ⊎ D
 either f g (inl a) = inl (f a)

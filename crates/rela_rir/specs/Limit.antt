@@ -49,38 +49,46 @@ pub record ReachedPair (m : Scene) (last : Option (List ℕ)) (x y : PathTerm) (
   pub early : ForSome last (λ end. All (λ w. ¬ IsBefore end w) words)
   pub told : AllPairs (ToldByPlace m x y) words
 
--- one layer of a path term has P, or some part of it has, where it is given which parts do
-abbrev pub LayerSome : {X Y : Type 0} → (X → Type 0) → (Y → Type 0) → PathTerm-F X Y → Type 0
-LayerSome part part_r (PathTerm::Union x y) = part x ⊎ part y
-LayerSome part part_r (PathTerm::Concat x y) = part x ⊎ part y
-LayerSome part part_r (PathTerm::Star x) = part x
-LayerSome part part_r (Meet x y) = part x ⊎ part y
-LayerSome part part_r (Complement x) = part x
-LayerSome part part_r (Image x r) = part x ⊎ part_r r
-LayerSome part part_r _ = ⊥
+-- Some part of one layer of a term has it, where it is given which parts do.
+module _ {X Y : Type 0} (part : X → Type 0) (part_r : Y → Type 0) where
+  abbrev pub LayerSome : PathTerm-F X Y → Type 0
+  LayerSome (PathTerm::Union x y) = part x ⊎ part y
+  LayerSome (PathTerm::Concat x y) = part x ⊎ part y
+  LayerSome (PathTerm::Star x) = part x
+  LayerSome (Meet x y) = part x ⊎ part y
+  LayerSome (Complement x) = part x
+  LayerSome (Image x r) = part x ⊎ part_r r
+  LayerSome _ = ⊥
 
-abbrev pub LayerSomeR : {X Y : Type 0} → (X → Type 0) → (Y → Type 0) → RelTerm-F X Y → Type 0
-LayerSomeR part part_r (Identity x) = part x
-LayerSomeR part part_r (Product x y) = part x ⊎ part y
-LayerSomeR part part_r (RelTerm::Union r s) = part_r r ⊎ part_r s
-LayerSomeR part part_r (RelTerm::Concat r s) = part_r r ⊎ part_r s
-LayerSomeR part part_r (RelTerm::Star r) = part_r r
-LayerSomeR part part_r (Compose r s) = part_r r ⊎ part_r s
+  abbrev pub LayerSomeR : RelTerm-F X Y → Type 0
+  LayerSomeR (Identity x) = part x
+  LayerSomeR (Product x y) = part x ⊎ part y
+  LayerSomeR (RelTerm::Union r s) = part_r r ⊎ part_r s
+  LayerSomeR (RelTerm::Concat r s) = part_r r ⊎ part_r s
+  LayerSomeR (RelTerm::Star r) = part_r r
+  LayerSomeR (Compose r s) = part_r r ⊎ part_r s
 
--- what is asked of a path term at each layer, and of a relation term
-abbrev pub LayerHas : {X Y : Type 0} → (PathTerm → Type 0) → (X → PathTerm) → (Y → RelTerm) → (X → Type 0) → (Y → Type 0) → PathTerm-F X Y → Type 0
-LayerHas {X} {Y} P term relation part part_r layer = P (roll-PathTerm (map-PathTerm X Y PathTerm RelTerm term relation layer)) ⊎ LayerSome part part_r layer
+-- One layer of a term has it, or some part of that layer, where it is given which terms the parts are.
+module _ {X Y : Type 0} (term : X → PathTerm) (relation : Y → RelTerm) (part : X → Type 0) (part_r : Y → Type 0) where
+  abbrev pub LayerHas : (PathTerm → Type 0) → PathTerm-F X Y → Type 0
+  LayerHas P layer = P (roll-PathTerm (map-PathTerm X Y PathTerm RelTerm term relation layer)) ⊎ LayerSome part part_r layer
 
-abbrev pub LayerHasR : {X Y : Type 0} → (RelTerm → Type 0) → (X → PathTerm) → (Y → RelTerm) → (X → Type 0) → (Y → Type 0) → RelTerm-F X Y → Type 0
-LayerHasR {X} {Y} R term relation part part_r layer = R (roll-RelTerm (map-RelTerm X Y PathTerm RelTerm term relation layer)) ⊎ LayerSomeR part part_r layer
+  abbrev pub LayerHasR : (RelTerm → Type 0) → RelTerm-F X Y → Type 0
+  LayerHasR R layer = R (roll-RelTerm (map-RelTerm X Y PathTerm RelTerm term relation layer)) ⊎ LayerSomeR part part_r layer
 
 -- The path term has P, or some path term at any depth in it has P, or some relation term there has R.
 abbrev pub SomeSubterm : (PathTerm → Type 0) → (RelTerm → Type 0) → PathTerm → Type 0
-SomeSubterm P R = rec-PathTerm (Type 0) (Type 0) (λ X Y term relation part part_r layer. LayerHas P term relation part part_r layer) (λ X Y term relation part part_r layer. LayerHasR R term relation part part_r layer)
+SomeSubterm P R =
+    rec-PathTerm (Type 0) (Type 0)
+    (λ X Y term relation part part_r layer. LayerHas term relation part part_r P layer)
+    (λ X Y term relation part part_r layer. LayerHasR term relation part part_r R layer)
 
 -- The relation term has R, or some relation term at any depth in it has R, or some path term there has P.
 abbrev pub SomeSubtermR : (PathTerm → Type 0) → (RelTerm → Type 0) → RelTerm → Type 0
-SomeSubtermR P R = rec-RelTerm (Type 0) (Type 0) (λ X Y term relation part part_r layer. LayerHas P term relation part part_r layer) (λ X Y term relation part part_r layer. LayerHasR R term relation part part_r layer)
+SomeSubtermR P R =
+    rec-RelTerm (Type 0) (Type 0)
+    (λ X Y term relation part part_r layer. LayerHas term relation part part_r P layer)
+    (λ X Y term relation part part_r layer. LayerHasR term relation part part_r R layer)
 
 -- the path terms whose places are counted against a limit: meets, complements and images
 abbrev pub LayerIsCounted : {X Y : Type 0} → PathTerm-F X Y → Type 0

@@ -30,37 +30,43 @@ IsInClass m k s = (set : SymbolSet) × (slice_get m.classes k ≡ Some set) × H
 abbrev pub IsPathWord : ℕ → List ℕ → Type 0
 IsPathWord path_symbols w = All (λ s. s < path_symbols) w
 
--- The words of one layer of a path term, where it is given what its parts mean.
-abbrev pub LayerIn : {X Y : Type 0} → Setting → (X → WordSet) → (Y → Relation) → PathTerm-F X Y → WordSet
-LayerIn m set relation None w = ⊥
-LayerIn m set relation Empty w = w ≡ []
-LayerIn m set relation (Class k) w = (s : ℕ) × (w ≡ s ∷ []) × IsInClass m k s
-LayerIn m set relation (One s) w = w ≡ s ∷ []
-LayerIn m set relation (PathTerm::Union x y) w = set x w ⊎ set y w
-LayerIn m set relation (PathTerm::Concat x y) w = Concatenation (set x) (set y) w
-LayerIn m set relation (PathTerm::Star x) w = Star (set x) w
-LayerIn m set relation (Meet x y) w = set x w × set y w
-LayerIn m set relation (Complement x) w = IsPathWord m.path_symbols w × (¬ set x w)
-LayerIn m set relation Pre w = m.pre w
-LayerIn m set relation Post w = m.post w
-LayerIn m set relation (Image x r) w = ImageOf (set x) (relation r) w
+-- One layer of a term, where it is given which words its parts have and which pairs they relate.
+module _ {X Y : Type 0} (m : Setting) (set : X → WordSet) (relation : Y → Relation) where
+  abbrev pub LayerIn : PathTerm-F X Y → WordSet
+  LayerIn None w = ⊥
+  LayerIn Empty w = w ≡ []
+  LayerIn (Class k) w = (s : ℕ) × (w ≡ s ∷ []) × IsInClass m k s
+  LayerIn (One s) w = w ≡ s ∷ []
+  LayerIn (PathTerm::Union x y) w = set x w ⊎ set y w
+  LayerIn (PathTerm::Concat x y) w = Concatenation (set x) (set y) w
+  LayerIn (PathTerm::Star x) w = Star (set x) w
+  LayerIn (Meet x y) w = set x w × set y w
+  LayerIn (Complement x) w = IsPathWord m.path_symbols w × (¬ set x w)
+  LayerIn Pre w = m.pre w
+  LayerIn Post w = m.post w
+  LayerIn (Image x r) w = ImageOf (set x) (relation r) w
 
--- The pairs of one layer of a relation term, likewise.
-abbrev pub LayerInR : {X Y : Type 0} → (X → WordSet) → (Y → Relation) → RelTerm-F X Y → Relation
-LayerInR set relation (Identity x) u v = (u ≡ v) × set x u
-LayerInR set relation (Product x y) u v = set x u × set y v
-LayerInR set relation (RelTerm::Union r s) u v = relation r u v ⊎ relation s u v
-LayerInR set relation (RelTerm::Concat r s) u v = PairConcatenation (relation r) (relation s) u v
-LayerInR set relation (RelTerm::Star r) u v = PairStar (relation r) u v
-LayerInR set relation (Compose r s) u v = Composition (relation r) (relation s) u v
+  abbrev pub LayerInR : RelTerm-F X Y → Relation
+  LayerInR (Identity x) u v = (u ≡ v) × set x u
+  LayerInR (Product x y) u v = set x u × set y v
+  LayerInR (RelTerm::Union r s) u v = relation r u v ⊎ relation s u v
+  LayerInR (RelTerm::Concat r s) u v = PairConcatenation (relation r) (relation s) u v
+  LayerInR (RelTerm::Star r) u v = PairStar (relation r) u v
+  LayerInR (Compose r s) u v = Composition (relation r) (relation s) u v
 
 -- The word is in the path term, by recursion on the term.
 abbrev pub In : Setting → PathTerm → WordSet
-In m = rec-PathTerm WordSet Relation (λ X Y _ _ set relation layer. LayerIn m set relation layer) (λ X Y _ _ set relation layer. LayerInR set relation layer)
+In m =
+    rec-PathTerm WordSet Relation
+    (λ X Y _ _ set relation layer. LayerIn m set relation layer)
+    (λ X Y _ _ set relation layer. LayerInR m set relation layer)
 
 -- The pair of words is in the relation term, likewise.
 abbrev pub InR : Setting → RelTerm → Relation
-InR m = rec-RelTerm WordSet Relation (λ X Y _ _ set relation layer. LayerIn m set relation layer) (λ X Y _ _ set relation layer. LayerInR set relation layer)
+InR m =
+    rec-RelTerm WordSet Relation
+    (λ X Y _ _ set relation layer. LayerIn m set relation layer)
+    (λ X Y _ _ set relation layer. LayerInR m set relation layer)
 
 -- The assertion holds: the two terms have the same words, or each word of the one is in the other.
 abbrev pub Holds : Setting → Assertion → Type 0

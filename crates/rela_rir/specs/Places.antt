@@ -118,37 +118,43 @@ abbrev pub ComposePlaces : PairPlaces → PairPlaces → PairPlaces
 ComposePlaces r s (Both p q) u v = Composition (r p) (s q) u v
 ComposePlaces r s _ u v = ⊥
 
--- The places of one layer of a path term, where it is given which terms its parts are, and their places.
-abbrev pub LayerAt : {X Y : Type 0} → Scene → (X → PathTerm) → (X → Places) → (Y → PairPlaces) → PathTerm-F X Y → Places
-LayerAt m term at pairs None = EmptyPlaces
-LayerAt m term at pairs Empty = EmptyPlaces
-LayerAt m term at pairs (Class k) = LetterPlaces (IsInClass m.setting k)
-LayerAt m term at pairs (One s) = LetterPlaces (λ t. t ≡ s)
-LayerAt m term at pairs (PathTerm::Union x y) = UnionPlaces (at x) (at y)
-LayerAt m term at pairs (PathTerm::Concat x y) = ConcatPlaces (In m.setting (term x)) (at x) (at y)
-LayerAt m term at pairs (PathTerm::Star x) = StarPlaces (In m.setting (term x)) (at x)
-LayerAt m term at pairs (Meet x y) = MeetPlaces (at x) (at y)
-LayerAt m term at pairs (Complement x) = ComplementPlaces m.setting.path_symbols (at x)
-LayerAt m term at pairs Pre = PathSetPlaces m.pre
-LayerAt m term at pairs Post = PathSetPlaces m.post
-LayerAt m term at pairs (Image x r) = ImagePlaces (at x) (pairs r)
+-- One layer of a term, where it is given which terms its parts are, and their places.
+module _ {X Y : Type 0} (m : Scene) (term : X → PathTerm) (relation : Y → RelTerm) (at : X → Places) (pairs : Y → PairPlaces) where
+  abbrev pub LayerAt : PathTerm-F X Y → Places
+  LayerAt None = EmptyPlaces
+  LayerAt Empty = EmptyPlaces
+  LayerAt (Class k) = LetterPlaces (IsInClass m.setting k)
+  LayerAt (One s) = LetterPlaces (λ t. t ≡ s)
+  LayerAt (PathTerm::Union x y) = UnionPlaces (at x) (at y)
+  LayerAt (PathTerm::Concat x y) = ConcatPlaces (In m.setting (term x)) (at x) (at y)
+  LayerAt (PathTerm::Star x) = StarPlaces (In m.setting (term x)) (at x)
+  LayerAt (Meet x y) = MeetPlaces (at x) (at y)
+  LayerAt (Complement x) = ComplementPlaces m.setting.path_symbols (at x)
+  LayerAt Pre = PathSetPlaces m.pre
+  LayerAt Post = PathSetPlaces m.post
+  LayerAt (Image x r) = ImagePlaces (at x) (pairs r)
 
--- The places of one layer of a relation term, likewise.
-abbrev pub LayerAtR : {X Y : Type 0} → Scene → (X → PathTerm) → (Y → RelTerm) → (X → Places) → (Y → PairPlaces) → RelTerm-F X Y → PairPlaces
-LayerAtR m term relation at pairs (Identity x) = IdentityPlaces (at x)
-LayerAtR m term relation at pairs (Product x y) = ProductPlaces (In m.setting (term x)) (at x) (at y)
-LayerAtR m term relation at pairs (RelTerm::Union r s) = PairUnionPlaces (pairs r) (pairs s)
-LayerAtR m term relation at pairs (RelTerm::Concat r s) = PairConcatPlaces (InR m.setting (relation r)) (pairs r) (pairs s)
-LayerAtR m term relation at pairs (RelTerm::Star r) = PairStarPlaces (InR m.setting (relation r)) (pairs r)
-LayerAtR m term relation at pairs (Compose r s) = ComposePlaces (pairs r) (pairs s)
+  abbrev pub LayerAtR : RelTerm-F X Y → PairPlaces
+  LayerAtR (Identity x) = IdentityPlaces (at x)
+  LayerAtR (Product x y) = ProductPlaces (In m.setting (term x)) (at x) (at y)
+  LayerAtR (RelTerm::Union r s) = PairUnionPlaces (pairs r) (pairs s)
+  LayerAtR (RelTerm::Concat r s) = PairConcatPlaces (InR m.setting (relation r)) (pairs r) (pairs s)
+  LayerAtR (RelTerm::Star r) = PairStarPlaces (InR m.setting (relation r)) (pairs r)
+  LayerAtR (Compose r s) = ComposePlaces (pairs r) (pairs s)
 
 -- The word reaches the place of the path term.
 abbrev pub At : Scene → PathTerm → Places
-At m = rec-PathTerm Places PairPlaces (λ X Y term relation at pairs layer. LayerAt m term at pairs layer) (λ X Y term relation at pairs layer. LayerAtR m term relation at pairs layer)
+At m =
+    rec-PathTerm Places PairPlaces
+    (λ X Y term relation at pairs layer. LayerAt m term relation at pairs layer)
+    (λ X Y term relation at pairs layer. LayerAtR m term relation at pairs layer)
 
 -- The pair of words reaches the place of the relation term.
 abbrev pub AtR : Scene → RelTerm → PairPlaces
-AtR m = rec-RelTerm Places PairPlaces (λ X Y term relation at pairs layer. LayerAt m term at pairs layer) (λ X Y term relation at pairs layer. LayerAtR m term relation at pairs layer)
+AtR m =
+    rec-RelTerm Places PairPlaces
+    (λ X Y term relation at pairs layer. LayerAt m term relation at pairs layer)
+    (λ X Y term relation at pairs layer. LayerAtR m term relation at pairs layer)
 
 -- the two places have the same name
 abbrev pub same_name : Place → Place → Bool
@@ -171,15 +177,15 @@ JustOne P Q = (P × (¬ Q)) ⊎ ((¬ P) × Q)
 abbrev pub Tells : Type 1
 Tells = Place → Place → Type 0
 
--- different names, or the same name and a part that the places of that part tell apart; left are the places
--- of the first part of a term, right those of its second, and of an only part they are left
+-- Different names, or the same name and a part that is apart from the same part. The parts of left places
+-- and inner places are places of the first part of a term, those of right places of its second.
 abbrev pub PartsApart : Tells → Tells → Tells
-PartsApart left right (Left p) (Left q) = left p q
-PartsApart left right (Right p) (Right q) = right p q
-PartsApart left right (Inner p) (Inner q) = left p q
-PartsApart left right (Both p p') (Both q q') = left p q ⊎ right p' q'
-PartsApart left right (Node m) (Node n) = m ≢ n
-PartsApart left right p q = same_name p q ≡ false
+PartsApart first second (Left p) (Left q) = first p q
+PartsApart first second (Right p) (Right q) = second p q
+PartsApart first second (Inner p) (Inner q) = first p q
+PartsApart first second (Both p p') (Both q q') = first p q ⊎ second p' q'
+PartsApart first second (Node m) (Node n) = m ≢ n
+PartsApart first second p q = same_name p q ≡ false
 
 -- two words are told apart by a place that just one of them reaches
 abbrev pub SeenApart : Places → Tells
@@ -189,32 +195,40 @@ SeenApart x p q = same_name p q ≡ false
 abbrev pub NoParts : Tells
 NoParts p q = ⊥
 
-abbrev pub LayerApart : {X Y : Type 0} → Scene → (X → PathTerm) → (X → Tells) → (Y → Tells) → PathTerm-F X Y → Tells
-LayerApart m term apart apart_r None = PartsApart NoParts NoParts
-LayerApart m term apart apart_r Empty = PartsApart NoParts NoParts
-LayerApart m term apart apart_r (Class k) = PartsApart NoParts NoParts
-LayerApart m term apart apart_r (One s) = PartsApart NoParts NoParts
-LayerApart m term apart apart_r (PathTerm::Union x y) = PartsApart (apart x) (apart y)
-LayerApart m term apart apart_r (PathTerm::Concat x y) = PartsApart (apart x) (apart y)
-LayerApart m term apart apart_r (PathTerm::Star x) = PartsApart (apart x) NoParts
-LayerApart m term apart apart_r (Meet x y) = PartsApart (apart x) (apart y)
-LayerApart m term apart apart_r (Complement x) = SeenApart (At m (term x))
-LayerApart m term apart apart_r Pre = PartsApart NoParts NoParts
-LayerApart m term apart apart_r Post = PartsApart NoParts NoParts
-LayerApart m term apart apart_r (Image x r) = PartsApart (apart x) (apart_r r)
+-- One layer of a term, where it is given which terms its parts are, and which of their places are apart.
+module _ {X Y : Type 0} (m : Scene) (term : X → PathTerm) (apart : X → Tells) (apart_r : Y → Tells) where
+  abbrev pub LayerApart : PathTerm-F X Y → Tells
+  LayerApart None = PartsApart NoParts NoParts
+  LayerApart Empty = PartsApart NoParts NoParts
+  LayerApart (Class k) = PartsApart NoParts NoParts
+  LayerApart (One s) = PartsApart NoParts NoParts
+  LayerApart (PathTerm::Union x y) = PartsApart (apart x) (apart y)
+  LayerApart (PathTerm::Concat x y) = PartsApart (apart x) (apart y)
+  LayerApart (PathTerm::Star x) = PartsApart (apart x) NoParts
+  LayerApart (Meet x y) = PartsApart (apart x) (apart y)
+  LayerApart (Complement x) = SeenApart (At m (term x))
+  LayerApart Pre = PartsApart NoParts NoParts
+  LayerApart Post = PartsApart NoParts NoParts
+  LayerApart (Image x r) = PartsApart (apart x) (apart_r r)
 
-abbrev pub LayerApartR : {X Y : Type 0} → (X → Tells) → (Y → Tells) → RelTerm-F X Y → Tells
-LayerApartR apart apart_r (Identity x) = apart x
-LayerApartR apart apart_r (Product x y) = PartsApart (apart x) (apart y)
-LayerApartR apart apart_r (RelTerm::Union r s) = PartsApart (apart_r r) (apart_r s)
-LayerApartR apart apart_r (RelTerm::Concat r s) = PartsApart (apart_r r) (apart_r s)
-LayerApartR apart apart_r (RelTerm::Star r) = PartsApart (apart_r r) NoParts
-LayerApartR apart apart_r (Compose r s) = PartsApart (apart_r r) (apart_r s)
+  abbrev pub LayerApartR : RelTerm-F X Y → Tells
+  LayerApartR (Identity x) = apart x
+  LayerApartR (Product x y) = PartsApart (apart x) (apart y)
+  LayerApartR (RelTerm::Union r s) = PartsApart (apart_r r) (apart_r s)
+  LayerApartR (RelTerm::Concat r s) = PartsApart (apart_r r) (apart_r s)
+  LayerApartR (RelTerm::Star r) = PartsApart (apart_r r) NoParts
+  LayerApartR (Compose r s) = PartsApart (apart_r r) (apart_r s)
 
 -- The two places of the path term are apart.
 abbrev pub Apart : Scene → PathTerm → Tells
-Apart m = rec-PathTerm Tells Tells (λ X Y term _ apart apart_r layer. LayerApart m term apart apart_r layer) (λ X Y _ _ apart apart_r layer. LayerApartR apart apart_r layer)
+Apart m =
+    rec-PathTerm Tells Tells
+    (λ X Y term _ apart apart_r layer. LayerApart m term apart apart_r layer)
+    (λ X Y term _ apart apart_r layer. LayerApartR m term apart apart_r layer)
 
 -- The two places of the relation term are apart.
 abbrev pub ApartR : Scene → RelTerm → Tells
-ApartR m = rec-RelTerm Tells Tells (λ X Y term _ apart apart_r layer. LayerApart m term apart apart_r layer) (λ X Y _ _ apart apart_r layer. LayerApartR apart apart_r layer)
+ApartR m =
+    rec-RelTerm Tells Tells
+    (λ X Y term _ apart apart_r layer. LayerApart m term apart apart_r layer)
+    (λ X Y term _ apart apart_r layer. LayerApartR m term apart apart_r layer)

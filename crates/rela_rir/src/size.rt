@@ -1,17 +1,17 @@
-//! How large a term is.
+//! How large a term is. Both measures go as deep into the stack as the term is deep, so they ask for a
+//! term of bounded depth.
 ghost use Rattle.std.specs.Prelude.{◌≡◌, ◌+◌, ◌-◌, ◌^◌, ◌≤◌, min};
-ghost use Rattle.rela_rir.specs.Size.{count, count_r};
-ghost use Rattle.rela_rir.specs.Size as size;
+ghost use Rattle.rela_rir.specs.Size.{nodes_of_path, nodes_of_rel, depth_of_path, depth_of_rel};
 
 use crate::term::{PathTerm, RelTerm};
 
-/// The number of nodes of the term, those of its parts too; a class is one node. Where there are more
-/// than 2^64 - 1, it is 2^64 - 1.
+/// The number of nodes of the term, which are one and those of its parts; a class is one node. Where
+/// there are more than 2^64 - 1, it is 2^64 - 1.
 #[cycle(nodes)]
 #[tactic(auto, using(crate::proofs::SizeForms::size_forms))]
 pub fn nodes(r: &RelTerm) -> u64
-    requires { size.depth_r r.now ≤ 1000 }
-    ensures { result ≡ min (count_r r.now) (2 ^ 64 - 1) }
+    requires { depth_of_rel r.now ≤ 1000 }
+    ensures { result ≡ min (nodes_of_rel r.now) (2 ^ 64 - 1) }
 {
     match r {
         RelTerm::Identity(set) => path_nodes(set.get()).saturating_add(1),
@@ -26,8 +26,8 @@ pub fn nodes(r: &RelTerm) -> u64
 #[cycle(nodes)]
 #[tactic(auto, using(crate::proofs::SizeForms::size_forms))]
 fn path_nodes(t: &PathTerm) -> u64
-    requires { size.depth t.now ≤ 1000 }
-    ensures { result ≡ min (count t.now) (2 ^ 64 - 1) }
+    requires { depth_of_path t.now ≤ 1000 }
+    ensures { result ≡ min (nodes_of_path t.now) (2 ^ 64 - 1) }
 {
     match t {
         PathTerm::Union(a, b) => with_parts(path_nodes(a.get()), path_nodes(b.get())),
@@ -56,8 +56,8 @@ fn with_parts(a: u64, b: u64) -> u64
 #[cycle(depth)]
 #[tactic(auto, using(crate::proofs::SizeForms::depth_forms))]
 pub fn depth(r: &RelTerm) -> u64
-    requires { size.depth_r r.now ≤ 1000 }
-    ensures { result ≡ size.depth_r r.now }
+    requires { depth_of_rel r.now ≤ 1000 }
+    ensures { result ≡ depth_of_rel r.now }
 {
     match r {
         RelTerm::Identity(set) => path_depth(set.get()) + 1,
@@ -72,8 +72,8 @@ pub fn depth(r: &RelTerm) -> u64
 #[cycle(depth)]
 #[tactic(auto, using(crate::proofs::SizeForms::depth_forms))]
 fn path_depth(t: &PathTerm) -> u64
-    requires { size.depth t.now ≤ 1000 }
-    ensures { result ≡ size.depth t.now }
+    requires { depth_of_path t.now ≤ 1000 }
+    ensures { result ≡ depth_of_path t.now }
 {
     match t {
         PathTerm::Union(a, b) => path_depth(a.get()).max(path_depth(b.get())) + 1,

@@ -1,5 +1,5 @@
 ghost use Rattle.std.specs.Prelude.{◌≡◌, IfOk};
-ghost use Rattle.rela_rir.specs.Size.{depth_r};
+ghost use Rattle.rela_rir.specs.Size.{depth_of_rel};
 
 use super::*;
 use rela_names::Word;
@@ -9,7 +9,7 @@ use std::test::Fail;
 // The members of entry 0 with themselves, and each of them with the word of symbol 7.
 #[tactic(auto, using(crate::proofs::SizeForms::depth_forms))]
 fn sample(alloc: Global) -> Result<RelTerm, AllocError>
-    ensures { IfOk result (λ r. depth_r r ≡ 3) }
+    ensures { IfOk result (λ r. depth_of_rel r ≡ 3) }
 {
     let kept = RelTerm::identity(alloc, PathTerm::Class(0))?;
     let changed = RelTerm::product(alloc, PathTerm::Class(0), PathTerm::One(7))?;
