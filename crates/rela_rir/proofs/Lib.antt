@@ -10,3 +10,5 @@ pub mod PairsFollow
 pub mod TermsFollow
 pub mod Subterms
 pub mod Licences
+pub mod Inclusions
+pub mod FixedTerms

@@ -4,3 +4,4 @@ pub mod Places
 pub mod Following
 pub mod Limit
 pub mod Size
+pub mod Fixed

@@ -3,6 +3,7 @@
 ghost use Rattle.std.specs.Prelude.{◌≡◌, ℕ, ◌+◌, ◌≤◌, ◌⊎◌, ◌↔◌, max, List, [], ◌∷◌};
 ghost use Rattle.rela_rir.specs.Words.{Concatenation, Star, ImageOf, PairConcatenation, PairStar, Composition};
 ghost use Rattle.rela_rir.specs.Meaning.{Setting, In, InR, IsInClass, IsPathWord};
+ghost use Rattle.rela_rir.specs.Fixed.{Alike, IsFixed, IsFixedR};
 ghost use Rattle.rela_rir.specs.Size.{nodes_of_path, nodes_of_rel, depth_of_path, depth_of_rel};
 
 use crate::term::{PathTerm, RelTerm};
@@ -62,6 +63,14 @@ pub fn rel_terms_mean<M: Reading>()
 pub fn star_unfolds<X: WordSet>()
     ensures { (w : List ℕ) →
         Star X.contains w ↔ ((w ≡ []) ⊎ Concatenation X.contains (Star X.contains) w) }
+{}
+
+/// A term that names neither path set means the same whatever they are.
+pub fn fixed_terms_mean_the_same<M: Reading, N: Reading>()
+    ensures paths { Alike M.setting N.setting → (x : PathTerm) → IsFixed x →
+        (w : List ℕ) → In M.setting x w ↔ In N.setting x w }
+    ensures relations { Alike M.setting N.setting → (r : RelTerm) → IsFixedR r →
+        (u v : List ℕ) → InR M.setting r u v ↔ InR N.setting r u v }
 {}
 
 /// The nodes and the depth of a path term, by its form and those of its parts.

@@ -14,8 +14,8 @@ mod term;
 
 pub use assertion::Assertion;
 pub use laws::{
-    Reading, path_terms_mean, rel_terms_mean, sizes_of_path_terms, sizes_of_rel_terms,
-    star_unfolds, terms_are_no_deeper_than_large,
+    Reading, fixed_terms_mean_the_same, path_terms_mean, rel_terms_mean, sizes_of_path_terms,
+    sizes_of_rel_terms, star_unfolds, terms_are_no_deeper_than_large,
 };
 pub use limit_laws::{Staging, forced_is_licensed, places_tell_what_follows};
 pub use set::SymbolSet;
