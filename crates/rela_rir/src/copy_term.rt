@@ -1,4 +1,4 @@
-//! A term once more.
+//! A term once more. The only error is want of memory.
 ghost use Rattle.std.specs.Prelude.{◌≡◌, IfOk};
 
 use crate::term::{PathTerm, RelTerm};

@@ -1,4 +1,4 @@
-//! Terms made of their parts, which are put into boxes. Each answers only want of memory else.
+//! Terms made of their parts, which go into boxes. The only error is want of memory.
 ghost use Rattle.std.specs.Prelude.{◌≡◌, IfOk};
 
 use crate::term::{PathTerm, RelTerm};

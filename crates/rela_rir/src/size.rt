@@ -1,5 +1,5 @@
 //! How large a term is. Both measures go as deep into the stack as the term is deep, so they ask for a
-//! term of bounded depth.
+//! term whose depth is at most 1,000.
 ghost use Rattle.std.specs.Prelude.{◌≡◌, ◌+◌, ◌-◌, ◌^◌, ◌≤◌, min};
 ghost use Rattle.rela_rir.specs.Size.{nodes_of_path, nodes_of_rel, depth_of_path, depth_of_rel};
 
