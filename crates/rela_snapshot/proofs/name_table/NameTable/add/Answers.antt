@@ -9,3 +9,6 @@ returns-clause-added c =
 
 pub returns-clause-names : goal.returns-clause-names
 returns-clause-names c = with_name-keys _ c.args.name c.self.inside.names.keys _ c.self.view_is c.in_ok-is_new.ensures.keys
+
+pub invariant_of-self-2 : goal.invariant_of-self-2
+invariant_of-self-2 c = let h = c.self in ?

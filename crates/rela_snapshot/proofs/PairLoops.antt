@@ -1,0 +1,101 @@
+-- The pairs of the first snapshot's flows, of which the last come off first.
+use Rattle.std.proofs.Common.{◌≡◌, ◌≢◌, ◌∙◌, refl, sym, ap, ℕ, ◌+◌, ◌<◌, List, [], ◌∷◌, ◌++◌, length, map, reverse, take, All, Option, Some, None, Result, Ok, Err, arith, subst, append_assoc}
+use Rattle.std.specs.Prelude.{slice_get}
+use Rattle.std.specs.Option.{option_flatten, option_to_list, IsSome}
+use Rattle.std.proofs.lemmas.List.{append-nil, length-map, length-reverse, map-append, reverse-append, reverse-reverse}
+use Rattle.rela_flows.specs.declared.predicate.FlowClass.{FlowClass}
+use Rattle.rela_snapshot.specs.declared.snapshot.Flow.{Flow}
+use Rattle.rela_snapshot.specs.declared.pairing.FlowPair.{FlowPair}
+use Rattle.rela_snapshot.specs.Pair.{Agrees, AgreesWith, IsFirstDifference, flow_named, pair_before, pair_with}
+use Rattle.rela_snapshot.proofs.Kept.{All-push}
+
+abbrev pub partner_in : List Flow → Flow → Option Flow
+partner_in after flow = flow_named flow.class.name after
+
+-- the flows so far, which agree with those of their names, and their pairs
+pub record ArePaired (after all left : List Flow) (partners : List (Option Flow)) (pairs : List FlowPair) : Type 0 where
+  pub done : List Flow
+  pub split : all ≡ done ++ reverse left
+  pub partners_left : reverse partners ≡ map (partner_in after) (reverse left)
+  pub agree : All (Agrees after) done
+  pub pairs_are : pairs ≡ map (pair_before after) done
+
+slice_get-middle : {X : Type 0} (front : List X) (x : X) (back : List X) → slice_get (front ++ x ∷ back) (length front) ≡ Some x
+slice_get-middle [] x back = refl
+slice_get-middle (y ∷ front) x back = slice_get-middle front x back
+
+take-front : {X : Type 0} (front back : List X) → take (length front) (front ++ back) ≡ front
+take-front [] back = refl
+take-front {X} (y ∷ front) back = ap (λ (l : List X). y ∷ l) (take-front front back)
+
+-- the last of a list is the first of its reverse
+turned : {X : Type 0} (xs ys : List X) (x : X) → xs ≡ ys ++ x ∷ [] → reverse xs ≡ x ∷ reverse ys
+turned xs ys x e = ap reverse e ∙ reverse-append ys (x ∷ [])
+
+turned_by : {X : Type 0} (xs ys : List X) (o : Option X) (x : X) (rest : List X) → xs ≡ ys ++ option_to_list o → (0 < length xs → IsSome o) → reverse xs ≡ x ∷ rest → (o ≡ Some x) × (reverse ys ≡ rest)
+turned_by xs ys None x rest e some is =
+    let long : length xs ≡ length (x ∷ rest) = sym (length-reverse xs) ∙ ap length is in
+    absurd (some (omega (arith, long)))
+turned_by xs ys (Some y) x rest e some is =
+    let both : y ∷ reverse ys ≡ x ∷ rest = sym (turned xs ys y e) ∙ is in (cc, cc)
+
+-- the partner that comes off beside a flow is that of its name
+pub popped_partner : (after all left new_left : List Flow) (flow : Flow) (partners new_partners : List (Option Flow)) (o : Option (Option Flow)) (pairs : List FlowPair)
+    → left ≡ new_left ++ flow ∷ [] → partners ≡ new_partners ++ option_to_list o → (0 < length partners → IsSome o) → ArePaired after all left partners pairs
+    → (o ≡ Some (partner_in after flow)) × (reverse new_partners ≡ map (partner_in after) (reverse new_left))
+popped_partner after all left new_left flow partners new_partners o pairs off partner_off some so_far =
+    turned_by partners new_partners o (partner_in after flow) (map (partner_in after) (reverse new_left)) partner_off some
+    (so_far.partners_left ∙ ap (map (partner_in after)) (turned left new_left flow off))
+
+-- one pair more
+pub paired_more : (after all left new_left : List Flow) (flow : Flow) (partners new_partners : List (Option Flow)) (o : Option (Option Flow)) (pairs new_pairs : List FlowPair) (pair : FlowPair)
+    → left ≡ new_left ++ flow ∷ [] → partners ≡ new_partners ++ option_to_list o → (0 < length partners → IsSome o)
+    → AgreesWith (option_flatten o) flow → pair ≡ pair_with (option_flatten o) flow → new_pairs ≡ pairs ++ pair ∷ []
+    → ArePaired after all left partners pairs → ArePaired after all new_left new_partners new_pairs
+paired_more after all left new_left flow partners new_partners o pairs new_pairs pair off partner_off some agrees is more so_far =
+    let popped = popped_partner after all left new_left flow partners new_partners o pairs off partner_off some so_far in
+    let flat : option_flatten o ≡ partner_in after flow = ap option_flatten popped.0 in
+    record {
+      done = so_far.done ++ flow ∷ [];
+      split = so_far.split ∙ ap (λ (l : List Flow). so_far.done ++ l) (turned left new_left flow off) ∙ sym (append_assoc so_far.done (flow ∷ []) (reverse new_left));
+      partners_left = popped.1;
+      agree = All-push (Agrees after) so_far.done (so_far.done ++ flow ∷ []) flow refl so_far.agree (subst (λ (o : Option Flow). AgreesWith o flow) flat agrees);
+      pairs_are = more ∙ ap (λ (ps : List FlowPair). ps ++ pair ∷ []) so_far.pairs_are
+          ∙ ap (λ (p : FlowPair). map (pair_before after) so_far.done ++ p ∷ []) (is ∙ ap (λ (o : Option Flow). pair_with o flow) flat)
+          ∙ sym (map-append (pair_before after) so_far.done (flow ∷ []));
+    }
+
+-- before the first
+pub paired_none : (after all : List Flow) (partners : List (Option Flow)) → partners ≡ map (partner_in after) all → ArePaired after all (reverse all) (reverse partners) []
+paired_none after all partners is = record {
+  done = [];
+  split = sym (reverse-reverse all);
+  partners_left = reverse-reverse partners ∙ is ∙ ap (map (partner_in after)) (sym (reverse-reverse all));
+  agree = λ k d lt. absurd (omega (arith, lt));
+  pairs_are = refl;
+}
+
+-- after the last
+pub paired_all : (after all : List Flow) (partners : List (Option Flow)) (pairs : List FlowPair) → ArePaired after all [] partners pairs → All (Agrees after) all × (pairs ≡ map (pair_before after) all)
+paired_all after all partners pairs so_far =
+    let whole : so_far.done ≡ all = sym (append-nil so_far.done) ∙ sym so_far.split in
+    (subst (All (Agrees after)) whole so_far.agree, so_far.pairs_are ∙ ap (map (pair_before after)) whole)
+
+-- a flow that differs from its partner is the first that does
+pub differs_first : (after all left new_left : List Flow) (flow other : Flow) (partners new_partners : List (Option Flow)) (o : Option (Option Flow)) (pairs : List FlowPair)
+    → left ≡ new_left ++ flow ∷ [] → partners ≡ new_partners ++ option_to_list o → (0 < length partners → IsSome o) → option_flatten o ≡ Some other → flow.class ≢ other.class
+    → ArePaired after all left partners pairs → IsFirstDifference all after (length pairs) flow.class other.class
+differs_first after all left new_left flow other partners new_partners o pairs off partner_off some is differs so_far =
+    let popped = popped_partner after all left new_left flow partners new_partners o pairs off partner_off some so_far in
+    let split : all ≡ so_far.done ++ flow ∷ reverse new_left = so_far.split ∙ ap (λ (l : List Flow). so_far.done ++ l) (turned left new_left flow off) in
+    let row : length pairs ≡ length so_far.done = ap length so_far.pairs_are ∙ length-map so_far.done (pair_before after) in
+    record {
+      flow = flow;
+      other = other;
+      at = rw (row, split) (slice_get-middle so_far.done flow (reverse new_left));
+      named = sym (ap option_flatten popped.0) ∙ is;
+      before_class = refl;
+      after_class = refl;
+      differs = differs;
+      earlier_agree = subst (All (Agrees after)) (sym (take-front so_far.done (flow ∷ reverse new_left)) ∙ ap (λ (l : List Flow). take (length so_far.done) l) (sym split) ∙ ap (λ (n : ℕ). take n all) (sym row)) so_far.agree;
+    }

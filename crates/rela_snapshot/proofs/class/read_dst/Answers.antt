@@ -1,0 +1,8 @@
+use Rattle.rela_snapshot.proofs.FlowLaws.{dst_refused, dst_read}
+use Rattle.rela_snapshot.proofs.class.read_dst.Goals as goal
+
+pub returns-in_err-text : goal.returns-in_err-text
+returns-in_err-text c = let h = c.from_residual in let i = c.in_err-text in ?
+
+pub returns : goal.returns
+returns c = dst_read _ _ _ _ _ _ _ c.flow_rules.ensures c.family_in.ensures c.in_ok-text.ensures.text c.prefix_of.ensures
