@@ -1,10 +1,14 @@
 -- What a flow and a list of flows answer, from what their parts answer.
-use Rattle.std.proofs.Common.{◌≡◌, ◌∙◌, ℕ, List, [], ◌∷◌, ◌++◌, length, map, Result, Ok, Err, refl, sym, ap, subst}
+use Rattle.std.proofs.Common.{◌≡◌, ◌≢◌, ◌∙◌, ℕ, ◌+◌, ◌<◌, ◌≤◌, List, [], ◌∷◌, ◌++◌, length, map, drop, get_or, Result, Ok, Err, refl, sym, ap, subst, arith}
+use Rattle.std.proofs.lemmas.List.{drop_more, length-append, length-drop, length-map, map-append}
 use Rattle.std.specs.List.{AllZip}
-use Rattle.std.specs.Prelude.{Option, Some, None}
+use Rattle.std.specs.Prelude.{Option, Some, None, IfOk, IfErr}
 use Rattle.serde_json.specs.Data.{Data}
 use Rattle.rela_json.specs.declared.error.LoadError.{LoadError}
-use Rattle.rela_json.specs.declared.error.LoadError.TheVariants.{NotJson}
+use Rattle.rela_json.specs.declared.error.LoadError.TheVariants.{NotJson, Memory}
+use Rattle.rela_json.specs.declared.error.ReadJsonError.{ReadJsonError}
+use Rattle.rela_json.specs.declared.error.ReadJsonError.TheVariants as read
+use Rattle.rela_json.specs.LoadErrors.{load_error}
 use Rattle.rela_json.specs.Reading.{reading}
 use Rattle.rela_json.specs.Results.{ok_or}
 use Rattle.rela_flows.specs.declared.prefix.Prefix.{Prefix}
@@ -143,3 +147,91 @@ no_json network bytes none = value_refused _ _ NotJson (ap (ok_or NotJson) none)
 pub has_json : (network : Network) (bytes : List ℕ) (d : Data) (r : Result (List ListedFlow) LoadError) → reading bytes ≡ Some d → IsAnswer (IsSnapshot network d) r → IsAnswer (Load network bytes) r
 unfolding Load
 has_json network bytes d r is next = value_next _ _ d r (ap (ok_or NotJson) is) next
+
+-- ---- the loop over the entries
+
+-- what the flows so far leave to be read
+pub record AreRead (network : Network) (version : Version) (all left : List Data) (flows : List Flow) : Type 0 where
+  pub listed : List ListedFlow
+  pub held : AreFlowsOf listed flows
+  pub goes_on : (r : Result (List ListedFlow) LoadError) → IsAnswer (AreFlows network version listed left) r → IsAnswer (AreFlows network version [] all) r
+
+pub read_none : (network : Network) (version : Version) (all : List Data) → AreRead network version all all []
+read_none network version all = record { listed = []; held = tt; goes_on = λ r h. h }
+
+pub read_more : (network : Network) (version : Version) (all whole left : List Data) (d : Data) (names : List (List ℕ)) (flows new_flows : List Flow) (flow : Flow)
+    → whole ≡ d ∷ left → names ≡ names_of flows → new_flows ≡ flows ++ flow ∷ []
+    → (listed : ListedFlow) × IsAnswer (IsFlow network version names d) (Ok listed) × IsFlowOf listed flow
+    → AreRead network version all whole flows → AreRead network version all left new_flows
+read_more network version all whole left d names flows new_flows flow next known more one so_far = record {
+  listed = so_far.listed ++ one.0 ∷ [];
+  held = subst (AreFlowsOf (so_far.listed ++ one.0 ∷ [])) (sym more) (one_more_flow so_far.listed flows one.0 flow so_far.held one.2);
+  goes_on = λ r h. so_far.goes_on r (subst (λ (ds : List Data). IsAnswer (AreFlows network version so_far.listed ds) r) (sym next)
+      (flows_next network version so_far.listed names d left one.0 r (known ∙ same_names so_far.listed flows so_far.held) one.1 h));
+}
+
+pub read_refused : (network : Network) (version : Version) (all whole left : List Data) (d : Data) (names : List (List ℕ)) (flows : List Flow) (e : LoadError)
+    → whole ≡ d ∷ left → names ≡ names_of flows → IsAnswer (IsFlow network version names d) (Err e)
+    → AreRead network version all whole flows → IsAnswer (AreFlows network version [] all) (Err e)
+read_refused network version all whole left d names flows e next known one so_far =
+    so_far.goes_on (Err e) (subst (λ (ds : List Data). IsAnswer (AreFlows network version so_far.listed ds) (Err e)) (sym next)
+    (flows_refused network version so_far.listed names d left e (known ∙ same_names so_far.listed flows so_far.held) one))
+
+pub read_all : (network : Network) (version : Version) (all left : List Data) (flows : List Flow) → left ≡ [] → AreRead network version all left flows
+    → (listed : List ListedFlow) × IsAnswer (AreFlows network version [] all) (Ok listed) × AreFlowsOf listed flows
+read_all network version all left flows none so_far = (
+  so_far.listed,
+  so_far.goes_on (Ok so_far.listed) (subst (λ (ds : List Data). IsAnswer (AreFlows network version so_far.listed ds) (Ok so_far.listed)) (sym none) (flows_end network version so_far.listed)),
+  so_far.held,
+)
+
+pub left_next : {X Y : Type 0} (f : X → Y) (xs : List X) (i : ℕ) (x : X) → i < length xs → x ≡ get_or xs i x → map f (drop i xs) ≡ f x ∷ map f (drop (i + 1) xs)
+left_next {X} f xs i x lt is = ap (map f) (drop_more xs i x lt ∙ ap (λ (y : X). y ∷ drop (i + 1) xs) (sym is))
+
+pub names_more : (names new : List (List ℕ)) (flows new_flows : List Flow) (flow : Flow) → names ≡ names_of flows → new ≡ names ++ flow.class.name ∷ [] → new_flows ≡ flows ++ flow ∷ [] → new ≡ names_of new_flows
+names_more names new flows new_flows flow known more pushed =
+    more ∙ ap (λ (ns : List (List ℕ)). ns ++ flow.class.name ∷ []) known ∙ sym (map-append (λ (flow : Flow). flow.class.name) flows (flow ∷ [])) ∙ ap names_of (sym pushed)
+
+pub few_more : (names new : List (List ℕ)) (name : List ℕ) → length names < 10000 → new ≡ names ++ name ∷ [] → length new ≤ 10000
+few_more names new name room more = rw more (let h = length-append names (name ∷ []) in omega (arith, h, room))
+
+pub as_many : (names : List (List ℕ)) (flows : List Flow) → names ≡ names_of flows → length flows ≡ length names
+as_many names flows known = sym (ap length known ∙ length-map flows (λ (flow : Flow). flow.class.name))
+
+-- ---- what a call answers, as what its caller answers
+
+pub flow_kept : (network : Network) (version : Version) (names : List (List ℕ)) (d : Data) (row : ℕ) (name : List ℕ) (r : Result Flow LoadError) → next_name_of version names d ≡ Ok name → row ≡ length names
+    → IfOk r (λ flow. (listed : ListedFlow) × IsAnswer (IsFlowNamed network version row name d) (Ok listed) × IsFlowOf listed flow)
+    → IfOk r (λ flow. (listed : ListedFlow) × IsAnswer (IsFlow network version names d) (Ok listed) × IsFlowOf listed flow)
+flow_kept network version names d row name (Ok flow) is at h = (h.0, flow_named network version names d row name (Ok h.0) is at h.1, h.2)
+flow_kept network version names d row name (Err e) is at h = tt
+
+pub flow_fault_kept : (network : Network) (version : Version) (names : List (List ℕ)) (d : Data) (row : ℕ) (name : List ℕ) (r : Result Flow LoadError) → next_name_of version names d ≡ Ok name → row ≡ length names
+    → IfErr r (λ e. e ≢ Memory → IsAnswer (IsFlowNamed network version row name d) (Err e)) → IfErr r (λ e. e ≢ Memory → IsAnswer (IsFlow network version names d) (Err e))
+flow_fault_kept network version names d row name (Ok flow) is at h = tt
+flow_fault_kept network version names d row name (Err e) is at h = λ no. flow_named network version names d row name (Err e) is at (h no)
+
+pub flows_kept : {A : Type 0} (network : Network) (d : Data) (version : Version) (ds : List Data) (flows : A → List Flow) (r : Result A LoadError) → contents_of d ≡ Ok (version, ds)
+    → IfOk r (λ v. (listed : List ListedFlow) × IsAnswer (AreFlows network version [] ds) (Ok listed) × AreFlowsOf listed (flows v))
+    → IfOk r (λ v. (listed : List ListedFlow) × IsAnswer (IsSnapshot network d) (Ok listed) × AreFlowsOf listed (flows v))
+flows_kept network d version ds flows (Ok v) is h = (h.0, has_contents network d version ds (Ok h.0) is h.1, h.2)
+flows_kept network d version ds flows (Err e) is h = tt
+
+pub flows_fault_kept : {A : Type 0} (network : Network) (d : Data) (version : Version) (ds : List Data) (r : Result A LoadError) → contents_of d ≡ Ok (version, ds)
+    → IfErr r (λ e. e ≢ Memory → IsAnswer (AreFlows network version [] ds) (Err e)) → IfErr r (λ e. e ≢ Memory → IsAnswer (IsSnapshot network d) (Err e))
+flows_fault_kept network d version ds (Ok v) is h = tt
+flows_fault_kept network d version ds (Err e) is h = λ no. has_contents network d version ds (Err e) is (h no)
+
+pub json_fault : (network : Network) (bytes : List ℕ) (refused : ReadJsonError) (e : LoadError) → e ≡ load_error refused → (refused ≡ read.NotJson → reading bytes ≡ None) → e ≢ Memory → IsAnswer (Load network bytes) (Err e)
+json_fault network bytes read.NotJson e is none real = subst (λ (e : LoadError). IsAnswer (Load network bytes) (Err e)) (sym is) (no_json network bytes (none refl))
+json_fault network bytes read.Memory e is none real = absurd (real is)
+
+pub empty_of : {X : Type 0} (xs : List X) → length xs ≡ 0 → xs ≡ []
+empty_of [] e = refl
+empty_of (x ∷ xs) e = absurd (omega (arith, e))
+
+pub drop_none : {X : Type 0} (xs : List X) (i : ℕ) → length xs ≤ i → drop i xs ≡ []
+drop_none xs i past = empty_of (drop i xs) (let h = length-drop i xs in omega (arith, h, past))
+
+pub left_none : {X Y : Type 0} (f : X → Y) (xs : List X) (i : ℕ) → length xs ≤ i → map f (drop i xs) ≡ []
+left_none f xs i past = ap (map f) (drop_none xs i past)

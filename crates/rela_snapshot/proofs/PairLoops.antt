@@ -6,7 +6,10 @@ use Rattle.std.proofs.lemmas.List.{append-nil, length-map, length-reverse, map-a
 use Rattle.rela_flows.specs.declared.predicate.FlowClass.{FlowClass}
 use Rattle.rela_snapshot.specs.declared.snapshot.Flow.{Flow}
 use Rattle.rela_snapshot.specs.declared.pairing.FlowPair.{FlowPair}
-use Rattle.rela_snapshot.specs.Pair.{Agrees, AgreesWith, IsFirstDifference, flow_named, pair_before, pair_with}
+use Rattle.rela_snapshot.specs.declared.pairing.PairError.{PairError}
+use Rattle.rela_snapshot.specs.declared.pairing.PairError.TheVariants.{FlowDiffers}
+use Rattle.rela_snapshot.specs.Partners.{IsDifference}
+use Rattle.rela_snapshot.specs.Pair.{Agrees, AgreesWith, IsFirstDifference, Pairing, flow_named, pair_after, pair_before, pair_with}
 use Rattle.rela_snapshot.proofs.Kept.{All-push}
 
 abbrev pub partner_in : List Flow → Flow → Option Flow
@@ -33,9 +36,9 @@ turned : {X : Type 0} (xs ys : List X) (x : X) → xs ≡ ys ++ x ∷ [] → rev
 turned xs ys x e = ap reverse e ∙ reverse-append ys (x ∷ [])
 
 turned_by : {X : Type 0} (xs ys : List X) (o : Option X) (x : X) (rest : List X) → xs ≡ ys ++ option_to_list o → (0 < length xs → IsSome o) → reverse xs ≡ x ∷ rest → (o ≡ Some x) × (reverse ys ≡ rest)
-turned_by xs ys None x rest e some is =
+turned_by {X} xs ys None x rest e some is =
     let long : length xs ≡ length (x ∷ rest) = sym (length-reverse xs) ∙ ap length is in
-    absurd (some (omega (arith, long)))
+    let no : IsSome {T = X} None = some (omega (arith, long)) in absurd (cc)
 turned_by xs ys (Some y) x rest e some is =
     let both : y ∷ reverse ys ≡ x ∷ rest = sym (turned xs ys y e) ∙ is in (cc, cc)
 
@@ -99,3 +102,27 @@ differs_first after all left new_left flow other partners new_partners o pairs o
       differs = differs;
       earlier_agree = subst (All (Agrees after)) (sym (take-front so_far.done (flow ∷ reverse new_left)) ∙ ap (λ (l : List Flow). take (length so_far.done) l) (sym split) ∙ ap (λ (n : ℕ). take n all) (sym row)) so_far.agree;
     }
+
+opened : (all after : List Flow) (row : ℕ) (first second : FlowClass) → IsFirstDifference all after row first second → Pairing all after (Err (FlowDiffers row first second))
+unfolding Pairing
+opened all after row first second difference = difference
+
+pairing_at : (all after : List Flow) (e : PairError) (row : ℕ) (first second : FlowClass) → e ≡ FlowDiffers row first second → IsFirstDifference all after row first second → Pairing all after (Err e)
+pairing_at all after e row first second is difference = subst (λ (e : PairError). Pairing all after (Err e)) (sym is) (opened all after row first second difference)
+
+pub pairing_differs : (after all left new_left : List Flow) (flow : Flow) (partners new_partners : List (Option Flow)) (o : Option (Option Flow)) (partner : Option Flow) (pairs : List FlowPair) (row : ℕ) (e : PairError)
+    → left ≡ new_left ++ flow ∷ [] → partners ≡ new_partners ++ option_to_list o → (0 < length partners → IsSome o) → partner ≡ option_flatten o → row ≡ length pairs → IsDifference row flow partner e
+    → ArePaired after all left partners pairs → Pairing all after (Err e)
+pairing_differs after all left new_left flow partners new_partners o partner pairs row e off partner_off some flat at differs so_far =
+    let first : IsFirstDifference all after (length pairs) flow.class differs.0.class =
+        differs_first after all left new_left flow differs.0 partners new_partners o pairs off partner_off some (sym flat ∙ differs.1) differs.2 so_far in
+    pairing_at all after e row flow.class differs.0.class differs.3 (subst (λ (row : ℕ). IsFirstDifference all after row flow.class differs.0.class) (sym at) first)
+
+-- a pair more of the flows that only the second snapshot has
+pub alone_more : (pairs new : List FlowPair) (left new_left whole : List Flow) (start : List FlowPair) (flow : Flow) (pair : FlowPair) → left ≡ new_left ++ flow ∷ [] → pair ≡ pair_after flow → new ≡ pairs ++ pair ∷ []
+    → pairs ++ map pair_after (reverse left) ≡ start ++ map pair_after whole → new ++ map pair_after (reverse new_left) ≡ start ++ map pair_after whole
+alone_more pairs new left new_left whole start flow pair off is more so_far =
+    ap (λ (ps : List FlowPair). ps ++ map pair_after (reverse new_left)) (more ∙ ap (λ (p : FlowPair). pairs ++ p ∷ []) is)
+    ∙ append_assoc pairs (pair_after flow ∷ []) (map pair_after (reverse new_left))
+    ∙ ap (λ (l : List Flow). pairs ++ map pair_after l) (sym (turned left new_left flow off))
+    ∙ so_far

@@ -1,20 +1,20 @@
 -- The flows of a second snapshot, put to those of their names in a first one after another.
-use Rattle.std.proofs.Common.{◌⊎◌, inl, inr, zero, suc, set, append_assoc, ◌||◌, ◌≤◌, IsNone, All, option_map, ◌≡◌, ◌≢◌, ◌∙◌, refl, sym, ap, ℕ, ◌+◌, ◌<◌, Bool, true, false, not, cond, List, [], ◌∷◌, ◌++◌, length, map, filter, reverse, get_or, Option, Some, None, arith, subst}
+use Rattle.std.proofs.Common.{◌-◌, drop, ◌⊎◌, inl, inr, zero, suc, set, append_assoc, ◌||◌, ◌≤◌, IsNone, All, option_map, ◌≡◌, ◌≢◌, ◌∙◌, refl, sym, ap, ℕ, ◌+◌, ◌<◌, Bool, true, false, not, cond, List, [], ◌∷◌, ◌++◌, length, map, filter, reverse, get_or, Option, Some, None, arith, subst}
 use Rattle.std.specs.Prelude.{find, slice_get}
 use Rattle.std.specs.List.{AllByRecursion, IsDistinct}
 use Rattle.std.specs.Option.{option_or}
 use Rattle.std.specs.Str.{bytes_eq}
 use Rattle.std.proofs.lemmas.Bool.{cases_order}
 use Rattle.std.proofs.lemmas.Grind.{get_or-set_at}
-use Rattle.std.proofs.lemmas.List.{append-nil, length-map, ext_get_or, get_or_past, get_or-set_other}
+use Rattle.std.proofs.lemmas.List.{append-nil, drop_more, length-append, length-drop, length-map, ext_get_or, get_or_past, get_or-set_other, reverse-append, reverse-reverse}
 use Rattle.std.proofs.lemmas.Map.Keys.{apart_from_distinct}
 use Rattle.std.proofs.lemmas.Option.{slice_get_within, get_or_from_slice_get, slice_get-map}
 use Rattle.rela_snapshot.specs.declared.snapshot.Flow.{Flow}
-use Rattle.rela_snapshot.specs.Names.{AreDistinct, has_name, place_of}
+use Rattle.rela_snapshot.specs.Names.{AreDistinct, has_name, place_of, with_name}
 use Rattle.rela_snapshot.specs.Pair.{flow_named, flows_without}
 use Rattle.rela_snapshot.specs.Partners.{with_flow}
 use Rattle.rela_snapshot.specs.SnapshotFlows.{names_of}
-use Rattle.rela_snapshot.proofs.Distinct.{name_is_itself, same_name}
+use Rattle.rela_snapshot.proofs.Distinct.{distinct_apart, name_is_itself, same_name}
 use Rattle.rela_snapshot.proofs.Places.{place_some, place_none}
 
 -- the flow, if it has the name
@@ -173,7 +173,7 @@ put_none names all found none = record {
   where
     is_none : (o : Option Flow) → IsNone o → o ≡ None
     is_none None h = refl
-    is_none (Some x) h = absurd h
+    is_none (Some x) h = absurd (cc)
     empty_by : (found : List (Option Flow)) (i : ℕ) → All IsNone found → (i ≡ length found) ⊎ ((i < length found) ⊎ (length found < i)) → get_or found i None ≡ None
     empty_by found i none (inl eq) = get_or_past found i None (omega (arith, eq))
     empty_by found i none (inr (inl lt)) = is_none (get_or found i None) (none i None lt)
@@ -201,10 +201,65 @@ at_or_past (x ∷ xs) zero lt = (x, refl)
 at_or_past (x ∷ xs) (suc i) lt = at_or_past xs i (omega (arith, lt))
 
 -- each flow of the first snapshot has that of its name in the second
-pub all_put : (before after : List Flow) (names : List (List ℕ)) (found : List (Option Flow)) (others : List Flow) → names ≡ names_of before → AreDistinct (names_of after) → length found ≡ length before
+all_put_by : (before after : List Flow) (names : List (List ℕ)) (found : List (Option Flow)) (others : List Flow) → names ≡ names_of before → AreDistinct (names_of after) → length found ≡ length before
     → ArePut names after [] found others → (found ≡ map (λ flow. flow_named flow.class.name after) before) × (others ≡ flows_without (names_of before) after)
-all_put before after names found others same distinct long put = (
+all_put_by before after names found others same distinct long put = (
   ext_get_or None found (map (λ (flow : Flow). flow_named flow.class.name after) before) (long ∙ sym (length-map before (λ (flow : Flow). flow_named flow.class.name after)))
   (λ i lt. let at : (flow : Flow) × (slice_get before i ≡ Some flow) = at_or_past before i (omega (arith, lt, long)) in found_at before after names found others i at.0 same distinct put at.1),
   sym (append-nil others) ∙ put.rest ∙ ap (λ (ns : List (List ℕ)). flows_without ns after) same,
 )
+
+pub all_put : (before after left : List Flow) (found : List (Option Flow)) (others : List Flow) → left ≡ [] → AreDistinct (names_of after) → length found ≡ length before
+    → ArePut (names_of before) after (reverse left) found others → (found ≡ map (λ flow. flow_named flow.class.name after) before) × (others ≡ flows_without (names_of before) after)
+all_put before after left found others none distinct long put =
+    all_put_by before after (names_of before) found others refl distinct long (subst (λ (left : List Flow). ArePut (names_of before) after (reverse left) found others) none put)
+
+pub put_start : (names : List (List ℕ)) (all turned : List Flow) (found : List (Option Flow)) (others : List Flow) → turned ≡ reverse all → All IsNone found → others ≡ [] → ArePut names all (reverse turned) found others
+put_start names all turned found others turns none no_others =
+    let back : all ≡ reverse turned = sym (reverse-reverse all) ∙ ap reverse (sym turns) in
+    subst (λ (left : List Flow). ArePut names all left found others) back (subst (λ (others : List Flow). ArePut names all all found others) (sym no_others) (put_none names all found none))
+
+pub put_next : (before : List Flow) (names : List (List ℕ)) (all left new_left : List Flow) (flow : Flow) (found new_found : List (Option Flow)) (others new_others : List Flow)
+    → names ≡ names_of before → left ≡ new_left ++ flow ∷ [] → AreDistinct (names_of before) → length before ≡ length found
+    → new_found ≡ with_flow found (place_of names flow.class.name) flow → new_others ≡ others ++ flows_without names (flow ∷ [])
+    → ArePut (names_of before) all (reverse left) found others → ArePut (names_of before) all (reverse new_left) new_found new_others
+put_next before names all left new_left flow found new_found others new_others known off distinct long puts other so_far =
+    let turned : reverse left ≡ flow ∷ reverse new_left = ap reverse off ∙ reverse-append new_left (flow ∷ []) in
+    let room : length (names_of before) ≤ length found = let h = length-map before (λ (flow : Flow). flow.class.name) in omega (arith, h, long) in
+    let puts_by : new_found ≡ with_flow found (place_of (names_of before) flow.class.name) flow = puts ∙ ap (λ (ns : List (List ℕ)). with_flow found (place_of ns flow.class.name) flow) known in
+    let other_by : new_others ≡ others ++ flows_without (names_of before) (flow ∷ []) = other ∙ ap (λ (ns : List (List ℕ)). others ++ flows_without ns (flow ∷ [])) known in
+    put_one (names_of before) all (reverse new_left) flow found new_found others new_others
+    (λ i name at. ap (λ (f : List (Option Flow)). get_or f i None) puts_by ∙ put_found (names_of before) found flow (place_of (names_of before) flow.class.name) i name distinct room refl at)
+    other_by (subst (λ (left : List Flow). ArePut (names_of before) all left found others) turned so_far)
+
+-- ---- the table of the first snapshot's names
+
+pub table_step : (names new : List (List ℕ)) (flows : List Flow) (i : ℕ) (flow : Flow) (name : List ℕ) → AreDistinct (names_of flows) → names ++ names_of (drop i flows) ≡ names_of flows
+    → i < length flows → flow ≡ get_or flows i flow → name ≡ flow.class.name → new ≡ with_name names name → new ++ names_of (drop (i + 1) flows) ≡ names_of flows
+table_step names new flows i flow name distinct so_far lt is same more =
+    let next : names_of (drop i flows) ≡ flow.class.name ∷ names_of (drop (i + 1) flows) = ap names_of (drop_more flows i flow lt ∙ ap (λ (f : Flow). f ∷ drop (i + 1) flows) (sym is)) in
+    let whole : names ++ flow.class.name ∷ names_of (drop (i + 1) flows) ≡ names_of flows = ap (λ (ns : List (List ℕ)). names ++ ns) (sym next) ∙ so_far in
+    let new_to : has_name names flow.class.name ≡ false = distinct_apart names flow.class.name (names_of (drop (i + 1) flows)) (subst AreDistinct (sym whole) distinct) in
+    let added : new ≡ names ++ flow.class.name ∷ [] = more ∙ ap (with_name names) same ∙ ap (λ b. cond b names (names ++ flow.class.name ∷ [])) new_to in
+    ap (λ (ns : List (List ℕ)). ns ++ names_of (drop (i + 1) flows)) added ∙ append_assoc names (flow.class.name ∷ []) (names_of (drop (i + 1) flows)) ∙ whole
+
+pub table_room : (names : List (List ℕ)) (flows : List Flow) (i : ℕ) → names ++ names_of (drop i flows) ≡ names_of flows → i < length flows → length flows ≤ 10000 → length names < 10000
+table_room names flows i so_far lt few =
+    let long : length names + (length flows - i) ≡ length flows =
+        ap (λ (n : ℕ). length names + n) (sym (length-map (drop i flows) (λ (flow : Flow). flow.class.name) ∙ length-drop i flows))
+        ∙ sym (length-append names (names_of (drop i flows))) ∙ ap length so_far ∙ length-map flows (λ (flow : Flow). flow.class.name) in
+    omega (arith, long, lt, few)
+
+pub table_whole : (names : List (List ℕ)) (flows left : List Flow) → left ≡ [] → names ++ names_of left ≡ names_of flows → names ≡ names_of flows
+table_whole names flows left none so_far = sym (append-nil names) ∙ ap (λ (l : List Flow). names ++ names_of l) (sym none) ∙ so_far
+
+-- ---- one flow, put by its place
+
+pub with_flow_at : (found new : List (Option Flow)) (o : Option ℕ) (p : ℕ) (flow : Flow) → o ≡ Some p → new ≡ set found p (Some flow) → new ≡ with_flow found o flow
+with_flow_at found new o p flow at is = is ∙ ap (λ (o : Option ℕ). with_flow found o flow) (sym at)
+
+pub no_other : (names : List (List ℕ)) (others : List Flow) (flow : Flow) (p : ℕ) → place_of names flow.class.name ≡ Some p → others ≡ others ++ flows_without names (flow ∷ [])
+no_other names others flow p at = rw (placed names flow.class.name p at) (sym (append-nil others))
+
+pub one_other : (names : List (List ℕ)) (others new : List Flow) (flow : Flow) → place_of names flow.class.name ≡ None → new ≡ others ++ flow ∷ [] → new ≡ others ++ flows_without names (flow ∷ [])
+one_other names others new flow none is = rw (unplaced names flow.class.name none) is

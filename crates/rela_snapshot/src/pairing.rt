@@ -120,8 +120,10 @@ fn find_partners(
 
 /// The names of the flows, in order.
 fn names_of<'a>(alloc: Global, flows: &'a [Flow]) -> Result<NameTable<'a>, AllocError>
-    requires flows { AreSnapshotFlows flows.now }
+    requires few { length flows.now ≤ MAX_FLOWS }
+    requires distinct { AreDistinct (snapshot_flows.names_of flows.now) }
     ensures names { IfOk result (λ names. names ≡ snapshot_flows.names_of flows.now) }
+    ensures len { IfOk result (λ names. length names ≤ length flows.now) }
 {
     let mut names = NameTable::new(alloc);
     for flow in flows {
@@ -144,7 +146,6 @@ fn no_flows(alloc: Global, count: usize) -> Result<Vec<Option<Flow>>, AllocError
 /// Puts a flow to the flow of its name, or to the others.
 fn put(names: &NameTable<'_>, partners: &mut Partners, flow: Flow) -> Result<(), AllocError>
     requires room { length names.now ≤ vec_len partners.old.found }
-    requires distinct { AreDistinct names.now }
     ensures found { OnOk result (partners.new.found.items ≡ with_flow partners.old.found.items (place_of names.now flow.class.name) flow) }
     ensures others { OnOk result (partners.new.others.items ≡ partners.old.others.items ++ flows_without names.now (flow ∷ [])) }
     ensures len { vec_len partners.new.found ≡ vec_len partners.old.found }
