@@ -8,4 +8,5 @@ pub mod PairLaws
 pub mod PairLoops
 pub mod PartnerLaws
 pub mod Places
+pub mod SameClass
 pub mod StepLaws

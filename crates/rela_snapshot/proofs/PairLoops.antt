@@ -9,8 +9,14 @@ use Rattle.rela_snapshot.specs.declared.pairing.FlowPair.{FlowPair}
 use Rattle.rela_snapshot.specs.declared.pairing.PairError.{PairError}
 use Rattle.rela_snapshot.specs.declared.pairing.PairError.TheVariants.{FlowDiffers}
 use Rattle.rela_snapshot.specs.Partners.{IsDifference}
-use Rattle.rela_snapshot.specs.Pair.{Agrees, AgreesWith, IsFirstDifference, Pairing, flow_named, pair_after, pair_before, pair_with}
+use Rattle.rela_snapshot.specs.Pair.{Agrees, AgreesWith, IsFirstDifference, Pairing, flow_named, flows_without, no_nodes, pair_after, pair_before, pair_with}
+use Rattle.rela_graph.specs.Topology.{IsTopology, JoinsNodes, Topology}
+use Rattle.rela_graph.specs.declared.node.Link.{Link}
+use Rattle.rela_snapshot.specs.SnapshotFlows.{names_of}
+use Rattle.rela_snapshot.specs.Steps.{IsAnswer}
+use Rattle.rela_snapshot.proofs.FlowLaws.{empty_of}
 use Rattle.rela_snapshot.proofs.Kept.{All-push}
+use Rattle.rela_snapshot.proofs.PairLaws.{one_pairing}
 
 abbrev pub partner_in : List Flow → Flow → Option Flow
 partner_in after flow = flow_named flow.class.name after
@@ -126,3 +132,47 @@ alone_more pairs new left new_left whole start flow pair off is more so_far =
     ∙ append_assoc pairs (pair_after flow ∷ []) (map pair_after (reverse new_left))
     ∙ ap (λ (l : List Flow). pairs ++ map pair_after l) (sym (turned left new_left flow off))
     ∙ so_far
+
+-- ---- how the loops begin and end
+
+pub paired_start : (after all turned : List Flow) (partners turned_partners : List (Option Flow)) (pairs : List FlowPair) → turned ≡ reverse all → turned_partners ≡ reverse partners → pairs ≡ [] → partners ≡ map (partner_in after) all
+    → ArePaired after all turned turned_partners pairs
+paired_start after all turns partners turned_partners pairs turned_is partners_are none is =
+    subst (λ (l : List Flow). ArePaired after all l turned_partners pairs) (sym turned_is)
+    (subst (λ (ps : List (Option Flow)). ArePaired after all (reverse all) ps pairs) (sym partners_are)
+    (subst (λ (ps : List FlowPair). ArePaired after all (reverse all) (reverse partners) ps) (sym none) (paired_none after all partners is)))
+
+pub paired_end : (after all left : List Flow) (partners : List (Option Flow)) (pairs : List FlowPair) → left ≡ [] → ArePaired after all left partners pairs → All (Agrees after) all × (pairs ≡ map (pair_before after) all)
+paired_end after all left partners pairs none so_far = paired_all after all partners pairs (subst (λ (l : List Flow). ArePaired after all l partners pairs) none so_far)
+
+pub alone_start : (pairs : List FlowPair) (turns whole : List Flow) → turns ≡ reverse whole → pairs ++ map pair_after (reverse turns) ≡ pairs ++ map pair_after whole
+alone_start pairs turns whole is = ap (λ (l : List Flow). pairs ++ map pair_after l) (ap reverse is ∙ reverse-reverse whole)
+
+pub alone_end : (pairs start : List FlowPair) (left whole : List Flow) → left ≡ [] → pairs ++ map pair_after (reverse left) ≡ start ++ map pair_after whole → pairs ≡ start ++ map pair_after whole
+alone_end pairs start left whole none so_far = sym (append-nil pairs) ∙ ap (λ (l : List Flow). pairs ++ map pair_after (reverse l)) (sym none) ∙ so_far
+
+-- ---- what the two loops together give
+
+pub pairing_whole : (before after others : List Flow) (found all : List FlowPair) → All (Agrees after) before × (found ≡ map (pair_before after) before) → others ≡ flows_without (names_of before) after → all ≡ found ++ map pair_after others → Pairing before after (Ok all)
+unfolding Pairing
+pairing_whole before after others found all paired are is =
+    (paired.0, is ∙ ap (λ (ps : List FlowPair). ps ++ map pair_after others) paired.1 ∙ ap (λ (l : List Flow). map (pair_before after) before ++ map pair_after l) are)
+
+pub pairing_of : (b before a after : List Flow) (r : Result (List FlowPair) PairError) → b ≡ before → a ≡ after → Pairing b a r → IsAnswer (Pairing before after) r
+pairing_of b before a after r first second is =
+    one_pairing before after r (subst (λ (l : List Flow). Pairing before l r) second (subst (λ (l : List Flow). Pairing l a r) first is))
+
+-- ---- the graph without nodes
+
+edges_none : (count : ℕ) (edges : List Link) → count ≡ 0 → All (JoinsNodes count) edges → edges ≡ []
+edges_none count [] none joins = refl
+edges_none count (e ∷ es) none joins = let first : JoinsNodes count e = joins 0 e (omega arith) in let lt : e.a < count = first.0 in absurd (omega (arith, none, lt))
+
+pub no_nodes_is : (g : Topology) → g.nodes ≡ [] → IsTopology g → g ≡ no_nodes
+no_nodes_is g none is =
+    let count : length g.nodes ≡ 0 = ap length none in
+    let edges : g.edges ≡ [] = edges_none (length g.nodes) g.edges count is.joins in
+    let starts : g.starts ≡ [] = empty_of g.starts (is.starts ∙ count) in
+    let delivered : g.delivered ≡ [] = empty_of g.delivered (is.delivered ∙ count) in
+    let dropped : g.dropped ≡ [] = empty_of g.dropped (is.dropped ∙ count) in
+    λ i. record { nodes = none i; edges = edges i; starts = starts i; delivered = delivered i; dropped = dropped i }

@@ -1,14 +1,17 @@
-use Rattle.std.proofs.Common.{Some, refl, sym, ap, ◌∙◌}
-use Rattle.std.proofs.lemmas.List.{append-nil, reverse-reverse}
+use Rattle.std.proofs.Common.{◌∙◌, Some, sym, rules}
 use Rattle.std.proofs.lemmas.List.Elements.{All-pop}
 use Rattle.rela_snapshot.specs.Located.{IsLocated}
 use Rattle.rela_snapshot.specs.PairsLocated.{IsPairLocated}
+use Rattle.rela_snapshot.proofs.FlowLaws.{empty_of}
 use Rattle.rela_snapshot.proofs.Kept.{All-push}
-use Rattle.rela_snapshot.proofs.PairLoops.{alone_more}
+use Rattle.rela_snapshot.proofs.PairLoops.{alone_end, alone_more, alone_start}
 use Rattle.rela_snapshot.proofs.pairing.pair_others.Goals as goal
 
 pub loop-flow-init : goal.loop-flow-init
-loop-flow-init c = ?
+loop-flow-init c = record {
+  pairs = alone_start _ _ _ c.reverse.ensures.items;
+  located = search rules;
+}
 
 pub loop-flow-preserved : goal.loop-flow-preserved
 loop-flow-preserved c = record {
@@ -21,7 +24,7 @@ loop-flow-preserved c = record {
 }
 
 pub returns-clause-pairs : goal.returns-clause-pairs
-returns-clause-pairs c = ?
+returns-clause-pairs c = alone_end _ _ _ c.args.others.items (empty_of _ (sym c.loop-flow.others.ok.0 ∙ c.in_default.ensures.cases.0)) c.loop-flow.invariant.pairs
 
 pub returns-clause-located : goal.returns-clause-located
 returns-clause-located c = λ names level each pairs. (c.loop-flow.invariant.located names level each pairs).1
