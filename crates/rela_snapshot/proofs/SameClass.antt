@@ -1,6 +1,6 @@
 -- What is said of two flows is the same exactly where each part is.
-use Rattle.std.proofs.Common.{◌≡◌, ◌∙◌, ◌↔◌, ℕ, Bool, true, false, ◌≢◌, ◌&&◌, List, refl, sym, ap}
-use Rattle.std.specs.Prelude.{◌==◌, IsTrue}
+use Rattle.std.proofs.Common.{◌≡◌, ◌∙◌, ℕ, Bool, true, false, not, ◌≢◌, ◌&&◌, List, refl, sym, ap}
+use Rattle.std.specs.Prelude.{◌==◌}
 use Rattle.std.specs.Str.{bytes_eq}
 use Rattle.std.proofs.lemmas.Bool.{eq-eqb, eqb-true}
 use Rattle.rela_flows.specs.declared.predicate.FlowClass.{FlowClass}
@@ -64,20 +64,16 @@ same_class a b e =
 class_is_itself : (a : FlowClass) → class_eq a a ≡ true
 class_is_itself a = rw (name_is_itself a.name, derived_is a.dst a.dst ∙ prefix_is_itself a.dst, derived_is a.src a.src ∙ prefix_is_itself a.src, name_is_itself a.class) refl
 
-true_is : (r : Bool) → IsTrue r → r ≡ true
-true_is true h = refl
-true_is false h = absurd (cc)
+-- what the derived `!=` tells
+not_false : (b : Bool) → not b ≡ false → b ≡ true
+not_false true e = refl
+not_false false e = absurd (cc)
 
-is_true : (r : Bool) → r ≡ true → IsTrue r
-is_true true h = refl
-is_true false h = absurd (cc)
+pub classes_agree : (r : Bool) (a b : FlowClass) → r ≡ not (class_eq a b) → r ≡ false → a ≡ b
+classes_agree r a b is fails = same_class a b (not_false (class_eq a b) (sym is ∙ fails))
 
-pub class_tells : (r : Bool) (a b : FlowClass) → r ≡ class_eq a b → IsTrue r ↔ (a ≡ b)
-class_tells r a b is = (
-  (λ h. same_class a b (sym is ∙ true_is r h)),
-  λ same. is_true r (is ∙ ap (class_eq a) (sym same) ∙ class_is_itself a),
-)
-
-pub differs_where : (r : Bool) (a b : FlowClass) → IsTrue r ↔ (a ≡ b) → r ≡ false → a ≢ b
-differs_where true a b tells fails = absurd (cc)
-differs_where false a b tells fails = λ same. let no_such : IsTrue false = tells.1 same in absurd (cc)
+pub classes_differ : (r : Bool) (a b : FlowClass) → r ≡ not (class_eq a b) → r ≡ true → a ≢ b
+classes_differ r a b is holds = λ same.
+    let itself : class_eq a b ≡ true = ap (class_eq a) (sym same) ∙ class_is_itself a in
+    let no_such : true ≡ false = sym holds ∙ is ∙ ap not itself in
+    absurd (cc)

@@ -1,6 +1,6 @@
 //! The flows of two snapshots side by side.
 
-ghost use Rattle.std.specs.Prelude.{◌≡◌, ◌≢◌, ◌<◌, ◌≤◌, ◌+◌, ℕ, List, [], ◌∷◌, ◌++◌, All, Some, IsNone, IfSome, Ok, Err, IfOk, IfErr, OnOk, IsTrue, ◌↔◌, length, map, vec_len};
+ghost use Rattle.std.specs.Prelude.{◌≡◌, ◌≢◌, ◌<◌, ◌≤◌, ◌+◌, ℕ, List, [], ◌∷◌, ◌++◌, All, Some, IsNone, IfSome, Ok, Err, IfOk, IfErr, OnOk, length, map, vec_len};
 ghost use Rattle.rela_names.specs.declared.level.Level.{Level};
 ghost use Rattle.rela_snapshot.specs.Located.{IsLocated, AreLocated};
 ghost use Rattle.rela_snapshot.specs.Names.{AreDistinct, place_of};
@@ -205,7 +205,7 @@ fn pair_of(
             after: no_graph(alloc)?,
         });
     };
-    if !is_same(&before.class, &after.class) {
+    if before.class != after.class {
         return Err(PairError::FlowDiffers {
             row,
             before: before.class,
@@ -217,13 +217,6 @@ fn pair_of(
         before: before.graph,
         after: after.graph,
     })
-}
-
-/// Whether the two are equal.
-fn is_same(one: &FlowClass, other: &FlowClass) -> bool
-    ensures { IsTrue result ↔ (one.now ≡ other.now) }
-{
-    one == other
 }
 
 /// Adds the pairs of the flows that only the second snapshot has.
