@@ -1,6 +1,6 @@
 -- Names of which none comes twice.
-use Rattle.std.proofs.Common.{◌≡◌, ◌∙◌, refl, sym, ap, ℕ, ◌+◌, ◌<◌, ◌≤◌, Bool, true, false, ◌||◌, not, cond, nat_lt, List, [], ◌∷◌, ◌++◌, length, map, Option, Some, None, arith, subst}
-use Rattle.std.specs.List.{AllByRecursion, IsDistinct, list_any, slice_get, position}
+use Rattle.std.proofs.Common.{◌≡◌, ◌∙◌, refl, sym, ℕ, ◌+◌, ◌<◌, ◌≤◌, Bool, true, false, ◌||◌, cond, List, [], ◌∷◌, ◌++◌, length, arith}
+use Rattle.std.specs.List.{AllByRecursion, IsDistinct}
 use Rattle.std.specs.Str.{bytes_eq}
 use Rattle.std.specs.Cmp.Lexicographic.{bytes_decides}
 use Rattle.std.proofs.lemmas.List.{length-append}
@@ -38,9 +38,10 @@ apart_more x (y ∷ ys) name apart each = (each.0, apart_more x ys name apart ea
 pub distinct_more : (names : List (List ℕ)) (name : List ℕ) → AreDistinct names → has_name names name ≡ false → AreDistinct (names ++ name ∷ [])
 unfolding IsDistinct
 distinct_more [] name distinct new = (tt, tt)
-distinct_more (x ∷ xs) name distinct new =
-    (apart_more x xs name (other_turned name x (or_first (bytes_eq name x) (has_name xs name) new)) distinct.0,
-    distinct_more xs name distinct.1 (or_second (bytes_eq name x) (has_name xs name) new))
+distinct_more (x ∷ xs) name distinct new = (
+  apart_more x xs name (other_turned name x (or_first (bytes_eq name x) (has_name xs name) new)) distinct.0,
+  distinct_more xs name distinct.1 (or_second (bytes_eq name x) (has_name xs name) new),
+)
 
 pub distinct_none : AreDistinct []
 unfolding IsDistinct

@@ -1,7 +1,6 @@
 -- What a flow and a list of flows answer, from what their parts answer.
 use Rattle.std.proofs.Common.{◌≡◌, ◌≢◌, ◌∙◌, ℕ, ◌+◌, ◌<◌, ◌≤◌, List, [], ◌∷◌, ◌++◌, length, map, drop, get_or, Result, Ok, Err, refl, sym, ap, subst, arith}
 use Rattle.std.proofs.lemmas.List.{drop_more, length-append, length-drop, length-map, map-append}
-use Rattle.std.specs.List.{AllZip}
 use Rattle.std.specs.Prelude.{Option, Some, None, IfOk, IfErr}
 use Rattle.serde_json.specs.Data.{Data}
 use Rattle.rela_json.specs.declared.error.LoadError.{LoadError}

@@ -1,5 +1,5 @@
 -- Pairing has one answer.
-use Rattle.std.proofs.Common.{◌⊎◌, ◌≡◌, ◌≢◌, ◌∙◌, refl, sym, ap, ℕ, ◌<◌, List, length, take, get_or, Option, Some, None, IfSome, Result, Ok, Err, inl, inr, arith, subst}
+use Rattle.std.proofs.Common.{◌⊎◌, ◌≡◌, ◌≢◌, ◌∙◌, sym, ap, ℕ, ◌<◌, List, length, take, get_or, Option, Some, Result, Ok, Err, inl, inr, arith, subst}
 use Rattle.std.proofs.lemmas.Bool.{cases_order}
 use Rattle.std.specs.Prelude.{slice_get, All}
 use Rattle.std.proofs.lemmas.Option.{slice_get_within, get_or_from_slice_get}
@@ -9,7 +9,7 @@ use Rattle.rela_snapshot.specs.declared.snapshot.Flow.{Flow}
 use Rattle.rela_snapshot.specs.declared.pairing.FlowPair.{FlowPair}
 use Rattle.rela_snapshot.specs.declared.pairing.PairError.{PairError}
 use Rattle.rela_snapshot.specs.declared.pairing.PairError.TheVariants.{FlowDiffers, Memory}
-use Rattle.rela_snapshot.specs.Pair.{Agrees, AgreesWith, IsFirstDifference, Pairing, flow_named, pairs_of}
+use Rattle.rela_snapshot.specs.Pair.{Agrees, AgreesWith, IsFirstDifference, Pairing, flow_named}
 use Rattle.rela_snapshot.specs.Steps.{IsAnswer}
 
 -- a flow that differs does not agree
@@ -39,9 +39,10 @@ same_some x y e = cc
 same_difference : (before after : List Flow) (i : ℕ) (a b c d : FlowClass) → IsFirstDifference before after i a b → IsFirstDifference before after i c d → (a ≡ c) × (b ≡ d)
 same_difference before after i a b c d one two =
     let flow : one.flow ≡ two.flow = same_some one.flow two.flow (sym one.at ∙ two.at) in
-    let other : one.other ≡ two.other = same_some one.other two.other (sym one.named ∙ ap (λ (f : Flow). flow_named f.class.name after) flow ∙ two.named) in
-    (one.before_class ∙ ap (λ (f : Flow). f.class) flow ∙ sym two.before_class,
-    one.after_class ∙ ap (λ (f : Flow). f.class) other ∙ sym two.after_class)
+    let other : one.other ≡ two.other = same_some one.other two.other (sym one.named ∙ ap (λ (f : Flow). flow_named f.class.name after) flow ∙ two.named) in (
+      one.before_class ∙ ap (λ (f : Flow). f.class) flow ∙ sym two.before_class,
+      one.after_class ∙ ap (λ (f : Flow). f.class) other ∙ sym two.after_class,
+    )
 
 differ_by : (before after : List Flow) (i j : ℕ) (a b c d : FlowClass) → (i ≡ j) ⊎ ((i < j) ⊎ (j < i)) → IsFirstDifference before after i a b → IsFirstDifference before after j c d
     → ◌≡◌ {A = Result (List FlowPair) PairError} (Err (FlowDiffers j c d)) (Err (FlowDiffers i a b))

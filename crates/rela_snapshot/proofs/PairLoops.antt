@@ -1,5 +1,5 @@
 -- The pairs of the first snapshot's flows, of which the last come off first.
-use Rattle.std.proofs.Common.{◌≡◌, ◌≢◌, ◌∙◌, refl, sym, ap, ℕ, ◌+◌, ◌<◌, List, [], ◌∷◌, ◌++◌, length, map, reverse, take, All, Option, Some, None, Result, Ok, Err, arith, subst, append_assoc}
+use Rattle.std.proofs.Common.{◌≡◌, ◌≢◌, ◌∙◌, refl, sym, ap, ℕ, ◌<◌, List, [], ◌∷◌, ◌++◌, length, map, reverse, take, All, Option, Some, None, Result, Ok, Err, arith, subst, append_assoc}
 use Rattle.std.specs.Prelude.{slice_get}
 use Rattle.std.specs.Option.{option_flatten, option_to_list, IsSome}
 use Rattle.std.proofs.lemmas.List.{append-nil, length-map, length-reverse, map-append, reverse-append, reverse-reverse}
@@ -121,7 +121,7 @@ pub pairing_differs : (after all left new_left : List Flow) (flow : Flow) (partn
     → ArePaired after all left partners pairs → Pairing all after (Err e)
 pairing_differs after all left new_left flow partners new_partners o partner pairs row e off partner_off some flat at differs so_far =
     let first : IsFirstDifference all after (length pairs) flow.class differs.0.class =
-        differs_first after all left new_left flow differs.0 partners new_partners o pairs off partner_off some (sym flat ∙ differs.1) differs.2 so_far in
+    differs_first after all left new_left flow differs.0 partners new_partners o pairs off partner_off some (sym flat ∙ differs.1) differs.2 so_far in
     pairing_at all after e row flow.class differs.0.class differs.3 (subst (λ (row : ℕ). IsFirstDifference all after row flow.class differs.0.class) (sym at) first)
 
 -- a pair more of the flows that only the second snapshot has

@@ -1,6 +1,6 @@
 -- The flows of a second snapshot, put to those of their names in a first one after another.
-use Rattle.std.proofs.Common.{◌-◌, drop, ◌⊎◌, inl, inr, zero, suc, set, append_assoc, ◌||◌, ◌≤◌, IsNone, All, option_map, ◌≡◌, ◌≢◌, ◌∙◌, refl, sym, ap, ℕ, ◌+◌, ◌<◌, Bool, true, false, not, cond, List, [], ◌∷◌, ◌++◌, length, map, filter, reverse, get_or, Option, Some, None, arith, subst}
-use Rattle.std.specs.Prelude.{find, slice_get}
+use Rattle.std.proofs.Common.{◌-◌, drop, ◌⊎◌, inl, inr, zero, suc, set, append_assoc, ◌||◌, ◌≤◌, IsNone, All, option_map, ◌≡◌, ◌≢◌, ◌∙◌, refl, sym, ap, ℕ, ◌+◌, ◌<◌, Bool, true, false, not, cond, List, [], ◌∷◌, ◌++◌, length, map, reverse, get_or, Option, Some, None, arith, subst}
+use Rattle.std.specs.Prelude.{slice_get}
 use Rattle.std.specs.List.{AllByRecursion, IsDistinct}
 use Rattle.std.specs.Option.{option_or}
 use Rattle.std.specs.Str.{bytes_eq}
@@ -174,10 +174,12 @@ put_none names all found none = record {
     is_none : (o : Option Flow) → IsNone o → o ≡ None
     is_none None h = refl
     is_none (Some x) h = absurd (cc)
+
     empty_by : (found : List (Option Flow)) (i : ℕ) → All IsNone found → (i ≡ length found) ⊎ ((i < length found) ⊎ (length found < i)) → get_or found i None ≡ None
     empty_by found i none (inl eq) = get_or_past found i None (omega (arith, eq))
     empty_by found i none (inr (inl lt)) = is_none (get_or found i None) (none i None lt)
     empty_by found i none (inr (inr gt)) = get_or_past found i None (omega (arith, gt))
+
     empty : (found : List (Option Flow)) (i : ℕ) → All IsNone found → get_or found i None ≡ None
     empty found i none = empty_by found i none (cases_order i (length found))
 
@@ -193,7 +195,7 @@ found_at before after names found others i flow same distinct put at =
     put.partners i flow.class.name (name_at before names i flow same at)
     ∙ last_is_first flow.class.name after distinct
     ∙ sym (get_or_from_slice_get (map (λ (flow : Flow). flow_named flow.class.name after) before) i (flow_named flow.class.name after) None
-      (slice_get-map (λ (flow : Flow). flow_named flow.class.name after) before i ∙ ap (option_map (λ (flow : Flow). flow_named flow.class.name after)) at))
+    (slice_get-map (λ (flow : Flow). flow_named flow.class.name after) before i ∙ ap (option_map (λ (flow : Flow). flow_named flow.class.name after)) at))
 
 at_or_past : {X : Type 0} (xs : List X) (i : ℕ) → i < length xs → (x : X) × (slice_get xs i ≡ Some x)
 at_or_past [] i lt = absurd (omega (arith, lt))
@@ -205,7 +207,7 @@ all_put_by : (before after : List Flow) (names : List (List ℕ)) (found : List 
     → ArePut names after [] found others → (found ≡ map (λ flow. flow_named flow.class.name after) before) × (others ≡ flows_without (names_of before) after)
 all_put_by before after names found others same distinct long put = (
   ext_get_or None found (map (λ (flow : Flow). flow_named flow.class.name after) before) (long ∙ sym (length-map before (λ (flow : Flow). flow_named flow.class.name after)))
-  (λ i lt. let at : (flow : Flow) × (slice_get before i ≡ Some flow) = at_or_past before i (omega (arith, lt, long)) in found_at before after names found others i at.0 same distinct put at.1),
+      (λ i lt. let at : (flow : Flow) × (slice_get before i ≡ Some flow) = at_or_past before i (omega (arith, lt, long)) in found_at before after names found others i at.0 same distinct put at.1),
   sym (append-nil others) ∙ put.rest ∙ ap (λ (ns : List (List ℕ)). flows_without ns after) same,
 )
 
@@ -246,8 +248,8 @@ table_step names new flows i flow name distinct so_far lt is same more =
 pub table_room : (names : List (List ℕ)) (flows : List Flow) (i : ℕ) → names ++ names_of (drop i flows) ≡ names_of flows → i < length flows → length flows ≤ 10000 → length names < 10000
 table_room names flows i so_far lt few =
     let long : length names + (length flows - i) ≡ length flows =
-        ap (λ (n : ℕ). length names + n) (sym (length-map (drop i flows) (λ (flow : Flow). flow.class.name) ∙ length-drop i flows))
-        ∙ sym (length-append names (names_of (drop i flows))) ∙ ap length so_far ∙ length-map flows (λ (flow : Flow). flow.class.name) in
+    ap (λ (n : ℕ). length names + n) (sym (length-map (drop i flows) (λ (flow : Flow). flow.class.name) ∙ length-drop i flows))
+    ∙ sym (length-append names (names_of (drop i flows))) ∙ ap length so_far ∙ length-map flows (λ (flow : Flow). flow.class.name) in
     omega (arith, long, lt, few)
 
 pub table_whole : (names : List (List ℕ)) (flows left : List Flow) → left ≡ [] → names ++ names_of left ≡ names_of flows → names ≡ names_of flows

@@ -25,7 +25,7 @@ none_before names name s h e =
     cc
 
 by_test : (names : List (List ℕ)) (name : List ℕ) (r : Option ℕ) → ((s : ℕ) → (r ≡ Some s) ↔ (slice_get names s ≡ Some name))
-  → (b : Bool) → nat_lt (position_or_len (bytes_eq name) names) (length names) ≡ b → r ≡ cond b (Some (position_or_len (bytes_eq name) names)) None
+    → (b : Bool) → nat_lt (position_or_len (bytes_eq name) names) (length names) ≡ b → r ≡ cond b (Some (position_or_len (bytes_eq name) names)) None
 by_test names name r found true e =
     let within : position_or_len (bytes_eq name) names < length names = grind arith in
     (found _).1 (stands_at names name within)

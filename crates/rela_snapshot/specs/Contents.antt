@@ -1,5 +1,5 @@
 -- What a file holds: the version of its format, and the entries of its flows.
-use Rattle.std.specs.Prelude.{ℕ, List, codes, Result, Ok}
+use Rattle.std.specs.Prelude.{List, codes, Result, Ok}
 use Rattle.serde_json.specs.Data.{Data}
 use Rattle.rela_json.specs.declared.error.LoadError.{LoadError}
 use Rattle.rela_json.specs.Results.{◌>>=◌}

@@ -71,11 +71,7 @@ pub(crate) fn few_entries(
 
 /// The two entries of an array that has to have just two.
 #[tactic(auto, unfolding(crate::specs::Parts::two_entries_of))]
-pub(crate) fn two_entries(
-    value: &Value,
-    rule: u8,
-    row: u32,
-) -> Result<(&Value, &Value), LoadError>
+pub(crate) fn two_entries(value: &Value, rule: u8, row: u32) -> Result<(&Value, &Value), LoadError>
     ensures found { IfOk result (λ ends. two_entries_of rule row (view value.now) ≡ Ok (view ends.0.now, view ends.1.now)) }
     ensures fault { IfErr result (λ e. two_entries_of rule row (view value.now) ≡ Err e) }
 {

@@ -15,14 +15,14 @@ loop-flow-init c = record {
 
 pub loop-flow-preserved : goal.loop-flow-preserved
 loop-flow-preserved c = record {
-      len = c.put.ensures.len ∙ c.loop-flow.invariant.len;
-      put = put_next _ _ _ _ _ _ _ _ _ _ (c.in_ok-names.ensures.names ∙ ap names_of c.as_slice.ensures.value) c.in-Some.ensures.items c.requires.before.distinct (sym c.args.before.now.ok.0 ∙ sym c.loop-flow.invariant.len ∙ c.loop-flow.partners.found.ok.0) c.in_ok-put.ensures.found c.in_ok-put.ensures.others c.loop-flow.invariant.put;
-      located = λ names level each.
-          let so_far = c.loop-flow.invariant.located names level each in
-          let popped = All-pop (λ flow. IsLocated names level flow.graph) c.loop-flow.after.items c.pop.new.self.items (Some c.in-Some.flow) c.in-Some.ensures.items so_far.0 in
-          let kept = c.put.ensures.located names level popped.1 so_far.1 so_far.2 in
-          (popped.0, kept.0, kept.1);
-    }
+  len = c.put.ensures.len ∙ c.loop-flow.invariant.len;
+  put = put_next _ _ _ _ _ _ _ _ _ _ (c.in_ok-names.ensures.names ∙ ap names_of c.as_slice.ensures.value) c.in-Some.ensures.items c.requires.before.distinct (sym c.args.before.now.ok.0 ∙ sym c.loop-flow.invariant.len ∙ c.loop-flow.partners.found.ok.0) c.in_ok-put.ensures.found c.in_ok-put.ensures.others c.loop-flow.invariant.put;
+  located = λ names level each.
+      let so_far = c.loop-flow.invariant.located names level each in
+      let popped = All-pop (λ flow. IsLocated names level flow.graph) c.loop-flow.after.items c.pop.new.self.items (Some c.in-Some.flow) c.in-Some.ensures.items so_far.0 in
+      let kept = c.put.ensures.located names level popped.1 so_far.1 so_far.2 in
+      (popped.0, kept.0, kept.1);
+}
 
 pub returns-clause-found : goal.returns-clause-found
 returns-clause-found c = let put = all_put _ _ _ _ _ (empty_of _ (sym c.loop-flow.after.ok.0 ∙ c.in_default.ensures.cases.0)) c.requires.after (sym c.loop-flow.partners.found.ok.0 ∙ c.loop-flow.invariant.len ∙ c.args.before.now.ok.0) c.loop-flow.invariant.put in put.0

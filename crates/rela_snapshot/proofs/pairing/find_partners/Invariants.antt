@@ -1,4 +1,4 @@
-use Rattle.std.proofs.Common.{◌≡◌, ◌≤◌, ℕ, List, length, reverse, vec_len}
+use Rattle.std.proofs.Common.{◌≡◌, ℕ, List, reverse, vec_len}
 use Rattle.rela_names.specs.declared.level.Level.{Level}
 use Rattle.rela_snapshot.specs.Located.{AreLocated}
 use Rattle.rela_snapshot.specs.PairsLocated.{AreFoundLocated}

@@ -1,5 +1,4 @@
-use Rattle.rela_snapshot.proofs.FlowLaws.{as_many}
-use Rattle.rela_snapshot.proofs.PartnerLaws.{table_step, table_room, table_whole}
+use Rattle.rela_snapshot.proofs.PartnerLaws.{table_step, table_room}
 use Rattle.rela_snapshot.proofs.pairing.names_of.Goals as goal
 
 pub add-requires : goal.add-requires

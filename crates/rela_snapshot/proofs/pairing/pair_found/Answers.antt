@@ -36,7 +36,7 @@ pub returns-in_err-pair-clause-differs : goal.returns-in_err-pair-clause-differs
 returns-in_err-pair-clause-differs c = λ after is.
     let fault : c.from_residual-in_err-pair.result ≡ Err c.in_err-pair.field-0.0 = grind arith in
     rw fault (λ real. pairing_differs after _ _ _ c.in-Some.flow _ _ c.pop-in-Some.result c.flatten.result _ _ _ c.in-Some.ensures.items c.pop-in-Some.ensures.items (λ lt. c.pop-in-Some.ensures.variant.1 (subst (λ n. 0 < n) (sym c.loop-flow.found.ok.0) lt)) c.flatten.ensures (c.len-row.ensures ∙ c.loop-flow.pairs.ok.0)
-        (c.in_err-pair.ensures.differs real) (c.loop-flow.invariant.paired after is))
+    (c.in_err-pair.ensures.differs real) (c.loop-flow.invariant.paired after is))
 
 pub returns-clause-pairs : goal.returns-clause-pairs
 returns-clause-pairs c = λ after is. paired_end after _ _ _ _ (empty_of _ (sym c.loop-flow.before.ok.0 ∙ c.in_default.ensures.cases.0)) (c.loop-flow.invariant.paired after is)

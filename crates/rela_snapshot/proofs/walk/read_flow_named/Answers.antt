@@ -24,7 +24,8 @@ returns-in_err-graph-clause-fault c =
 
 pub returns-clause-flow : goal.returns-clause-flow
 returns-clause-flow c =
-    let graph = c.in_ok-graph.ensures.graph in
-    (listed_flow c.args.name c.in_ok-dst.dst c.in_ok-src.src c.in_ok-class.class graph.0,
-    named_read _ _ _ _ _ _ _ _ c.in_ok-dst.ensures c.in_ok-src.ensures (whole _ _ _ _ _ _ _ _ _ _ c.flow_rules.ensures c.in_ok-class.ensures.class graph.1),
-    record { class = refl; graph = graph.2 })
+    let graph = c.in_ok-graph.ensures.graph in (
+      listed_flow c.args.name c.in_ok-dst.dst c.in_ok-src.src c.in_ok-class.class graph.0,
+      named_read _ _ _ _ _ _ _ _ c.in_ok-dst.ensures c.in_ok-src.ensures (whole _ _ _ _ _ _ _ _ _ _ c.flow_rules.ensures c.in_ok-class.ensures.class graph.1),
+      record { class = refl; graph = graph.2 },
+    )

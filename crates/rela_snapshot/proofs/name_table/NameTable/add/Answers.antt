@@ -1,4 +1,4 @@
-use Rattle.std.proofs.Common.{◌≡◌, ◌∙◌, refl, ap, map, not, Bool}
+use Rattle.std.proofs.Common.{◌∙◌, refl, ap, map, not}
 use Rattle.rela_snapshot.proofs.Distinct.{table_more}
 use Rattle.rela_snapshot.proofs.Keys.{has_name-keys, with_name-keys}
 use Rattle.rela_snapshot.proofs.name_table.NameTable.add.Goals as goal
@@ -19,5 +19,5 @@ invariant_of-self-2 c =
 pub returns-clause-distinct : goal.returns-clause-distinct
 returns-clause-distinct c =
     let table = table_more (map (λ k. k.now) c.self.inside.names.keys) _ c.args.name.now c.self.invariant (rw c.self.view_is c.requires)
-        (with_name-keys _ c.args.name c.self.inside.names.keys _ refl c.in_ok-is_new.ensures.keys) in
+    (with_name-keys _ c.args.name c.self.inside.names.keys _ refl c.in_ok-is_new.ensures.keys) in
     table.distinct
