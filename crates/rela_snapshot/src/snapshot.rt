@@ -48,11 +48,16 @@ impl Model for Snapshot {
 }
 
 impl Snapshot {
-    /// The flows that a file in JSON lists.
+    /// The flows that a file in JSON lists, whose nodes stand at interfaces of these locations. The
+    /// walk reads the version, and then of each flow in order its name, its prefixes, its class,
+    /// its nodes, its edges and its lists of nodes. The first fault is the answer.
     ///
     /// # Errors
     ///
-    /// `NotJson`; else the first fault of a walk of the file, with its row; `Memory`.
+    /// `NotJson`; `BadVersion` where the version is neither 1 nor 2; `WrongShape` where a part is
+    /// missing or of another kind than its rule wants; with the flow's row `TooMany`, `BadName`,
+    /// `BadPrefix`, `UnknownLocation`, `RepeatedEntry` for a flow's name or a node's id that an
+    /// earlier one has, `BadIndex` and `UnknownNode` for what names no node of the flow; `Memory`.
     #[tactic(auto, unfolding(crate::specs::Interfaces::interfaces_in))]
     pub fn decode(alloc: Global, bytes: &[u8], locations: &Locations) -> Result<Snapshot, LoadError>
         requires { length bytes.now ≤ 33554432 }
