@@ -1,7 +1,5 @@
 -- What each element of a list has, each of a longer or shorter one has.
-use Rattle.std.proofs.Common.{◌≡◌, ℕ, ◌<◌, ◌↔◌, List, [], ◌∷◌, ◌++◌, length, All, Option, Some, None, IfSome, refl, arith}
-use Rattle.std.specs.Prelude.{slice_get}
-use Rattle.std.proofs.lemmas.Option.{slice_get_within}
+use Rattle.std.proofs.Common.{◌≡◌, List, [], ◌∷◌, ◌++◌, All, Option, Some, None, IfSome, arith}
 use Rattle.std.specs.Option.{option_flatten}
 use Rattle.std.proofs.lemmas.List.Elements.{All-append, All-cons}
 
@@ -15,9 +13,3 @@ All-push P xs ys x e each one =
 pub IfSome-flatten : {X : Type 0} (P : X → Type 0) (o : Option (Option X)) → IfSome o (λ one. IfSome one P) → IfSome (option_flatten o) P
 IfSome-flatten P None h = tt
 IfSome-flatten P (Some one) h = h
-
--- what is found in a list stands in it
-pub IfSome-found : (found : Option ℕ) (names : List (List ℕ)) (name : List ℕ)
-    → ((s : ℕ) → (found ≡ Some s) ↔ (slice_get names s ≡ Some name)) → IfSome found (λ s. s < length names)
-IfSome-found None names name is_at = tt
-IfSome-found (Some s) names name is_at = slice_get_within names s name ((is_at s).0 refl)

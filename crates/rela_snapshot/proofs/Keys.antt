@@ -1,9 +1,10 @@
 -- The keys of a table as the names that they point to.
-use Rattle.std.proofs.Common.{◌≡◌, ◌∙◌, refl, sym, ap, ℕ, ◌+◌, Bool, true, false, not, ◌||◌, cond, nat_lt, List, [], ◌∷◌, ◌++◌, length, map, Option, Some, None, Bor}
+use Rattle.std.proofs.Common.{◌≡◌, ◌∙◌, refl, sym, ap, ℕ, ◌+◌, Bool, true, false, not, ◌||◌, cond, nat_lt, List, [], ◌∷◌, ◌++◌, length, map, Some, None, Bor, arith}
 use Rattle.std.specs.List.{list_any, prefix_len, position, position_or_len}
 use Rattle.std.specs.Str.{bytes_eq}
 use Rattle.std.proofs.lemmas.List.{map-append, length-map}
-use Rattle.rela_snapshot.specs.Names.{has_name, place_of, with_name}
+use Rattle.rela_snapshot.specs.Names.{AreTableNames, has_name, place_of, with_name}
+use Rattle.rela_snapshot.proofs.Distinct.{table_none}
 
 pub list_any-map : {X Y : Type 0} (p : Y → Bool) (f : X → Y) (xs : List X) → list_any (λ x. p (f x)) xs ≡ list_any p (map f xs)
 list_any-map p f [] = refl
@@ -34,3 +35,7 @@ with_name-keys names name keys new e f =
     by : (b : Bool) → b ≡ has_name names name.now → map (λ k. k.now) (cond b keys (keys ++ name ∷ [])) ≡ with_name names name.now
     by true h = e ∙ ap (λ b. cond b names (names ++ name.now ∷ [])) h
     by false h = map-append (λ (k : Bor (List ℕ)). k.now) keys (name ∷ []) ∙ ap (λ ns. ns ++ name.now ∷ []) e ∙ ap (λ b. cond b names (names ++ name.now ∷ [])) h
+
+pub table_empty : (keys : List (Bor (List ℕ))) → length keys ≡ 0 → AreTableNames (map (λ k. k.now) keys)
+table_empty [] none = table_none [] refl
+table_empty (k ∷ ks) none = absurd (omega (arith, none))

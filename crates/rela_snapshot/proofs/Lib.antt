@@ -1,3 +1,12 @@
-pub mod Keys
+pub mod Distinct
+pub mod FlowLaws
 pub mod Indexes
+pub mod Keys
 pub mod Kept
+pub mod Loops
+pub mod PairLaws
+pub mod PairLoops
+pub mod PartnerLaws
+pub mod Places
+pub mod SameClass
+pub mod StepLaws

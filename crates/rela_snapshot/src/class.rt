@@ -1,100 +1,195 @@
 //! What is said of a flow besides its graph: its name, its prefixes and its class.
 
-ghost use Rattle.std.specs.Prelude.{◌≡◌, IfOk};
+ghost use Rattle.std.specs.Prelude.{◌≡◌, ◌≢◌, ◌<◌, [], ◌∷◌, ◌++◌, Ok, Err, IfOk, IfErr, OnOk, length, option_map};
+ghost use Rattle.serde_json.specs.View.{view};
+ghost use Rattle.rela_snapshot.specs.Class as spec;
+ghost use Rattle.rela_snapshot.specs.Flows.{IsDst, IsSrc};
+ghost use Rattle.rela_snapshot.specs.Names.{AreDistinct};
+ghost use Rattle.rela_snapshot.specs.Steps.{IsAnswer};
 
+use crate::name_table::NameTable;
 use crate::parts::{part, string};
-use crate::version::{FlowRules, Version};
-use rela_flows::{Ipv4Prefix, Ipv6Prefix, Prefix};
+use crate::snapshot::MAX_FLOWS;
+use crate::version::{FlowRules, Version, flow_rules};
+use rela_flows::Prefix;
 use rela_json::{LoadError, Value};
-use rela_names::{Name, NameError, is_name};
+use rela_names::{Name, NameError};
 use std::alloc::Global;
 
 /// The name of a class that a file leaves out.
 const DEFAULT_CLASS: &[u8] = b"default";
 
-/// The bytes of a flow's name.
-pub(crate) fn read_name(value: &Value, rules: FlowRules, row: u32) -> Result<&[u8], LoadError> {
-    let name = string(part(value, "name", rules.flow, row)?, rules.name, row)?;
-    if !is_name(name) {
-        return Err(LoadError::BadName { row });
+/// The family of an address.
+#[derive(Clone, Copy, PartialEq, Eq, Debug)]
+pub(crate) enum Family {
+    Ipv4,
+    Ipv6,
+}
+
+/// The prefix of all IPv4 addresses.
+const ALL_IPV4: &[u8] = b"0.0.0.0/0";
+
+/// The prefix of all IPv6 addresses.
+const ALL_IPV6: &[u8] = b"::/0";
+
+/// The name of the next flow, which goes into the table, and which no earlier flow has.
+#[tactic(auto, unfolding(crate::specs::Class::flow_name_of, crate::specs::Class::new_name_of))]
+pub(crate) fn read_name<'a>(
+    alloc: Global,
+    names: &mut NameTable<'a>,
+    value: &'a Value,
+    rules: FlowRules,
+    row: u32,
+) -> Result<Name, LoadError>
+    requires few { length names.old < MAX_FLOWS }
+    ensures name { IfOk result (λ name. spec.new_name_of rules names.old row (view value.now) ≡ Ok name) }
+    ensures fault { IfErr result (λ e. e ≢ LoadError.Memory → spec.new_name_of rules names.old row (view value.now) ≡ Err e) }
+    ensures names { IfOk result (λ name. names.new ≡ names.old ++ name ∷ []) }
+    ensures distinct { OnOk result (AreDistinct names.new) }
+{
+    let bytes = string(part(value, "name", rules.flow, row)?, rules.name, row)?;
+    let name = name_of(alloc, bytes, row)?;
+    if !names.add(bytes)? {
+        return Err(LoadError::RepeatedEntry { row });
     }
     Ok(name)
 }
 
 /// Where a flow goes. Version 1 reads no IPv6 prefix.
-pub(crate) fn read_dst(
-    value: &Value,
-    version: Version,
-    rules: FlowRules,
-    row: u32,
-) -> Result<Prefix, LoadError> {
-    let text = string(part(value, "dst", rules.flow, row)?, rules.dst, row)?;
-    let dst = read_prefix(text, row)?;
-    if version == Version::One && !is_ipv4(&dst) {
-        return Err(LoadError::BadPrefix { row });
-    }
-    Ok(dst)
+pub(crate) fn read_dst(value: &Value, version: Version, row: u32) -> Result<Prefix, LoadError>
+    ensures { IsAnswer (IsDst version row (view value.now)) result }
+{
+    let text = dst_text(value, flow_rules(version), row)?;
+    prefix_of(text, family_in(version), row)
 }
 
 /// Where a flow comes from: a prefix of the family of `dst`, all of that family where none is given.
 pub(crate) fn read_src(
     value: &Value,
     dst: &Prefix,
-    rules: FlowRules,
+    version: Version,
     row: u32,
-) -> Result<Prefix, LoadError> {
-    let Some(src) = part(value, "src", rules.flow, row)? else {
-        return Ok(whole_family(dst));
+) -> Result<Prefix, LoadError>
+    ensures { IsAnswer (IsSrc version row dst.now (view value.now)) result }
+{
+    let family = family_of(dst);
+    let text = src_text(value, family, flow_rules(version), row)?;
+    prefix_of(text, Some(family), row)
+}
+
+#[tactic(auto, unfolding(crate::specs::Class::dst_text_of))]
+fn dst_text(value: &Value, rules: FlowRules, row: u32) -> Result<&[u8], LoadError>
+    ensures text { IfOk result (λ text. spec.dst_text_of rules row (view value.now) ≡ Ok text.now) }
+    ensures fault { IfErr result (λ e. spec.dst_text_of rules row (view value.now) ≡ Err e) }
+{
+    string(part(value, "dst", rules.flow, row)?, rules.dst, row)
+}
+
+#[tactic(auto, unfolding(crate::specs::Class::src_text_of))]
+fn src_text(value: &Value, family: Family, rules: FlowRules, row: u32) -> Result<&[u8], LoadError>
+    ensures text { IfOk result (λ text. spec.src_text_of rules row family (view value.now) ≡ Ok text.now) }
+    ensures fault { IfErr result (λ e. spec.src_text_of rules row family (view value.now) ≡ Err e) }
+{
+    match part(value, "src", rules.flow, row)? {
+        Some(src) => string(Some(src), rules.src, row),
+        None => Ok(whole_family(family)),
+    }
+}
+
+/// The prefix of all addresses of a family.
+fn whole_family(family: Family) -> &'static [u8]
+    ensures { result.now ≡ spec.whole_family family }
+{
+    match family {
+        Family::Ipv4 => ALL_IPV4,
+        Family::Ipv6 => ALL_IPV6,
+    }
+}
+
+/// The prefix that a text writes, of the family that is wanted, if one is.
+#[tactic(auto, unfolding(crate::specs::Class::IsPrefixOf))]
+fn prefix_of(text: &[u8], wanted: Option<Family>, row: u32) -> Result<Prefix, LoadError>
+    ensures { IsAnswer (spec.IsPrefixOf wanted row text.now) result }
+{
+    let Some(prefix) = Prefix::parse(text) else {
+        return Err(LoadError::BadPrefix { row });
     };
-    let src = read_prefix(string(Some(src), rules.src, row)?, row)?;
-    if is_ipv4(&src) != is_ipv4(dst) {
+    if !is_wanted(wanted, &prefix) {
         return Err(LoadError::BadPrefix { row });
     }
-    Ok(src)
+    Ok(prefix)
+}
+
+/// The family that a version holds alone, if it does.
+fn family_in(version: Version) -> Option<Family>
+    ensures { result ≡ spec.family_in version }
+{
+    match version {
+        Version::One => Some(Family::Ipv4),
+        Version::Two => None,
+    }
+}
+
+fn family_of(prefix: &Prefix) -> Family
+    ensures { result ≡ spec.family_of prefix.now }
+{
+    match prefix {
+        Prefix::V4(_) => Family::Ipv4,
+        Prefix::V6(_) => Family::Ipv6,
+    }
+}
+
+fn is_wanted(wanted: Option<Family>, prefix: &Prefix) -> bool
+    ensures { result ≡ spec.is_wanted wanted prefix.now }
+{
+    match (wanted, prefix) {
+        (None, _) => true,
+        (Some(Family::Ipv4), Prefix::V4(_)) => true,
+        (Some(Family::Ipv6), Prefix::V6(_)) => true,
+        (Some(_), _) => false,
+    }
 }
 
 /// How a flow is treated: the name of its class.
+#[tactic(auto, unfolding(crate::specs::Class::class_of))]
 pub(crate) fn read_class(
     alloc: Global,
     value: &Value,
     rules: FlowRules,
     row: u32,
-) -> Result<Name, LoadError> {
-    let Some(class) = part(value, "class", rules.flow, row)? else {
-        return name_of(alloc, DEFAULT_CLASS, row);
-    };
-    name_of(alloc, string(Some(class), rules.class, row)?, row)
+) -> Result<Name, LoadError>
+    ensures class { IfOk result (λ name. spec.class_of rules row (view value.now) ≡ Ok name) }
+    ensures fault { IfErr result (λ e. e ≢ LoadError.Memory → spec.class_of rules row (view value.now) ≡ Err e) }
+{
+    class_name(alloc, part(value, "class", rules.flow, row)?, rules, row)
+}
+
+#[tactic(auto, unfolding(crate::specs::Class::class_name_of))]
+fn class_name(
+    alloc: Global,
+    class: Option<&Value>,
+    rules: FlowRules,
+    row: u32,
+) -> Result<Name, LoadError>
+    ensures class { IfOk result (λ name. spec.class_name_of rules row (option_map (λ v. view v.now) class.entry) ≡ Ok name) }
+    ensures fault { IfErr result (λ e. e ≢ LoadError.Memory → spec.class_name_of rules row (option_map (λ v. view v.now) class.entry) ≡ Err e) }
+{
+    match class {
+        Some(class) => name_of(alloc, string(Some(class), rules.class, row)?, row),
+        None => name_of(alloc, DEFAULT_CLASS, row),
+    }
 }
 
 /// The name of these bytes.
+#[tactic(auto, unfolding(crate::specs::Class::name_of))]
 pub(crate) fn name_of(alloc: Global, bytes: &[u8], row: u32) -> Result<Name, LoadError>
-    ensures name { IfOk result (λ name. name ≡ bytes.now) }
+    ensures name { IfOk result (λ name. spec.name_of row bytes.now ≡ Ok name) }
+    ensures same { IfOk result (λ name. name ≡ bytes.now) }
+    ensures fault { IfErr result (λ e. e ≢ LoadError.Memory → spec.name_of row bytes.now ≡ Err e) }
 {
     match Name::from_bytes(alloc, bytes) {
         Ok(name) => Ok(name),
         Err(NameError::Memory) => Err(LoadError::Memory),
         Err(_) => Err(LoadError::BadName { row }),
-    }
-}
-
-fn read_prefix(text: &[u8], row: u32) -> Result<Prefix, LoadError> {
-    Prefix::parse(text).ok_or(LoadError::BadPrefix { row })
-}
-
-fn is_ipv4(prefix: &Prefix) -> bool {
-    matches!(prefix, Prefix::V4(_))
-}
-
-/// The prefix of all addresses of a prefix's family.
-fn whole_family(prefix: &Prefix) -> Prefix {
-    match prefix {
-        Prefix::V4(_) => Prefix::V4(Ipv4Prefix {
-            address: 0,
-            length: 0,
-        }),
-        Prefix::V6(_) => Prefix::V6(Ipv6Prefix {
-            address: 0,
-            length: 0,
-        }),
     }
 }

@@ -1,9 +1,11 @@
 //! A flow's graph as its file lists it.
 
-ghost use Rattle.std.specs.Prelude.{◌<◌, IfSome, IfOk, length};
+ghost use Rattle.std.specs.Prelude.{◌≡◌, ◌<◌, Ok, Err, IfOk, IfErr, IfSome, length};
+ghost use Rattle.rela_snapshot.specs.Names.{place_of};
 ghost use Rattle.rela_snapshot.specs.Listed.{IsGraphOf};
 ghost use Rattle.rela_names.specs.declared.level.Level.TheVariants.{Interface};
 ghost use Rattle.rela_snapshot.specs.Interfaces.{interfaces_in};
+ghost use Rattle.rela_snapshot.specs.Nodes as spec;
 ghost use Rattle.rela_snapshot.specs.Located.{StandsAt};
 
 use rela_graph::{Graph, Link, Node};
@@ -60,24 +62,43 @@ impl Listing {
     }
 }
 
-/// The node at the interface of this name.
-pub(crate) fn node_at(locations: &Locations, name: &[u8], row: u32) -> Result<Node, LoadError>
-    ensures { IfOk result (StandsAt (interfaces_in locations.now) Interface) }
+/// The symbol of the interface of this name.
+#[tactic(auto, unfolding(crate::specs::Interfaces::interfaces_in))]
+fn interface_at(locations: &Locations, name: &[u8]) -> Option<Symbol>
+    ensures place { result ≡ place_of (interfaces_in locations.now) name.now }
+    ensures within { IfSome result (λ symbol. symbol < length (interfaces_in locations.now)) }
 {
-    let interfaces = locations.alphabet(Level::Interface);
-    let Some(interface) = find(interfaces, name) else {
-        return Err(LoadError::UnknownLocation { row });
-    };
-    Ok(Node {
+    find(locations.alphabet(Level::Interface), name)
+}
+
+fn find(names: &Alphabet, name: &[u8]) -> Option<Symbol>
+    ensures place { result ≡ place_of names.now name.now }
+    ensures within { IfSome result (λ symbol. symbol < length names.now) }
+{
+    names.find(name)
+}
+
+/// The node at the interface of this name.
+#[tactic(auto, unfolding(crate::specs::Nodes::node_at))]
+pub(crate) fn node_at(locations: &Locations, name: &[u8], row: u32) -> Result<Node, LoadError>
+    ensures node { IfOk result (λ node. spec.node_at locations.now row name.now ≡ Ok node) }
+    ensures fault { IfErr result (λ e. spec.node_at locations.now row name.now ≡ Err e) }
+    ensures located { IfOk result (StandsAt (interfaces_in locations.now) Interface) }
+{
+    let interface = interface_at(locations, name).ok_or(LoadError::UnknownLocation { row })?;
+    Ok(node_in(locations, interface))
+}
+
+/// The node at this interface.
+#[tactic(auto, unfolding(crate::specs::Nodes::node_in, crate::specs::Interfaces::interfaces_in, crate::specs::Located::StandsAt))]
+fn node_in(locations: &Locations, interface: Symbol) -> Node
+    requires location { interface < length (interfaces_in locations.now) }
+    ensures node { result ≡ spec.node_in locations.now interface }
+    ensures located { StandsAt (interfaces_in locations.now) Interface result }
+{
+    Node {
         interface,
         device: locations.lift(interface, Level::Device),
         group: locations.lift(interface, Level::Group),
-    })
-}
-
-/// The interface of this name.
-fn find(interfaces: &Alphabet, name: &[u8]) -> Option<Symbol>
-    ensures { IfSome result (λ s. s < length interfaces.now) }
-{
-    interfaces.find(name)
+    }
 }

@@ -1,7 +1,7 @@
 //! Names in the order in which they came, found by a hash.
 
 ghost use Rattle.std.specs.Prelude.{◌≡◌, ◌<◌, ◌≤◌, [], length, not, OnErr, IfOk, OnOk, IfSome};
-ghost use Rattle.rela_snapshot.specs.Names.{has_name, place_of, with_name};
+ghost use Rattle.rela_snapshot.specs.Names.{AreDistinct, has_name, place_of, with_name};
 
 use indexmap::IndexSet;
 use rela_graph::MAX_NODES;
@@ -15,13 +15,14 @@ pub(crate) struct NameTable<'a> {
 }
 
 impl<'a> Model for NameTable<'a> {
-    ghost use Rattle.std.specs.Prelude.{List, ℕ, map, length, ◌≤◌};
+    ghost use Rattle.std.specs.Prelude.{List, ℕ, map};
+    ghost use Rattle.rela_snapshot.specs.Names.{AreTableNames};
 
     ghost Value = { List (List ℕ) };
 
     ghost view = { λ table. map (λ name. name.now) table.names.keys };
 
-    ghost invariant = { λ table. length table.names.keys ≤ 10000 };
+    ghost invariant = { λ table. AreTableNames (map (λ name. name.now) table.names.keys) };
 }
 
 impl<'a> NameTable<'a> {
@@ -38,9 +39,19 @@ impl<'a> NameTable<'a> {
         requires { length self.old < MAX_NODES }
         ensures added { IfOk result (λ is_new. is_new ≡ not (has_name self.old name.now)) }
         ensures names { OnOk result (self.new ≡ with_name self.old name.now) }
+        ensures distinct { OnOk result (AreDistinct self.new) }
     {
         let (_, is_new) = self.names.insert_full(name)?;
         Ok(is_new)
+    }
+
+    /// How many names there are.
+    pub(crate) fn len(&self) -> usize
+        ensures len { result ≡ length self.now }
+        ensures few { length self.now ≤ MAX_NODES }
+        ensures distinct { AreDistinct self.now }
+    {
+        self.names.len()
     }
 
     /// The place of a name.
@@ -48,6 +59,7 @@ impl<'a> NameTable<'a> {
         ensures place { result ≡ place_of self.now name.now }
         ensures within { IfSome result (λ place. place < length self.now) }
         ensures few { length self.now ≤ MAX_NODES }
+        ensures distinct { AreDistinct self.now }
     {
         let place = self.names.get_index_of(name)?;
         Some(place as u32)

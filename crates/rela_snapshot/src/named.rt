@@ -1,11 +1,15 @@
 //! The graph of a flow of version 2, whose nodes are named by ids of their own.
 
-ghost use Rattle.std.specs.Prelude.{◌≡◌, ◌+◌, ◌<◌, ◌≤◌, [], IfOk, OnOk, length, vec_len};
+ghost use Rattle.std.specs.Prelude.{◌≡◌, ◌≢◌, ◌<◌, ◌≤◌, [], ◌∷◌, ◌++◌, Ok, Err, IfOk, IfErr, OnOk, IsOkAnd, ◌+◌, length, map, option_map, vec_len};
 ghost use Rattle.std.specs.List.{All};
 ghost use Rattle.rela_graph.specs.Topology.{JoinsNodes};
 ghost use Rattle.rela_names.specs.declared.level.Level.TheVariants.{Interface};
 ghost use Rattle.rela_snapshot.specs.Interfaces.{interfaces_in};
 ghost use Rattle.rela_snapshot.specs.Located.{StandsAt};
+ghost use Rattle.rela_snapshot.specs.Named as spec;
+ghost use Rattle.rela_snapshot.specs.Named.{nodes_of};
+ghost use Rattle.serde_json.specs.View.{view};
+ghost use Rattle.rela_json.specs.Results.{try_map, try_fold};
 
 use crate::listing::{Listing, node_at};
 use crate::name_table::NameTable;
@@ -17,22 +21,25 @@ use rela_names::is_name;
 use std::alloc::Global;
 
 /// The graph of a flow.
+#[tactic(auto, unfolding(crate::specs::Named::named_of))]
 pub(crate) fn read_named(
     alloc: Global,
     locations: &Locations,
     value: &Value,
     row: u32,
 ) -> Result<Listing, LoadError>
+    ensures listed { IfOk result (λ listing. spec.named_of locations.now row (view value.now) ≡ Ok listing) }
+    ensures fault { IfErr result (λ e. e ≢ LoadError.Memory → spec.named_of locations.now row (view value.now) ≡ Err e) }
     ensures located { IfOk result (λ listing. All (StandsAt (interfaces_in locations.now) Interface) listing.nodes) }
 {
-    let nodes = few_entries(part(value, "nodes", 41, row)?, MAX_NODES, 46, row)?;
     let mut ids = NameTable::new(alloc);
-    let nodes = read_nodes(alloc, locations, &mut ids, nodes, row)?;
-    list_named(alloc, nodes, &ids, value, row)
+    let nodes = read_nodes(alloc, locations, &mut ids, value, row)?;
+    read_listing(alloc, nodes, &ids, value, row)
 }
 
-/// These nodes, of these ids, with what the flow lists of them.
-fn list_named(
+/// What a flow lists of these nodes, which have these ids.
+#[tactic(auto, unfolding(crate::specs::Named::named_listing_of))]
+fn read_listing(
     alloc: Global,
     nodes: Vec<Node>,
     ids: &NameTable<'_>,
@@ -40,17 +47,15 @@ fn list_named(
     row: u32,
 ) -> Result<Listing, LoadError>
     requires few { vec_len nodes ≤ MAX_NODES }
-    requires ids { length ids.now ≡ vec_len nodes }
+    requires one_each { length ids.now ≡ vec_len nodes }
+    ensures listed { IfOk result (λ listing. spec.named_listing_of (nodes_of ids.now nodes.items) row (view value.now) ≡ Ok listing) }
+    ensures fault { IfErr result (λ e. e ≢ LoadError.Memory → spec.named_listing_of (nodes_of ids.now nodes.items) row (view value.now) ≡ Err e) }
     ensures nodes { IfOk result (λ listing. listing.nodes ≡ nodes.items) }
 {
-    let edges = few_entries(part(value, "edges", 41, row)?, MAX_EDGES, 50, row)?;
-    let edges = read_edges(alloc, ids, edges, row)?;
-    let starts = part(value, "starts", 41, row)?;
-    let starts = read_places(alloc, ids, entries(starts, 52, row)?, 52, row)?;
-    let delivered = part(value, "delivered", 41, row)?;
-    let delivered = read_optional_places(alloc, ids, delivered, 53, row)?;
-    let dropped = part(value, "dropped", 41, row)?;
-    let dropped = read_optional_places(alloc, ids, dropped, 54, row)?;
+    let edges = read_edges(alloc, ids, value, row)?;
+    let starts = read_list(alloc, ids, value, "starts", 52, row)?;
+    let delivered = read_optional_list(alloc, ids, value, "delivered", 53, row)?;
+    let dropped = read_optional_list(alloc, ids, value, "dropped", 54, row)?;
     Ok(Listing {
         nodes,
         edges,
@@ -60,7 +65,28 @@ fn list_named(
     })
 }
 
+/// The nodes of a flow, whose ids go into the table.
+#[tactic(auto, unfolding(crate::specs::Named::named_nodes_of))]
 fn read_nodes<'a>(
+    alloc: Global,
+    locations: &Locations,
+    ids: &mut NameTable<'a>,
+    value: &'a Value,
+    row: u32,
+) -> Result<Vec<Node>, LoadError>
+    requires none { ids.old ≡ [] }
+    ensures nodes { IfOk result (λ nodes. spec.named_nodes_of locations.now row (view value.now) ≡ Ok (nodes_of ids.new nodes.items)) }
+    ensures fault { IfErr result (λ e. e ≢ LoadError.Memory → spec.named_nodes_of locations.now row (view value.now) ≡ Err e) }
+    ensures located { IfOk result (λ nodes. All (StandsAt (interfaces_in locations.now) Interface) nodes.items) }
+    ensures few { IfOk result (λ nodes. vec_len nodes ≤ MAX_NODES) }
+    ensures one_each { IfOk result (λ nodes. length ids.new ≡ vec_len nodes) }
+{
+    let entries = few_entries(part(value, "nodes", 41, row)?, MAX_NODES, 46, row)?;
+    nodes_of(alloc, locations, ids, entries, row)
+}
+
+/// The nodes of these entries.
+fn nodes_of<'a>(
     alloc: Global,
     locations: &Locations,
     ids: &mut NameTable<'a>,
@@ -69,28 +95,49 @@ fn read_nodes<'a>(
 ) -> Result<Vec<Node>, LoadError>
     requires none { ids.old ≡ [] }
     requires few { length values.now ≤ MAX_NODES }
+    ensures nodes { IfOk result (λ nodes. try_fold (spec.add_node locations.now row) (nodes_of [] []) (map view values.now) ≡ Ok (nodes_of ids.new nodes.items)) }
+    ensures fault { IfErr result (λ e. e ≢ LoadError.Memory → try_fold (spec.add_node locations.now row) (nodes_of [] []) (map view values.now) ≡ Err e) }
     ensures located { IfOk result (λ nodes. All (StandsAt (interfaces_in locations.now) Interface) nodes.items) }
     ensures len { IfOk result (λ nodes. vec_len nodes ≡ length values.now) }
     ensures ids { IfOk result (λ nodes. length ids.new ≡ vec_len nodes) }
 {
     let mut nodes = Vec::with_capacity(alloc, values.len())?;
     for value in values {
-        let node = read_node(locations, ids, value, row)?;
-        nodes.push(node)?;
+        add_node(locations, ids, &mut nodes, value, row)?;
     }
     Ok(nodes)
 }
 
-/// A node, whose id goes into the table.
-fn read_node<'a>(
+/// Adds a node, and its id to those of the nodes so far.
+#[tactic(auto, unfolding(crate::specs::Named::add_node))]
+fn add_node<'a>(
     locations: &Locations,
     ids: &mut NameTable<'a>,
+    nodes: &mut Vec<Node>,
     value: &'a Value,
     row: u32,
-) -> Result<Node, LoadError>
+) -> Result<(), LoadError>
     requires few { length ids.old < MAX_NODES }
-    ensures located { IfOk result (StandsAt (interfaces_in locations.now) Interface) }
-    ensures ids { OnOk result (length ids.new ≡ length ids.old + 1) }
+    requires one_each { length ids.old ≡ vec_len nodes.old }
+    requires located { All (StandsAt (interfaces_in locations.now) Interface) nodes.old.items }
+    ensures nodes { OnOk result (spec.add_node locations.now row (nodes_of ids.old nodes.old.items) (view value.now) ≡ Ok (nodes_of ids.new nodes.new.items)) }
+    ensures fault { IfErr result (λ e. e ≢ LoadError.Memory → spec.add_node locations.now row (nodes_of ids.old nodes.old.items) (view value.now) ≡ Err e) }
+    ensures one_each { OnOk result (length ids.new ≡ vec_len nodes.new) }
+    ensures one_more { OnOk result (vec_len nodes.new ≡ vec_len nodes.old + 1) }
+    ensures located { OnOk result (All (StandsAt (interfaces_in locations.now) Interface) nodes.new.items) }
+{
+    add_id(ids, value, row)?;
+    let node = read_node(locations, value, row)?;
+    nodes.push(node)?;
+    Ok(())
+}
+
+/// Adds the id of a node to those of the nodes so far.
+#[tactic(auto, unfolding(crate::specs::Named::id_of, crate::specs::Class::name_of))]
+fn add_id<'a>(ids: &mut NameTable<'a>, value: &'a Value, row: u32) -> Result<(), LoadError>
+    requires few { length ids.old < MAX_NODES }
+    ensures id { OnOk result (IsOkAnd (spec.id_of ids.old row (view value.now)) (λ id. ids.new ≡ ids.old ++ id ∷ [])) }
+    ensures fault { IfErr result (λ e. e ≢ LoadError.Memory → spec.id_of ids.old row (view value.now) ≡ Err e) }
 {
     let id = string(part(value, "id", 47, row)?, 48, row)?;
     if !is_name(id) {
@@ -99,16 +146,46 @@ fn read_node<'a>(
     if !ids.add(id)? {
         return Err(LoadError::RepeatedEntry { row });
     }
+    Ok(())
+}
+
+/// The node at the interface that a node's entry names.
+#[tactic(auto, unfolding(crate::specs::Named::at_of))]
+fn read_node(locations: &Locations, value: &Value, row: u32) -> Result<Node, LoadError>
+    ensures node { IfOk result (λ node. spec.at_of locations.now row (view value.now) ≡ Ok node) }
+    ensures fault { IfErr result (λ e. spec.at_of locations.now row (view value.now) ≡ Err e) }
+    ensures located { IfOk result (StandsAt (interfaces_in locations.now) Interface) }
+{
     let at = string(part(value, "at", 47, row)?, 49, row)?;
     node_at(locations, at, row)
 }
 
+/// The edges of a flow.
+#[tactic(auto, unfolding(crate::specs::Named::named_edges_of))]
 fn read_edges(
+    alloc: Global,
+    ids: &NameTable<'_>,
+    value: &Value,
+    row: u32,
+) -> Result<Vec<Link>, LoadError>
+    ensures edges { IfOk result (λ edges. spec.named_edges_of ids.now row (view value.now) ≡ Ok edges.items) }
+    ensures fault { IfErr result (λ e. e ≢ LoadError.Memory → spec.named_edges_of ids.now row (view value.now) ≡ Err e) }
+    ensures few { IfOk result (λ edges. vec_len edges ≤ MAX_EDGES) }
+    ensures join { IfOk result (λ edges. All (JoinsNodes (length ids.now)) edges.items) }
+{
+    let entries = few_entries(part(value, "edges", 41, row)?, MAX_EDGES, 50, row)?;
+    edges_of(alloc, ids, entries, row)
+}
+
+/// The edges of these entries.
+fn edges_of(
     alloc: Global,
     ids: &NameTable<'_>,
     values: &[Value],
     row: u32,
 ) -> Result<Vec<Link>, LoadError>
+    ensures edges { IfOk result (λ edges. try_map (spec.named_edge_of ids.now row) (map view values.now) ≡ Ok edges.items) }
+    ensures fault { IfErr result (λ e. e ≢ LoadError.Memory → try_map (spec.named_edge_of ids.now row) (map view values.now) ≡ Err e) }
     ensures len { IfOk result (λ edges. vec_len edges ≡ length values.now) }
     ensures join { IfOk result (λ edges. All (JoinsNodes (length ids.now)) edges.items) }
 {
@@ -120,41 +197,76 @@ fn read_edges(
     Ok(edges)
 }
 
+#[tactic(auto, unfolding(crate::specs::Named::named_edge_of))]
 fn read_edge(ids: &NameTable<'_>, value: &Value, row: u32) -> Result<Link, LoadError>
+    ensures edge { IfOk result (λ edge. spec.named_edge_of ids.now row (view value.now) ≡ Ok edge) }
+    ensures fault { IfErr result (λ e. spec.named_edge_of ids.now row (view value.now) ≡ Err e) }
     ensures joins { IfOk result (JoinsNodes (length ids.now)) }
 {
     let (from, to) = two_entries(value, 51, row)?;
     let from = string(Some(from), 51, row)?;
     let to = string(Some(to), 51, row)?;
-    Ok(Link {
-        a: place_of(ids, from, row)?,
-        b: place_of(ids, to, row)?,
-    })
+    let a = place_of(ids, from, row)?;
+    let b = place_of(ids, to, row)?;
+    Ok(Link { a, b })
 }
 
+#[tactic(auto, unfolding(crate::specs::Named::id_place_of))]
 fn place_of(ids: &NameTable<'_>, id: &[u8], row: u32) -> Result<u32, LoadError>
+    ensures place { IfOk result (λ place. spec.id_place_of ids.now row id.now ≡ Ok place) }
+    ensures fault { IfErr result (λ e. spec.id_place_of ids.now row id.now ≡ Err e) }
     ensures within { IfOk result (λ place. place < length ids.now) }
 {
     ids.place(id).ok_or(LoadError::UnknownNode { row })
 }
 
-fn read_places(
+#[tactic(auto, unfolding(crate::specs::Named::named_place_of))]
+fn read_place(ids: &NameTable<'_>, value: &Value, rule: u8, row: u32) -> Result<u32, LoadError>
+    ensures place { IfOk result (λ place. spec.named_place_of ids.now rule row (view value.now) ≡ Ok place) }
+    ensures fault { IfErr result (λ e. spec.named_place_of ids.now rule row (view value.now) ≡ Err e) }
+    ensures within { IfOk result (λ place. place < length ids.now) }
+{
+    place_of(ids, string(Some(value), rule, row)?, row)
+}
+
+/// The places of the nodes with these ids.
+fn places_of(
     alloc: Global,
     ids: &NameTable<'_>,
     values: &[Value],
     rule: u8,
     row: u32,
 ) -> Result<Vec<u32>, LoadError>
+    ensures places { IfOk result (λ places. try_map (spec.named_place_of ids.now rule row) (map view values.now) ≡ Ok places.items) }
+    ensures fault { IfErr result (λ e. e ≢ LoadError.Memory → try_map (spec.named_place_of ids.now rule row) (map view values.now) ≡ Err e) }
     ensures within { IfOk result (λ places. All (λ place. place < length ids.now) places.items) }
 {
     let mut places = Vec::with_capacity(alloc, values.len())?;
     for value in values {
-        let place = place_of(ids, string(Some(value), rule, row)?, row)?;
+        let place = read_place(ids, value, rule, row)?;
         places.push(place)?;
     }
     Ok(places)
 }
 
+/// The places that a list of ids gives.
+#[tactic(auto, unfolding(crate::specs::Named::named_places_of))]
+fn read_places(
+    alloc: Global,
+    ids: &NameTable<'_>,
+    value: Option<&Value>,
+    rule: u8,
+    row: u32,
+) -> Result<Vec<u32>, LoadError>
+    ensures places { IfOk result (λ places. spec.named_places_of ids.now rule row (option_map (λ v. view v.now) value.entry) ≡ Ok places.items) }
+    ensures fault { IfErr result (λ e. e ≢ LoadError.Memory → spec.named_places_of ids.now rule row (option_map (λ v. view v.now) value.entry) ≡ Err e) }
+    ensures within { IfOk result (λ places. All (λ place. place < length ids.now) places.items) }
+{
+    places_of(alloc, ids, entries(value, rule, row)?, rule, row)
+}
+
+/// The same of a list that may be missing.
+#[tactic(auto, unfolding(crate::specs::Named::optional_named_places_of))]
 fn read_optional_places(
     alloc: Global,
     ids: &NameTable<'_>,
@@ -162,10 +274,46 @@ fn read_optional_places(
     rule: u8,
     row: u32,
 ) -> Result<Vec<u32>, LoadError>
+    ensures places { IfOk result (λ places. spec.optional_named_places_of ids.now rule row (option_map (λ v. view v.now) value.entry) ≡ Ok places.items) }
+    ensures fault { IfErr result (λ e. e ≢ LoadError.Memory → spec.optional_named_places_of ids.now rule row (option_map (λ v. view v.now) value.entry) ≡ Err e) }
     ensures within { IfOk result (λ places. All (λ place. place < length ids.now) places.items) }
 {
     match value {
-        Some(value) => read_places(alloc, ids, entries(Some(value), rule, row)?, rule, row),
+        Some(value) => read_places(alloc, ids, Some(value), rule, row),
         None => Ok(Vec::new(alloc)),
     }
+}
+
+/// The nodes that a member of a flow lists, which has to be there.
+#[tactic(auto, unfolding(crate::specs::Named::named_list_of))]
+fn read_list(
+    alloc: Global,
+    ids: &NameTable<'_>,
+    value: &Value,
+    name: &str,
+    rule: u8,
+    row: u32,
+) -> Result<Vec<u32>, LoadError>
+    ensures places { IfOk result (λ places. spec.named_list_of name.now ids.now rule row (view value.now) ≡ Ok places.items) }
+    ensures fault { IfErr result (λ e. e ≢ LoadError.Memory → spec.named_list_of name.now ids.now rule row (view value.now) ≡ Err e) }
+    ensures within { IfOk result (λ places. All (λ place. place < length ids.now) places.items) }
+{
+    read_places(alloc, ids, part(value, name, 41, row)?, rule, row)
+}
+
+/// The same of a member that may be missing.
+#[tactic(auto, unfolding(crate::specs::Named::optional_named_list_of))]
+fn read_optional_list(
+    alloc: Global,
+    ids: &NameTable<'_>,
+    value: &Value,
+    name: &str,
+    rule: u8,
+    row: u32,
+) -> Result<Vec<u32>, LoadError>
+    ensures places { IfOk result (λ places. spec.optional_named_list_of name.now ids.now rule row (view value.now) ≡ Ok places.items) }
+    ensures fault { IfErr result (λ e. e ≢ LoadError.Memory → spec.optional_named_list_of name.now ids.now rule row (view value.now) ≡ Err e) }
+    ensures within { IfOk result (λ places. All (λ place. place < length ids.now) places.items) }
+{
+    read_optional_places(alloc, ids, part(value, name, 41, row)?, rule, row)
 }

@@ -1,11 +1,14 @@
 //! The graph of a flow of version 1, whose nodes are named by their places.
 
-ghost use Rattle.std.specs.Prelude.{◌≡◌, ◌<◌, ◌≤◌, IfOk, length, vec_len};
+ghost use Rattle.std.specs.Prelude.{◌≡◌, ◌≢◌, ◌<◌, ◌≤◌, Ok, Err, IfOk, IfErr, length, map, option_map, vec_len};
 ghost use Rattle.std.specs.List.{All};
 ghost use Rattle.rela_graph.specs.Topology.{JoinsNodes};
 ghost use Rattle.rela_names.specs.declared.level.Level.TheVariants.{Interface};
 ghost use Rattle.rela_snapshot.specs.Interfaces.{interfaces_in};
 ghost use Rattle.rela_snapshot.specs.Located.{StandsAt};
+ghost use Rattle.rela_snapshot.specs.Numbered as spec;
+ghost use Rattle.serde_json.specs.View.{view};
+ghost use Rattle.rela_json.specs.Results.{try_map};
 
 use crate::listing::{Listing, node_at};
 use crate::parts::{few_entries, part, string, two_entries, whole_number};
@@ -15,25 +18,23 @@ use rela_locations::Locations;
 use std::alloc::Global;
 
 /// The graph of a flow.
+#[tactic(auto, unfolding(crate::specs::Numbered::numbered_of))]
 pub(crate) fn read_numbered(
     alloc: Global,
     locations: &Locations,
     value: &Value,
     row: u32,
 ) -> Result<Listing, LoadError>
+    ensures listed { IfOk result (λ listing. spec.numbered_of locations.now row (view value.now) ≡ Ok listing) }
+    ensures fault { IfErr result (λ e. e ≢ LoadError.Memory → spec.numbered_of locations.now row (view value.now) ≡ Err e) }
     ensures located { IfOk result (λ listing. All (StandsAt (interfaces_in locations.now) Interface) listing.nodes) }
 {
-    let nodes = few_entries(part(value, "nodes", 24, row)?, MAX_NODES, 29, row)?;
-    let nodes = read_nodes(alloc, locations, nodes, row)?;
+    let nodes = read_nodes(alloc, locations, value, row)?;
     let count = nodes.len() as u32;
-    let edges = few_entries(part(value, "edges", 24, row)?, MAX_EDGES, 31, row)?;
-    let edges = read_edges(alloc, edges, count, row)?;
-    let starts = part(value, "starts", 24, row)?.ok_or(LoadError::WrongShape { rule: 33, row })?;
-    let starts = read_places(alloc, starts, count, 33, row)?;
-    let delivered = part(value, "delivered", 24, row)?;
-    let delivered = read_optional_places(alloc, delivered, count, 34, row)?;
-    let dropped = part(value, "dropped", 24, row)?;
-    let dropped = read_optional_places(alloc, dropped, count, 35, row)?;
+    let edges = read_edges(alloc, value, count, row)?;
+    let starts = read_list(alloc, value, "starts", count, 33, row)?;
+    let delivered = read_optional_list(alloc, value, "delivered", count, 34, row)?;
+    let dropped = read_optional_list(alloc, value, "dropped", count, 35, row)?;
     Ok(Listing {
         nodes,
         edges,
@@ -43,24 +44,68 @@ pub(crate) fn read_numbered(
     })
 }
 
+/// The nodes of a flow.
+#[tactic(auto, unfolding(crate::specs::Numbered::numbered_nodes_of))]
 fn read_nodes(
+    alloc: Global,
+    locations: &Locations,
+    value: &Value,
+    row: u32,
+) -> Result<Vec<Node>, LoadError>
+    ensures nodes { IfOk result (λ nodes. spec.numbered_nodes_of locations.now row (view value.now) ≡ Ok nodes.items) }
+    ensures fault { IfErr result (λ e. e ≢ LoadError.Memory → spec.numbered_nodes_of locations.now row (view value.now) ≡ Err e) }
+    ensures located { IfOk result (λ nodes. All (StandsAt (interfaces_in locations.now) Interface) nodes.items) }
+    ensures few { IfOk result (λ nodes. vec_len nodes ≤ MAX_NODES) }
+{
+    let entries = few_entries(part(value, "nodes", 24, row)?, MAX_NODES, 29, row)?;
+    nodes_of(alloc, locations, entries, row)
+}
+
+/// The nodes of these entries.
+fn nodes_of(
     alloc: Global,
     locations: &Locations,
     values: &[Value],
     row: u32,
 ) -> Result<Vec<Node>, LoadError>
+    ensures nodes { IfOk result (λ nodes. try_map (spec.node_of locations.now row) (map view values.now) ≡ Ok nodes.items) }
+    ensures fault { IfErr result (λ e. e ≢ LoadError.Memory → try_map (spec.node_of locations.now row) (map view values.now) ≡ Err e) }
     ensures located { IfOk result (λ nodes. All (StandsAt (interfaces_in locations.now) Interface) nodes.items) }
     ensures len { IfOk result (λ nodes. vec_len nodes ≡ length values.now) }
 {
     let mut nodes = Vec::with_capacity(alloc, values.len())?;
     for value in values {
-        let node = node_at(locations, string(Some(value), 30, row)?, row)?;
+        let node = read_node(locations, value, row)?;
         nodes.push(node)?;
     }
     Ok(nodes)
 }
 
-fn read_edges(alloc: Global, values: &[Value], count: u32, row: u32) -> Result<Vec<Link>, LoadError>
+#[tactic(auto, unfolding(crate::specs::Numbered::node_of))]
+fn read_node(locations: &Locations, value: &Value, row: u32) -> Result<Node, LoadError>
+    ensures node { IfOk result (λ node. spec.node_of locations.now row (view value.now) ≡ Ok node) }
+    ensures fault { IfErr result (λ e. spec.node_of locations.now row (view value.now) ≡ Err e) }
+    ensures located { IfOk result (StandsAt (interfaces_in locations.now) Interface) }
+{
+    node_at(locations, string(Some(value), 30, row)?, row)
+}
+
+/// The edges of a flow, among so many nodes.
+#[tactic(auto, unfolding(crate::specs::Numbered::numbered_edges_of))]
+fn read_edges(alloc: Global, value: &Value, count: u32, row: u32) -> Result<Vec<Link>, LoadError>
+    ensures edges { IfOk result (λ edges. spec.numbered_edges_of count row (view value.now) ≡ Ok edges.items) }
+    ensures fault { IfErr result (λ e. e ≢ LoadError.Memory → spec.numbered_edges_of count row (view value.now) ≡ Err e) }
+    ensures few { IfOk result (λ edges. vec_len edges ≤ MAX_EDGES) }
+    ensures join { IfOk result (λ edges. All (JoinsNodes count) edges.items) }
+{
+    let entries = few_entries(part(value, "edges", 24, row)?, MAX_EDGES, 31, row)?;
+    edges_of(alloc, entries, count, row)
+}
+
+/// The edges of these entries.
+fn edges_of(alloc: Global, values: &[Value], count: u32, row: u32) -> Result<Vec<Link>, LoadError>
+    ensures edges { IfOk result (λ edges. try_map (spec.edge_of count row) (map view values.now) ≡ Ok edges.items) }
+    ensures fault { IfErr result (λ e. e ≢ LoadError.Memory → try_map (spec.edge_of count row) (map view values.now) ≡ Err e) }
     ensures len { IfOk result (λ edges. vec_len edges ≡ length values.now) }
     ensures join { IfOk result (λ edges. All (JoinsNodes count) edges.items) }
 {
@@ -72,19 +117,24 @@ fn read_edges(alloc: Global, values: &[Value], count: u32, row: u32) -> Result<V
     Ok(edges)
 }
 
+#[tactic(auto, unfolding(crate::specs::Numbered::edge_of))]
 fn read_edge(value: &Value, count: u32, row: u32) -> Result<Link, LoadError>
+    ensures edge { IfOk result (λ edge. spec.edge_of count row (view value.now) ≡ Ok edge) }
+    ensures fault { IfErr result (λ e. spec.edge_of count row (view value.now) ≡ Err e) }
     ensures joins { IfOk result (JoinsNodes count) }
 {
     let (from, to) = two_entries(value, 32, row)?;
     let from = whole_number(Some(from), 32, row)?;
     let to = whole_number(Some(to), 32, row)?;
-    Ok(Link {
-        a: place_of(from, count, row)?,
-        b: place_of(to, count, row)?,
-    })
+    let a = place_of(from, count, row)?;
+    let b = place_of(to, count, row)?;
+    Ok(Link { a, b })
 }
 
+#[tactic(auto, unfolding(crate::specs::Numbered::index_in))]
 fn place_of(number: u64, count: u32, row: u32) -> Result<u32, LoadError>
+    ensures place { IfOk result (λ place. spec.index_in count row number ≡ Ok place) }
+    ensures fault { IfErr result (λ e. spec.index_in count row number ≡ Err e) }
     ensures within { IfOk result (λ place. place < count) }
 {
     if number < u64::from(count) {
@@ -94,6 +144,7 @@ fn place_of(number: u64, count: u32, row: u32) -> Result<u32, LoadError>
     }
 }
 
+#[tactic(auto, unfolding(crate::specs::Numbered::places_of))]
 fn read_places(
     alloc: Global,
     value: &Value,
@@ -101,6 +152,8 @@ fn read_places(
     rule: u8,
     row: u32,
 ) -> Result<Vec<u32>, LoadError>
+    ensures places { IfOk result (λ places. spec.places_of count rule row (view value.now) ≡ Ok places.items) }
+    ensures fault { IfErr result (λ e. e ≢ LoadError.Memory → spec.places_of count rule row (view value.now) ≡ Err e) }
     ensures within { IfOk result (λ places. All (λ place. place < count) places.items) }
 {
     match index_list(alloc, value, count) {
@@ -111,6 +164,7 @@ fn read_places(
     }
 }
 
+#[tactic(auto, unfolding(crate::specs::Numbered::optional_places_of))]
 fn read_optional_places(
     alloc: Global,
     value: Option<&Value>,
@@ -118,10 +172,47 @@ fn read_optional_places(
     rule: u8,
     row: u32,
 ) -> Result<Vec<u32>, LoadError>
+    ensures places { IfOk result (λ places. spec.optional_places_of count rule row (option_map (λ v. view v.now) value.entry) ≡ Ok places.items) }
+    ensures fault { IfErr result (λ e. e ≢ LoadError.Memory → spec.optional_places_of count rule row (option_map (λ v. view v.now) value.entry) ≡ Err e) }
     ensures within { IfOk result (λ places. All (λ place. place < count) places.items) }
 {
     match value {
         Some(value) => read_places(alloc, value, count, rule, row),
         None => Ok(Vec::new(alloc)),
     }
+}
+
+/// The nodes that a member of a flow lists, which has to be there.
+#[tactic(auto, unfolding(crate::specs::Numbered::list_of))]
+fn read_list(
+    alloc: Global,
+    value: &Value,
+    name: &str,
+    count: u32,
+    rule: u8,
+    row: u32,
+) -> Result<Vec<u32>, LoadError>
+    ensures places { IfOk result (λ places. spec.list_of name.now count rule row (view value.now) ≡ Ok places.items) }
+    ensures fault { IfErr result (λ e. e ≢ LoadError.Memory → spec.list_of name.now count rule row (view value.now) ≡ Err e) }
+    ensures within { IfOk result (λ places. All (λ place. place < count) places.items) }
+{
+    let list = part(value, name, 24, row)?.ok_or(LoadError::WrongShape { rule, row })?;
+    read_places(alloc, list, count, rule, row)
+}
+
+/// The same of a member that may be missing.
+#[tactic(auto, unfolding(crate::specs::Numbered::optional_list_of))]
+fn read_optional_list(
+    alloc: Global,
+    value: &Value,
+    name: &str,
+    count: u32,
+    rule: u8,
+    row: u32,
+) -> Result<Vec<u32>, LoadError>
+    ensures places { IfOk result (λ places. spec.optional_list_of name.now count rule row (view value.now) ≡ Ok places.items) }
+    ensures fault { IfErr result (λ e. e ≢ LoadError.Memory → spec.optional_list_of name.now count rule row (view value.now) ≡ Err e) }
+    ensures within { IfOk result (λ places. All (λ place. place < count) places.items) }
+{
+    read_optional_places(alloc, part(value, name, 24, row)?, count, rule, row)
 }

@@ -1,9 +1,16 @@
 //! The flows of two snapshots side by side.
 
-ghost use Rattle.std.specs.Prelude.{◌≡◌, ◌<◌, ◌≤◌, ◌+◌, ℕ, List, [], All, IsNone, IfSome, IfOk, OnOk, length, vec_len};
+ghost use Rattle.std.specs.Prelude.{◌≡◌, ◌≢◌, ◌<◌, ◌≤◌, ◌+◌, ℕ, List, [], ◌∷◌, ◌++◌, All, Some, IsNone, IfSome, Ok, Err, IfOk, IfErr, OnOk, length, map, vec_len};
 ghost use Rattle.rela_names.specs.declared.level.Level.{Level};
 ghost use Rattle.rela_snapshot.specs.Located.{IsLocated, AreLocated};
+ghost use Rattle.rela_snapshot.specs.Names.{AreDistinct, place_of};
+ghost use Rattle.rela_snapshot.specs.Pair as spec;
+ghost use Rattle.rela_snapshot.specs.Pair.{Agrees, AgreesWith, Pairing, flow_named, flows_without, no_nodes};
+ghost use Rattle.rela_snapshot.specs.Partners.{IsDifference, with_flow};
 ghost use Rattle.rela_snapshot.specs.PairsLocated.{IsPairLocated, ArePairsLocated, AreFoundLocated};
+ghost use Rattle.rela_snapshot.specs.SnapshotFlows.{AreSnapshotFlows};
+ghost use Rattle.rela_snapshot.specs.SnapshotFlows as snapshot_flows;
+ghost use Rattle.rela_snapshot.specs.Steps.{IsAnswer};
 
 use crate::name_table::NameTable;
 use crate::snapshot::{Flow, MAX_FLOWS, Snapshot};
@@ -74,6 +81,8 @@ struct Partners {
 /// `FlowDiffers` for the first flow of `before` that differs from that of its name in `after`;
 /// `Memory`. Both snapshots are spent.
 pub fn pair(alloc: Global, before: Snapshot, after: Snapshot) -> Result<Vec<FlowPair>, PairError>
+    ensures pairs { IfOk result (λ pairs. IsAnswer (Pairing before after) (Ok pairs.items)) }
+    ensures differs { IfErr result (λ e. e ≢ PairError.Memory → IsAnswer (Pairing before after) (Err e)) }
     ensures located { (names : List (List ℕ)) (level : Level) → AreLocated names level before → AreLocated names level after →
         IfOk result (λ pairs. ArePairsLocated names level pairs.items) }
 {
@@ -90,8 +99,10 @@ fn find_partners(
     before: &Vec<Flow>,
     mut after: Vec<Flow>,
 ) -> Result<Partners, AllocError>
-    requires few { vec_len before.now ≤ MAX_FLOWS }
-    ensures len { IfOk result (λ partners. vec_len partners.found ≡ vec_len before.now) }
+    requires before { AreSnapshotFlows before.now.items }
+    requires after { AreDistinct (snapshot_flows.names_of after.items) }
+    ensures found { IfOk result (λ partners. partners.found.items ≡ map (λ flow. flow_named flow.class.name after.items) before.now.items) }
+    ensures others { IfOk result (λ partners. partners.others.items ≡ flows_without (snapshot_flows.names_of before.now.items) after.items) }
     ensures located { (names : List (List ℕ)) (level : Level) → AreLocated names level after.items →
         IfOk result (λ partners. AreFoundLocated names level partners.found.items × AreLocated names level partners.others.items) }
 {
@@ -110,6 +121,8 @@ fn find_partners(
 /// The names of the flows, in order.
 fn names_of<'a>(alloc: Global, flows: &'a [Flow]) -> Result<NameTable<'a>, AllocError>
     requires few { length flows.now ≤ MAX_FLOWS }
+    requires distinct { AreDistinct (snapshot_flows.names_of flows.now) }
+    ensures names { IfOk result (λ names. names ≡ snapshot_flows.names_of flows.now) }
     ensures len { IfOk result (λ names. length names ≤ length flows.now) }
 {
     let mut names = NameTable::new(alloc);
@@ -133,6 +146,8 @@ fn no_flows(alloc: Global, count: usize) -> Result<Vec<Option<Flow>>, AllocError
 /// Puts a flow to the flow of its name, or to the others.
 fn put(names: &NameTable<'_>, partners: &mut Partners, flow: Flow) -> Result<(), AllocError>
     requires room { length names.now ≤ vec_len partners.old.found }
+    ensures found { OnOk result (partners.new.found.items ≡ with_flow partners.old.found.items (place_of names.now flow.class.name) flow) }
+    ensures others { OnOk result (partners.new.others.items ≡ partners.old.others.items ++ flows_without names.now (flow ∷ [])) }
     ensures len { vec_len partners.new.found ≡ vec_len partners.old.found }
     ensures located { (names : List (List ℕ)) (level : Level) → IsLocated names level flow.graph →
         AreFoundLocated names level partners.old.found.items → AreLocated names level partners.old.others.items →
@@ -152,6 +167,10 @@ fn pair_found(
     mut found: Vec<Option<Flow>>,
 ) -> Result<Vec<FlowPair>, PairError>
     requires few { vec_len before ≤ MAX_FLOWS }
+    ensures pairs { (after : List Flow) → found.items ≡ map (λ flow. flow_named flow.class.name after) before.items →
+        IfOk result (λ pairs. All (Agrees after) before.items × (pairs.items ≡ map (spec.pair_before after) before.items)) }
+    ensures differs { (after : List Flow) → found.items ≡ map (λ flow. flow_named flow.class.name after) before.items →
+        IfErr result (λ e. e ≢ PairError.Memory → Pairing before.items after (Err e)) }
     ensures located { (names : List (List ℕ)) (level : Level) → AreLocated names level before.items →
         AreFoundLocated names level found.items → IfOk result (λ pairs. ArePairsLocated names level pairs.items) }
 {
@@ -173,6 +192,9 @@ fn pair_of(
     before: Flow,
     partner: Option<Flow>,
 ) -> Result<FlowPair, PairError>
+    ensures pair { IfOk result (λ pair. pair ≡ spec.pair_with partner before) }
+    ensures agrees { OnOk result (AgreesWith partner before) }
+    ensures differs { IfErr result (λ e. e ≢ PairError.Memory → IsDifference row before partner e) }
     ensures located { (names : List (List ℕ)) (level : Level) → IsLocated names level before.graph →
         IfSome partner (λ flow. IsLocated names level flow.graph) → IfOk result (IsPairLocated names level) }
 {
@@ -203,6 +225,7 @@ fn pair_others(
     pairs: &mut Vec<FlowPair>,
     mut others: Vec<Flow>,
 ) -> Result<(), AllocError>
+    ensures pairs { OnOk result (pairs.new.items ≡ pairs.old.items ++ map spec.pair_after others.items) }
     ensures located { (names : List (List ℕ)) (level : Level) → AreLocated names level others.items →
         ArePairsLocated names level pairs.old.items → OnOk result (ArePairsLocated names level pairs.new.items) }
 {
@@ -216,6 +239,7 @@ fn pair_others(
 
 /// The pair of a flow that only the second snapshot has.
 fn pair_alone(alloc: Global, flow: Flow) -> Result<FlowPair, AllocError>
+    ensures pair { IfOk result (λ pair. pair ≡ spec.pair_after flow) }
     ensures located { (names : List (List ℕ)) (level : Level) → IsLocated names level flow.graph →
         IfOk result (IsPairLocated names level) }
 {
@@ -228,7 +252,9 @@ fn pair_alone(alloc: Global, flow: Flow) -> Result<FlowPair, AllocError>
 
 /// The graph without nodes.
 fn no_graph(alloc: Global) -> Result<Graph, AllocError>
-    ensures { IfOk result (λ graph. graph.nodes ≡ []) }
+    ensures { IfOk result (λ graph. graph ≡ no_nodes) }
 {
-    Graph::new(alloc, Vec::new(alloc), &[], &[], &[], &[])
+    let graph = Graph::new(alloc, Vec::new(alloc), &[], &[], &[], &[])?;
+    prove!(graph.nodes().is_empty());
+    Ok(graph)
 }

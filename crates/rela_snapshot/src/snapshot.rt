@@ -1,9 +1,14 @@
 //! A snapshot: the flows of a network, and how each is forwarded.
 
-ghost use Rattle.std.specs.Prelude.{◌≡◌, ◌<◌, ◌≤◌, IfOk, Some, option_map, length, slice_get, vec_len};
+ghost use Rattle.std.specs.Prelude.{◌≡◌, ◌≢◌, ◌<◌, ◌≤◌, List, Ok, Err, IfOk, IfErr, Some, option_map, length, slice_get};
 ghost use Rattle.rela_names.specs.declared.level.Level.TheVariants.{Interface};
 ghost use Rattle.rela_locations.specs.Network.{alphabet_of};
+ghost use Rattle.rela_snapshot.specs.FlowEntry.{ListedFlow};
+ghost use Rattle.rela_snapshot.specs.Flows.{AreFlowsOf};
+ghost use Rattle.rela_snapshot.specs.Load.{Load};
 ghost use Rattle.rela_snapshot.specs.Located.{AreLocated};
+ghost use Rattle.rela_snapshot.specs.SnapshotFlows.{AreSnapshotFlows};
+ghost use Rattle.rela_snapshot.specs.Steps.{IsAnswer};
 
 use crate::walk::read_snapshot;
 use rela_flows::FlowClass;
@@ -30,25 +35,34 @@ pub struct Snapshot {
 }
 
 impl Model for Snapshot {
-    ghost use Rattle.std.specs.Prelude.{List, length, ◌≤◌};
+    ghost use Rattle.std.specs.Prelude.{List};
     ghost use Rattle.rela_snapshot.specs.declared.snapshot.Flow.{Flow};
 
     ghost Value = { List Flow };
 
     ghost view = { λ snapshot. snapshot.flows.items };
 
-    ghost invariant = { λ snapshot. length snapshot.flows.items ≤ 10000 };
+    ghost use Rattle.rela_snapshot.specs.SnapshotFlows.{AreSnapshotFlows};
+
+    ghost invariant = { λ snapshot. AreSnapshotFlows snapshot.flows.items };
 }
 
 impl Snapshot {
-    /// The flows that a file in JSON lists.
+    /// The flows that a file in JSON lists, whose nodes stand at interfaces of these locations. The
+    /// walk reads the version, and then of each flow in order its name, its prefixes, its class,
+    /// its nodes, its edges and its lists of nodes. The first fault is the answer.
     ///
     /// # Errors
     ///
-    /// `NotJson`; else the first fault of a walk of the file, with its row; `Memory`.
+    /// `NotJson`; `BadVersion` where the version is neither 1 nor 2; `WrongShape` where a part is
+    /// missing or of another kind than its rule wants; with the flow's row `TooMany`, `BadName`,
+    /// `BadPrefix`, `UnknownLocation`, `RepeatedEntry` for a flow's name or a node's id that an
+    /// earlier one has, `BadIndex` and `UnknownNode` for what names no node of the flow; `Memory`.
     #[tactic(auto, unfolding(crate::specs::Interfaces::interfaces_in))]
     pub fn decode(alloc: Global, bytes: &[u8], locations: &Locations) -> Result<Snapshot, LoadError>
         requires { length bytes.now ≤ 33554432 }
+        ensures load { IfOk result (λ snapshot. (listed : List ListedFlow) × IsAnswer (Load locations.now bytes.now) (Ok listed) × AreFlowsOf listed snapshot) }
+        ensures fault { IfErr result (λ e. e ≢ LoadError.Memory → IsAnswer (Load locations.now bytes.now) (Err e)) }
         ensures located { IfOk result (λ snapshot. AreLocated (alphabet_of Interface locations.now) Interface snapshot) }
     {
         let root = read(alloc, bytes)?;
@@ -59,7 +73,7 @@ impl Snapshot {
     /// The flows, to be moved on.
     pub(crate) fn into_flows(self) -> Vec<Flow>
         ensures flows { result.items ≡ self }
-        ensures few { vec_len result ≤ MAX_FLOWS }
+        ensures held { AreSnapshotFlows result.items }
     {
         let Snapshot { flows } = self;
         flows

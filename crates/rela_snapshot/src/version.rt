@@ -1,5 +1,8 @@
 //! The versions of the format, and how the rules of each are numbered.
 
+ghost use Rattle.std.specs.Prelude.{◌≡◌};
+ghost use Rattle.rela_snapshot.specs.Version as spec;
+
 use rela_json::LoadError;
 
 /// A version of the format. The first names nodes by their places in the flow's list and holds IPv4
@@ -26,7 +29,9 @@ pub(crate) struct FlowRules {
 /// # Errors
 ///
 /// `BadVersion` where there is none.
-pub(crate) fn version_of(number: u64) -> Result<Version, LoadError> {
+pub(crate) fn version_of(number: u64) -> Result<Version, LoadError>
+    ensures { result ≡ spec.version_of number }
+{
     match number {
         1 => Ok(Version::One),
         2 => Ok(Version::Two),
@@ -35,7 +40,9 @@ pub(crate) fn version_of(number: u64) -> Result<Version, LoadError> {
 }
 
 /// The rules for the parts of a flow.
-pub(crate) fn flow_rules(version: Version) -> FlowRules {
+pub(crate) fn flow_rules(version: Version) -> FlowRules
+    ensures { result ≡ spec.flow_rules version }
+{
     match version {
         Version::One => FlowRules {
             flow: 24,

@@ -1,12 +1,20 @@
 //! The walk of the file: its version, and then its flows in order. The first fault is the answer.
 
-ghost use Rattle.std.specs.Prelude.{◌≡◌, ◌<◌, ◌≤◌, IfOk, OnOk, length, map, vec_len};
+ghost use Rattle.std.specs.Prelude.{◌≡◌, ◌≢◌, ◌<◌, ◌≤◌, [], ◌∷◌, ◌++◌, List, Ok, Err, IfOk, IfErr, OnOk, length, map, vec_len};
 ghost use Rattle.std.specs.List.{All};
 ghost use Rattle.rela_names.specs.declared.level.Level.TheVariants.{Interface};
+ghost use Rattle.serde_json.specs.View.{view};
+ghost use Rattle.rela_snapshot.specs.Contents.{contents_of};
+ghost use Rattle.rela_snapshot.specs.FlowEntry.{ListedFlow, graph_of, next_name_of};
+ghost use Rattle.rela_snapshot.specs.Flows.{AreFlows, AreFlowsOf, IsFlow, IsFlowNamed, IsFlowOf};
 ghost use Rattle.rela_snapshot.specs.Interfaces.{interfaces_in};
-ghost use Rattle.rela_snapshot.specs.Located.{AreLocated, StandsAt};
+ghost use Rattle.rela_snapshot.specs.Listed.{Listed, IsGraphOf};
+ghost use Rattle.rela_snapshot.specs.Load.{IsSnapshot};
+ghost use Rattle.rela_snapshot.specs.Located.{AreLocated, IsLocated, StandsAt};
+ghost use Rattle.rela_snapshot.specs.Names.{AreDistinct};
+ghost use Rattle.rela_snapshot.specs.Steps.{IsAnswer};
 
-use crate::class::{name_of, read_class, read_dst, read_name, read_src};
+use crate::class::{read_class, read_dst, read_name, read_src};
 use crate::listing::Listing;
 use crate::name_table::NameTable;
 use crate::named::read_named;
@@ -15,8 +23,10 @@ use crate::parts::{entries, part, whole_number};
 use crate::snapshot::{Flow, MAX_FLOWS};
 use crate::version::{Version, flow_rules, version_of};
 use rela_flows::FlowClass;
+use rela_graph::Graph;
 use rela_json::{LoadError, Value};
 use rela_locations::Locations;
+use rela_names::Name;
 use std::alloc::Global;
 
 /// The flows of a file.
@@ -25,13 +35,26 @@ pub(crate) fn read_snapshot(
     locations: &Locations,
     root: &Value,
 ) -> Result<Vec<Flow>, LoadError>
+    ensures flows { IfOk result (λ flows. (listed : List ListedFlow) × IsAnswer (IsSnapshot locations.now (view root.now)) (Ok listed) × AreFlowsOf listed flows.items) }
+    ensures fault { IfErr result (λ e. e ≢ LoadError.Memory → IsAnswer (IsSnapshot locations.now (view root.now)) (Err e)) }
     ensures located { IfOk result (λ flows. AreLocated (interfaces_in locations.now) Interface flows.items) }
     ensures few { IfOk result (λ flows. vec_len flows ≤ MAX_FLOWS) }
+    ensures distinct { IfOk result (λ flows. AreDistinct (map (λ flow. flow.class.name) flows.items)) }
+{
+    let (version, values) = read_contents(root)?;
+    read_flows(alloc, locations, version, values)
+}
+
+/// The version, and the entries of the flows.
+#[tactic(auto, unfolding(crate::specs::Contents::contents_of))]
+fn read_contents(root: &Value) -> Result<(Version, &[Value]), LoadError>
+    ensures contents { IfOk result (λ contents. contents_of (view root.now) ≡ Ok (contents.0, map view contents.1.now)) }
+    ensures fault { IfErr result (λ e. contents_of (view root.now) ≡ Err e) }
 {
     let version = part(root, "version", 21, 0)?;
     let version = version_of(whole_number(version, 22, 0)?)?;
     let flows = entries(part(root, "flows", 21, 0)?, 23, 0)?;
-    read_flows(alloc, locations, version, flows)
+    Ok((version, flows))
 }
 
 fn read_flows(
@@ -40,72 +63,109 @@ fn read_flows(
     version: Version,
     values: &[Value],
 ) -> Result<Vec<Flow>, LoadError>
+    ensures flows { IfOk result (λ flows. (listed : List ListedFlow) × IsAnswer (AreFlows locations.now version [] (map view values.now)) (Ok listed) × AreFlowsOf listed flows.items) }
+    ensures fault { IfErr result (λ e. e ≢ LoadError.Memory → IsAnswer (AreFlows locations.now version [] (map view values.now)) (Err e)) }
     ensures located { IfOk result (λ flows. AreLocated (interfaces_in locations.now) Interface flows.items) }
     ensures few { IfOk result (λ flows. vec_len flows ≤ MAX_FLOWS) }
+    ensures distinct { IfOk result (λ flows. AreDistinct (map (λ flow. flow.class.name) flows.items)) }
 {
     let mut names = NameTable::new(alloc);
     let mut flows = Vec::new(alloc);
     for value in values {
-        add_flow(alloc, locations, version, &mut names, &mut flows, value)?;
+        let flow = read_flow(alloc, locations, version, &mut names, value)?;
+        flows.push(flow)?;
     }
     Ok(flows)
 }
 
-/// Adds the next flow, and its name to those of the flows so far.
-fn add_flow<'a>(
+/// The next flow, whose name goes to those of the flows so far.
+fn read_flow<'a>(
     alloc: Global,
     locations: &Locations,
     version: Version,
     names: &mut NameTable<'a>,
-    flows: &mut Vec<Flow>,
     value: &'a Value,
-) -> Result<(), LoadError>
-    requires names { names.old ≡ map (λ flow. flow.class.name) flows.old.items }
-    requires located { AreLocated (interfaces_in locations.now) Interface flows.old.items }
-    ensures names { OnOk result (names.new ≡ map (λ flow. flow.class.name) flows.new.items) }
-    ensures located { OnOk result (AreLocated (interfaces_in locations.now) Interface flows.new.items) }
-    ensures few { OnOk result (vec_len flows.new ≤ MAX_FLOWS) }
+) -> Result<Flow, LoadError>
+    ensures flow { IfOk result (λ flow. (listed : ListedFlow) × IsAnswer (IsFlow locations.now version names.old (view value.now)) (Ok listed) × IsFlowOf listed flow) }
+    ensures fault { IfErr result (λ e. e ≢ LoadError.Memory → IsAnswer (IsFlow locations.now version names.old (view value.now)) (Err e)) }
+    ensures names { IfOk result (λ flow. names.new ≡ names.old ++ flow.class.name ∷ []) }
+    ensures distinct { OnOk result (AreDistinct names.new) }
+    ensures few { OnOk result (length names.old < MAX_FLOWS) }
+    ensures located { IfOk result (λ flow. IsLocated (interfaces_in locations.now) Interface flow.graph) }
 {
-    if flows.len() >= MAX_FLOWS {
+    let row = names.len() as u32;
+    let name = read_next_name(alloc, version, names, value, row)?;
+    read_flow_named(alloc, locations, version, name, value, row)
+}
+
+/// The name of the next flow, which goes to those of the flows so far.
+#[tactic(auto, unfolding(crate::specs::FlowEntry::next_name_of))]
+fn read_next_name<'a>(
+    alloc: Global,
+    version: Version,
+    names: &mut NameTable<'a>,
+    value: &'a Value,
+    row: u32,
+) -> Result<Name, LoadError>
+    requires row { row ≡ length names.old }
+    ensures name { IfOk result (λ name. next_name_of version names.old (view value.now) ≡ Ok name) }
+    ensures fault { IfErr result (λ e. e ≢ LoadError.Memory → next_name_of version names.old (view value.now) ≡ Err e) }
+    ensures names { IfOk result (λ name. names.new ≡ names.old ++ name ∷ []) }
+    ensures distinct { OnOk result (AreDistinct names.new) }
+    ensures few { OnOk result (length names.old < MAX_FLOWS) }
+{
+    if row as usize >= MAX_FLOWS {
         return Err(LoadError::TooMany {
             row: MAX_FLOWS as u32,
         });
     }
-    let row = flows.len() as u32;
-    let name = read_name(value, flow_rules(version), row)?;
-    if !names.add(name)? {
-        return Err(LoadError::RepeatedEntry { row });
-    }
-    let class = read_flow_class(alloc, version, name, value, row)?;
-    let listing = read_listing(alloc, locations, version, value, row)?;
-    let graph = listing.into_graph(alloc)?;
-    flows.push(Flow { class, graph })?;
-    Ok(())
+    read_name(alloc, names, value, flow_rules(version), row)
 }
 
-/// What is said of the flow of this name, besides its graph.
-fn read_flow_class(
+/// The flow of this name.
+fn read_flow_named(
     alloc: Global,
+    locations: &Locations,
     version: Version,
-    name: &[u8],
+    name: Name,
     value: &Value,
     row: u32,
-) -> Result<FlowClass, LoadError>
-    ensures name { IfOk result (λ class. class.name ≡ name.now) }
+) -> Result<Flow, LoadError>
+    ensures flow { IfOk result (λ flow. (listed : ListedFlow) × IsAnswer (IsFlowNamed locations.now version row name (view value.now)) (Ok listed) × IsFlowOf listed flow) }
+    ensures fault { IfErr result (λ e. e ≢ LoadError.Memory → IsAnswer (IsFlowNamed locations.now version row name (view value.now)) (Err e)) }
+    ensures name { IfOk result (λ flow. flow.class.name ≡ name) }
+    ensures located { IfOk result (λ flow. IsLocated (interfaces_in locations.now) Interface flow.graph) }
 {
-    let rules = flow_rules(version);
-    let dst = read_dst(value, version, rules, row)?;
-    let src = read_src(value, &dst, rules, row)?;
-    let class = read_class(alloc, value, rules, row)?;
-    let name = name_of(alloc, name, row)?;
-    Ok(FlowClass {
+    let dst = read_dst(value, version, row)?;
+    let src = read_src(value, &dst, version, row)?;
+    let class = read_class(alloc, value, flow_rules(version), row)?;
+    let graph = read_graph(alloc, locations, version, value, row)?;
+    let class = FlowClass {
         name,
         dst,
         src,
         class,
-    })
+    };
+    Ok(Flow { class, graph })
 }
 
+/// The graph of a flow.
+fn read_graph(
+    alloc: Global,
+    locations: &Locations,
+    version: Version,
+    value: &Value,
+    row: u32,
+) -> Result<Graph, LoadError>
+    ensures graph { IfOk result (λ graph. (listed : Listed) × (graph_of locations.now version row (view value.now) ≡ Ok listed) × IsGraphOf listed graph) }
+    ensures fault { IfErr result (λ e. e ≢ LoadError.Memory → graph_of locations.now version row (view value.now) ≡ Err e) }
+    ensures located { IfOk result (IsLocated (interfaces_in locations.now) Interface) }
+{
+    let listing = read_listing(alloc, locations, version, value, row)?;
+    Ok(listing.into_graph(alloc)?)
+}
+
+#[tactic(auto, unfolding(crate::specs::FlowEntry::graph_of))]
 fn read_listing(
     alloc: Global,
     locations: &Locations,
@@ -113,6 +173,8 @@ fn read_listing(
     value: &Value,
     row: u32,
 ) -> Result<Listing, LoadError>
+    ensures listed { IfOk result (λ listing. graph_of locations.now version row (view value.now) ≡ Ok listing) }
+    ensures fault { IfErr result (λ e. e ≢ LoadError.Memory → graph_of locations.now version row (view value.now) ≡ Err e) }
     ensures located { IfOk result (λ listing. All (StandsAt (interfaces_in locations.now) Interface) listing.nodes) }
 {
     match version {

@@ -1,5 +1,8 @@
-use Rattle.rela_snapshot.proofs.Kept.{IfSome-found}
+use Rattle.rela_snapshot.proofs.Places.{is_place, found_within}
 use Rattle.rela_snapshot.proofs.listing.find.Goals as goal
 
-pub returns : goal.returns
-returns c = IfSome-found c.find.result c.args.interfaces.now c.args.name.now c.find.ensures.found
+pub returns-clause-place : goal.returns-clause-place
+returns-clause-place c = is_place _ _ _ c.find.ensures.found
+
+pub returns-clause-within : goal.returns-clause-within
+returns-clause-within c = found_within _ _ _ c.find.ensures.found

@@ -1,12 +1,18 @@
-use Rattle.std.proofs.Common.{◌≡◌, ◌≤◌, map, vec_len}
+use Rattle.std.proofs.Common.{◌≡◌, ◌≤◌, drop, length, map}
+use Rattle.serde_json.specs.View.{view}
 use Rattle.rela_names.specs.declared.level.Level.TheVariants.{Interface}
 use Rattle.rela_snapshot.specs.Interfaces.{interfaces_in}
 use Rattle.rela_snapshot.specs.Located.{AreLocated}
+use Rattle.rela_snapshot.specs.Names.{AreDistinct}
+use Rattle.rela_snapshot.specs.SnapshotFlows.{names_of}
+use Rattle.rela_snapshot.proofs.FlowLaws.{AreRead}
 use Rattle.rela_snapshot.proofs.walk.read_flows.Given as goal
 
 abbrev pub invariant-loop-value : goal.invariant-loop-value
 invariant-loop-value l = record {
-  names : l.names ≡ map (λ flow. flow.class.name) l.flows.items;
-  few : vec_len l.flows ≤ 10000;
+  read : AreRead l.locations l.version (map view l.values) (map view (drop l.value-index l.values)) l.flows.items;
+  names : l.names ≡ names_of l.flows.items;
+  few : length l.names ≤ 10000;
+  distinct : AreDistinct l.names;
   located : AreLocated (interfaces_in l.locations) Interface l.flows.items;
 }

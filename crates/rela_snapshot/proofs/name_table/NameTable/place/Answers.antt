@@ -1,4 +1,4 @@
-use Rattle.std.proofs.Common.{◌≡◌, ◌∙◌, sym, None}
+use Rattle.std.proofs.Common.{◌∙◌}
 use Rattle.rela_snapshot.proofs.Keys.{place_of-keys}
 use Rattle.rela_snapshot.proofs.name_table.NameTable.place.Goals as goal
 
