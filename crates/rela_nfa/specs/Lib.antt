@@ -1,3 +1,4 @@
 pub mod Automaton
+pub mod Construction
 pub mod Runs
 pub mod Stored
