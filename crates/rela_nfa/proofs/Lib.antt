@@ -1,3 +1,4 @@
 pub mod Reaching
 pub mod Moves
 pub mod Parts
+pub mod Unions
