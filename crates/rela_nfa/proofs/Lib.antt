@@ -2,3 +2,4 @@ pub mod Reaching
 pub mod Moves
 pub mod Parts
 pub mod Unions
+pub mod Edges

@@ -1,16 +1,19 @@
 -- What the union of two automata reaches and accepts.
 use Rattle.std.proofs.Common.{◌≡◌, ℕ, ◌+◌, ◌<◌, ◌≤◌, ◌⊎◌, ◌↔◌, Bool, true, false, List, [], ◌∷◌, ◌++◌, length, get_or, map, Option, None, Some, refl, sym, ap, ◌∙◌, subst, inl, inr, arith, length-append}
-use Rattle.std.specs.List.{Contains}
+use Rattle.std.specs.List.{All, Contains}
+use Rattle.std.proofs.lemmas.List.Elements.{All-nil, All-cons, All-append}
 use Rattle.std.specs.Option.{option_to_list}
-use Rattle.rela_nfa.specs.Automaton.{Automaton, IsAutomaton, IsFinal, moves_of, states}
+use Rattle.rela_nfa.specs.Automaton.{Automaton, Move, IsMove, IsAutomaton, IsFinal, moves_of, states}
 use Rattle.rela_nfa.specs.Runs.{StepIn, HasStep, Reach, Accepts}
 use Rattle.rela_nfa.specs.Construction.{silent, copied}
 use Rattle.rela_nfa.proofs.Moves.{silent_step, silent_step_only, Contains-cons_cases, Contains-nil}
-use Rattle.rela_nfa.proofs.Parts.{IsPart, part_at, part_last, part_step, part_cases, get_or_block, get_or_last, leads_to_state, state_of_reach, length-copied}
+use Rattle.rela_nfa.proofs.Parts.{IsPart, part_at, part_last, part_step, part_cases, get_or_block, get_or_last, leads_to_state, state_of_reach, length-copied, copied_ok, silents_ok}
 use Rattle.rela_nfa.proofs.Reaching.{reach_start, reach_step, reach_silent, reach_each, reach_renamed}
 
 -- a start of its own, from which the starts of both are entered, and then the states of both
 pub record IsUnion (a b r : Automaton) : Type 0 where
+  pub letters : r.letters ≡ a.letters
+  pub same_letters : b.letters ≡ a.letters
   pub start : r.start ≡ 0
   pub edges : r.edges ≡ map silent ((1 + a.start) ∷ (1 + states a + b.start) ∷ []) ∷ [] ++ copied a 1 None ++ copied b (1 + states a) None
   pub finals : r.finals ≡ false ∷ [] ++ a.finals ++ b.finals
@@ -70,6 +73,32 @@ module _ (a b r : Automaton) (ok_a : IsAutomaton a) (ok_b : IsAutomaton b) (buil
 
   only : (q : ℕ) (w : List ℕ) → Reach r q w → At q w
   only = reach_each r At kept (inl (built.start, refl))
+
+  pub union_states : states r ≡ 1 + states a + states b
+  union_states = omega (arith, ap length built.finals, length-append (false ∷ [] ++ a.finals) b.finals, length-append (false ∷ []) a.finals)
+
+  pub union_ok : IsAutomaton r
+  union_ok = record {
+    each =
+        omega (arith, union_states, ap length built.edges, length-append (map silent Ends ∷ [] ++ copied a 1 None) (copied b (1 + states a) None),
+        length-append (map silent Ends ∷ []) (copied a 1 None), length-copied a 1 None, length-copied b (1 + states a) None);
+    starts = omega (arith, union_states, built.start);
+    moves =
+        let Fits' : List Move → Type 0 = All (IsMove r.letters (states r)) in
+        let entry : Fits' (map silent Ends) =
+            silents_ok r.letters (states r) Ends
+            (All-cons (λ t. t < states r) (1 + a.start) ((1 + states a + b.start) ∷ []) (omega (arith, union_states, ok_a.starts))
+            (All-cons (λ t. t < states r) (1 + states a + b.start) [] (omega (arith, union_states, ok_b.starts)) (All-nil (λ t. t < states r)))) in
+        let first : All Fits' (copied a 1 None) =
+            subst (λ n. All (All (IsMove n (states r))) (copied a 1 None)) (sym built.letters)
+            (copied_ok a 1 None (states r) ok_a (omega (arith, union_states)) (λ t never. cc)) in
+        let second : All Fits' (copied b (1 + states a) None) =
+            subst (λ n. All (All (IsMove n (states r))) (copied b (1 + states a) None)) (built.same_letters ∙ sym built.letters)
+            (copied_ok b (1 + states a) None (states r) ok_b (omega (arith, union_states)) (λ t never. cc)) in
+        subst (λ l. All Fits' l) (sym built.edges)
+        (All-append Fits' (map silent Ends ∷ [] ++ copied a 1 None) (copied b (1 + states a) None)
+        (All-append Fits' (map silent Ends ∷ []) (copied a 1 None) (All-cons Fits' (map silent Ends) [] entry (All-nil Fits')) first) second);
+  }
 
   pub union_start : (w : List ℕ) → Reach r 0 w ↔ (w ≡ [])
   union_start w = (λ reach. elim (only 0 w reach) [

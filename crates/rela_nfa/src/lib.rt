@@ -1,8 +1,10 @@
 //! Finite automata with silent edges: the regular languages and their operations.
 #![tactic(auto)]
 
+mod copying;
 mod edge;
 mod nfa;
+mod operations;
 
 pub use edge::Edge;
 pub use nfa::Nfa;
