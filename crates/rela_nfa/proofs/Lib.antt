@@ -3,3 +3,5 @@ pub mod Moves
 pub mod Parts
 pub mod Unions
 pub mod Edges
+pub mod Concats
+pub mod Stars

@@ -1,4 +1,5 @@
 pub mod Automaton
 pub mod Construction
+pub mod Languages
 pub mod Runs
 pub mod Stored
