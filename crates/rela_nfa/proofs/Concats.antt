@@ -37,17 +37,23 @@ module _ (a b r : Automaton) (ok_a : IsAutomaton a) (ok_b : IsAutomaton b) (buil
   pub concat_ok : IsAutomaton r
   concat_ok = record {
     each =
-        omega (arith, concat_states, ap length built.edges, length-append (copied a 0 (Some Exit)) (copied b (states a) None), length-copied a 0 (Some Exit),
-        length-copied b (states a) None);
+        omega (
+          arith,
+          concat_states,
+          ap length built.edges,
+          length-append (copied a 0 (Some Exit)) (copied b (states a) None),
+          length-copied a 0 (Some Exit),
+          length-copied b (states a) None,
+        );
     starts = omega (arith, concat_states, built.start, ok_a.starts);
     moves =
         let Fits' : List Move → Type 0 = All (IsMove r.letters (states r)) in
         let first : All Fits' (copied a 0 (Some Exit)) =
-            subst (λ n. All (All (IsMove n (states r))) (copied a 0 (Some Exit))) (sym built.letters)
-            (copied_ok a 0 (Some Exit) (states r) ok_a (omega (arith, concat_states)) (λ t is. let same : Exit ≡ t = cc in omega (arith, concat_states, ok_b.starts))) in
+        subst (λ n. All (All (IsMove n (states r))) (copied a 0 (Some Exit))) (sym built.letters)
+        (copied_ok a 0 (Some Exit) (states r) ok_a (omega (arith, concat_states)) (λ t is. let same : Exit ≡ t = cc in omega (arith, concat_states, ok_b.starts))) in
         let second : All Fits' (copied b (states a) None) =
-            subst (λ n. All (All (IsMove n (states r))) (copied b (states a) None)) (built.same_letters ∙ sym built.letters)
-            (copied_ok b (states a) None (states r) ok_b (omega (arith, concat_states)) (λ t never. cc)) in
+        subst (λ n. All (All (IsMove n (states r))) (copied b (states a) None)) (built.same_letters ∙ sym built.letters)
+        (copied_ok b (states a) None (states r) ok_b (omega (arith, concat_states)) (λ t never. cc)) in
         subst (λ l. All Fits' l) (sym built.edges) (All-append Fits' (copied a 0 (Some Exit)) (copied b (states a) None) first second);
   }
 
@@ -58,22 +64,31 @@ module _ (a b r : Automaton) (ok_a : IsAutomaton a) (ok_b : IsAutomaton b) (buil
   kept : (p q : ℕ) (letter : Option ℕ) (w : List ℕ) → Reach r p w → At p w → HasStep r p letter q → At q (w ++ option_to_list letter)
   kept p q letter w reach at step = elim at [
     | inl first ↦ elim (part_cases a r 0 (Some Exit) ok_a first_part p q letter first.0 (subst (λ n. HasStep r n letter q) (sym (zero-add p)) step)) [
-        | inl own ↦
-            let same : own.0 ≡ q = omega (arith, own.1) in
-            inl (subst (λ n. (n < states a) × Reach a n (w ++ option_to_list letter)) same
-            (leads_to_state a ok_a p own.0 letter own.2, reach_step a p own.0 letter w first.1 own.2))
-        | inr leaves ↦
-            let same : Exit ≡ q = let exits = leaves.2 in cc in
-            inr (b.start, ok_b.starts, same, (w, [], ap (λ o. w ++ option_to_list o) (sym leaves.1), (p, first.1, leaves.0), reach_start b))
-      ]
+      | inl own ↦
+          let same : own.0 ≡ q = omega (arith, own.1) in
+          inl (subst (λ n. (n < states a) × Reach a n (w ++ option_to_list letter)) same
+          (leads_to_state a ok_a p own.0 letter own.2, reach_step a p own.0 letter w first.1 own.2))
+      | inr leaves ↦
+          let same : Exit ≡ q = let exits = leaves.2 in cc in
+          inr (b.start, ok_b.starts, same, (w, [], ap (λ o. w ++ option_to_list o) (sym leaves.1), (p, first.1, leaves.0), reach_start b))
+    ]
     | inr second ↦ elim (part_cases b r (states a) None ok_b second_part second.0 q letter second.1 (subst (λ n. HasStep r n letter q) (sym second.2) step)) [
-        | inl own ↦
-            let split = second.3 in
-            inr (own.0, leads_to_state b ok_b second.0 own.0 letter own.2, own.1,
-            (split.0, split.1 ++ option_to_list letter, sym (append_assoc split.0 split.1 (option_to_list letter)) ∙ ap (λ v. v ++ option_to_list letter) split.2, split.3,
-            reach_step b second.0 own.0 letter split.1 split.4 own.2))
-        | inr leaves ↦ let never = leaves.2 in cc
-      ]
+      | inl own ↦
+          let split = second.3 in
+          inr (
+            own.0,
+            leads_to_state b ok_b second.0 own.0 letter own.2,
+            own.1,
+            (
+              split.0,
+              split.1 ++ option_to_list letter,
+              sym (append_assoc split.0 split.1 (option_to_list letter)) ∙ ap (λ v. v ++ option_to_list letter) split.2,
+              split.3,
+              reach_step b second.0 own.0 letter split.1 split.4 own.2,
+            ),
+          )
+      | inr leaves ↦ let never = leaves.2 in cc
+    ]
   ]
 
   only : (q : ℕ) (w : List ℕ) → Reach r q w → At q w
@@ -83,13 +98,13 @@ module _ (a b r : Automaton) (ok_a : IsAutomaton a) (ok_b : IsAutomaton b) (buil
   in_first =
       reach_renamed a r (λ n. n)
       (λ p q letter step.
-        subst (λ n. HasStep r n letter q) (zero-add p) (subst (λ n. HasStep r (0 + p) letter n) (zero-add q) (part_step a r 0 (Some Exit) ok_a first_part p q letter step)))
+      subst (λ n. HasStep r n letter q) (zero-add p) (subst (λ n. HasStep r (0 + p) letter n) (zero-add q) (part_step a r 0 (Some Exit) ok_a first_part p q letter step)))
       [] (subst (λ n. Reach r n []) built.start (reach_start r))
 
   in_second : (q : ℕ) (w : List ℕ) → Joins (Accepts a) (Reach b q) w → Reach r (states a + q) w
   in_second q w (front, back, joined, (p, reach, final), after) =
       let exit : HasStep r p None Exit =
-          subst (λ n. HasStep r n None Exit) (zero-add p) (part_exit a r 0 (Some Exit) ok_a first_part p Exit (state_of_reach a ok_a p front reach) final refl) in
+      subst (λ n. HasStep r n None Exit) (zero-add p) (part_exit a r 0 (Some Exit) ok_a first_part p Exit (state_of_reach a ok_a p front reach) final refl) in
       subst (λ v. Reach r (states a + q) v) joined
       (reach_renamed b r (λ n. states a + n) (part_step b r (states a) None ok_b second_part) front (reach_silent r p Exit front (in_first p front reach) exit) q back after)
 
@@ -97,10 +112,13 @@ module _ (a b r : Automaton) (ok_a : IsAutomaton a) (ok_b : IsAutomaton b) (buil
   concat_first q w below = (λ reach. elim (only q w reach) [ inl first ↦ first.1 | inr second ↦ absurd (omega (arith, second.2)) ], in_first q w)
 
   pub concat_second : (q : ℕ) (w : List ℕ) → Reach r (states a + q) w ↔ Joins (Accepts a) (Reach b q) w
-  concat_second q w = (λ reach. elim (only (states a + q) w reach) [
-    | inl first ↦ absurd (omega (arith, first.0))
-    | inr second ↦ let same : second.0 ≡ q = omega (arith, second.2) in subst (λ n. Joins (Accepts a) (Reach b n) w) same second.3
-  ], in_second q w)
+  concat_second q w = (
+    λ reach. elim (only (states a + q) w reach) [
+      | inl first ↦ absurd (omega (arith, first.0))
+      | inr second ↦ let same : second.0 ≡ q = omega (arith, second.2) in subst (λ n. Joins (Accepts a) (Reach b n) w) same second.3
+    ],
+    in_second q w,
+  )
 
   first_not_final : (q : ℕ) → q < states a → IsFinal r q → ⊥
   first_not_final q below final =
@@ -112,9 +130,12 @@ module _ (a b r : Automaton) (ok_a : IsAutomaton a) (ok_b : IsAutomaton b) (buil
   second_final q = ap (λ l. get_or l (states a + q) false) built.finals ∙ get_or_last (replicate (states a) false) b.finals (states a) q false (length-replicate (states a) false)
 
   pub concat_language : (w : List ℕ) → Accepts r w ↔ Joins (Accepts a) (Accepts b) w
-  concat_language w = (λ (q, reach, final). elim (only q w reach) [
-    | inl first ↦ absurd (first_not_final q first.0 final)
-    | inr second ↦
-        let split = second.3 in
-        (split.0, split.1, split.2, split.3, (second.0, split.4, sym (second_final second.0) ∙ ap (λ n. get_or r.finals n false) second.2 ∙ final))
-  ], λ (front, back, joined, first, (q, reach, final)). (states a + q, in_second q w (front, back, joined, first, reach), second_final q ∙ final))
+  concat_language w = (
+    λ (q, reach, final). elim (only q w reach) [
+      | inl first ↦ absurd (first_not_final q first.0 final)
+      | inr second ↦
+          let split = second.3 in
+          (split.0, split.1, split.2, split.3, (second.0, split.4, sym (second_final second.0) ∙ ap (λ n. get_or r.finals n false) second.2 ∙ final))
+    ],
+    λ (front, back, joined, first, (q, reach, final)). (states a + q, in_second q w (front, back, joined, first, reach), second_final q ∙ final),
+  )

@@ -5,3 +5,4 @@ pub mod Unions
 pub mod Edges
 pub mod Concats
 pub mod Stars
+pub mod Chains

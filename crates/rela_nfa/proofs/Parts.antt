@@ -77,12 +77,12 @@ pub copied_ok : (a : Automaton) (by : ℕ) (exit : Option ℕ) (n : ℕ) → IsA
 copied_ok a by exit n ok room within =
     All-map (All (IsMove a.letters n)) (leaving a by exit) (range_with_len 0 (states a)) (λ k d below. one (get_or (range_with_len 0 (states a)) k d))
   where
-  one : (p : ℕ) → All (IsMove a.letters n) (leaving a by exit p)
-  one p =
-      All-append (IsMove a.letters n) (map (shifted by) (moves_of a p)) (cond (get_or a.finals p false) (map silent (option_to_list exit)) [])
-      (All-map (IsMove a.letters n) (shifted by) (moves_of a p)
-      (All-weaker (IsMove a.letters (states a)) (λ m. IsMove a.letters n (shifted by m)) (λ m is. record { sized = is.sized; leads = omega (arith, is.leads) }) (moves_of a p) (moves_ok a ok p)))
-      (cond_both (get_or a.finals p false) _ _ (All (IsMove a.letters n)) (λ _. silent_ok a.letters n exit within) (λ _. All-nil (IsMove a.letters n)))
+    one : (p : ℕ) → All (IsMove a.letters n) (leaving a by exit p)
+    one p =
+        All-append (IsMove a.letters n) (map (shifted by) (moves_of a p)) (cond (get_or a.finals p false) (map silent (option_to_list exit)) [])
+        (All-map (IsMove a.letters n) (shifted by) (moves_of a p)
+        (All-weaker (IsMove a.letters (states a)) (λ m. IsMove a.letters n (shifted by m)) (λ m is. record { sized = is.sized; leads = omega (arith, is.leads) }) (moves_of a p) (moves_ok a ok p)))
+        (cond_both (get_or a.finals p false) _ _ (All (IsMove a.letters n)) (λ _. silent_ok a.letters n exit within) (λ _. All-nil (IsMove a.letters n)))
 
 pub leaving_with_exit : (a : Automaton) (by q t : ℕ) → IsFinal a q → leaving a by (Some t) q ≡ map (shifted by) (moves_of a q) ++ silent t ∷ []
 leaving_with_exit a by q t final = ap (λ b. map (shifted by) (moves_of a q) ++ cond b (silent t ∷ []) []) final
@@ -123,13 +123,13 @@ module _ (a r : Automaton) (by : ℕ) (exit : Option ℕ) (ok : IsAutomaton a) (
       elim (step_cases (map (shifted by) (moves_of a p)) (cond (get_or a.finals p false) out []) letter q (subst (λ l. StepIn l letter q) (part.standing p below) step)) [
         | inl own ↦ inl (shifted_step_back by (moves_of a p) letter q own)
         | inr leaves ↦ elim (cases_Bool (get_or a.finals p false)) [
-            | inl final ↦
-                let only = silent_step_only (option_to_list exit) letter q (subst (λ b. StepIn (cond b out []) letter q) final leaves) in
-                inr (final, only.0, only_exit exit q only.1)
-            | inr other ↦ absurd (no_step letter q (subst (λ b. StepIn (cond b out []) letter q) other leaves))
-          ]
+          | inl final ↦
+              let only = silent_step_only (option_to_list exit) letter q (subst (λ b. StepIn (cond b out []) letter q) final leaves) in
+              inr (final, only.0, only_exit exit q only.1)
+          | inr other ↦ absurd (no_step letter q (subst (λ b. StepIn (cond b out []) letter q) other leaves))
+        ]
       ]
     where
-    only_exit : (o : Option ℕ) (q : ℕ) → Contains (option_to_list o) q → o ≡ Some q
-    only_exit None q c = absurd (Contains-nil q c)
-    only_exit (Some t) q c = elim (Contains-cons_cases t [] q c) [ inl same ↦ ap Some same | inr other ↦ absurd (Contains-nil q other) ]
+      only_exit : (o : Option ℕ) (q : ℕ) → Contains (option_to_list o) q → o ≡ Some q
+      only_exit None q c = absurd (Contains-nil q c)
+      only_exit (Some t) q c = elim (Contains-cons_cases t [] q c) [ inl same ↦ ap Some same | inr other ↦ absurd (Contains-nil q other) ]

@@ -56,10 +56,10 @@ module _ (a r : Automaton) (ok_a : IsAutomaton a) (built : IsStar a r) where
         let Fits' : List Move → Type 0 = All (IsMove r.letters (states r)) in
         let in_range : Entry < states r = omega (arith, star_states, ok_a.starts) in
         let entry : Fits' (map silent (Entry ∷ [])) =
-            silents_ok r.letters (states r) (Entry ∷ []) (All-cons (λ t. t < states r) Entry [] in_range (All-nil (λ t. t < states r))) in
+        silents_ok r.letters (states r) (Entry ∷ []) (All-cons (λ t. t < states r) Entry [] in_range (All-nil (λ t. t < states r))) in
         let copies : All Fits' (copied a 1 (Some Entry)) =
-            subst (λ n. All (All (IsMove n (states r))) (copied a 1 (Some Entry))) (sym built.letters)
-            (copied_ok a 1 (Some Entry) (states r) ok_a (omega (arith, star_states)) (λ t is. let same : Entry ≡ t = cc in omega (arith, in_range))) in
+        subst (λ n. All (All (IsMove n (states r))) (copied a 1 (Some Entry))) (sym built.letters)
+        (copied_ok a 1 (Some Entry) (states r) ok_a (omega (arith, star_states)) (λ t is. let same : Entry ≡ t = cc in omega (arith, in_range))) in
         subst (λ l. All Fits' l) (sym built.edges)
         (All-append Fits' (map silent (Entry ∷ []) ∷ []) (copied a 1 (Some Entry)) (All-cons Fits' (map silent (Entry ∷ [])) [] entry (All-nil Fits')) copies);
   }
@@ -73,11 +73,13 @@ module _ (a r : Automaton) (ok_a : IsAutomaton a) (built : IsStar a r) where
 
   from_start : (q : ℕ) (letter : Option ℕ) → HasStep r 0 letter q → (letter ≡ None) × At q []
   from_start q letter step =
-      let only = silent_step_only (Entry ∷ []) letter q (subst (λ l. StepIn l letter q) start_moves step) in
-      (only.0, elim (Contains-cons_cases Entry [] q only.1) [
-        | inl here ↦ subst (λ n. At n []) here (enters [] ([], All-nil (Accepts a), refl))
-        | inr none ↦ absurd (Contains-nil q none)
-      ])
+      let only = silent_step_only (Entry ∷ []) letter q (subst (λ l. StepIn l letter q) start_moves step) in (
+        only.0,
+        elim (Contains-cons_cases Entry [] q only.1) [
+          | inl here ↦ subst (λ n. At n []) here (enters [] ([], All-nil (Accepts a), refl))
+          | inr none ↦ absurd (Contains-nil q none)
+        ],
+      )
 
   kept : (p q : ℕ) (letter : Option ℕ) (w : List ℕ) → Reach r p w → At p w → HasStep r p letter q → At q (w ++ option_to_list letter)
   kept p q letter w reach at step = elim at [
@@ -88,13 +90,22 @@ module _ (a r : Automaton) (ok_a : IsAutomaton a) (built : IsStar a r) where
         let split = copy.3 in
         elim (part_cases a r 1 (Some Entry) ok_a part copy.0 q letter copy.1 (subst (λ n. HasStep r n letter q) (sym copy.2) step)) [
           | inl own ↦
-              inr (own.0, leads_to_state a ok_a copy.0 own.0 letter own.2, own.1,
-              (split.0, split.1 ++ option_to_list letter, sym (append_assoc split.0 split.1 (option_to_list letter)) ∙ ap (λ v. v ++ option_to_list letter) split.2, split.3,
-              reach_step a copy.0 own.0 letter split.1 split.4 own.2))
+              inr (
+                own.0,
+                leads_to_state a ok_a copy.0 own.0 letter own.2,
+                own.1,
+                (
+                  split.0,
+                  split.1 ++ option_to_list letter,
+                  sym (append_assoc split.0 split.1 (option_to_list letter)) ∙ ap (λ v. v ++ option_to_list letter) split.2,
+                  split.3,
+                  reach_step a copy.0 own.0 letter split.1 split.4 own.2,
+                ),
+              )
           | inr leaves ↦
               let same : Entry ≡ q = let exits = leaves.2 in cc in
               let repeats : Repeats (Accepts a) w =
-                  subst (Repeats (Accepts a)) split.2 (repeats_push (Accepts a) split.0 split.1 split.3 (copy.0, split.4, leaves.0)) in
+              subst (Repeats (Accepts a)) split.2 (repeats_push (Accepts a) split.0 split.1 split.3 (copy.0, split.4, leaves.0)) in
               subst (λ n. At n (w ++ option_to_list letter)) same (subst (λ v. At Entry v) (sym (append-nil w) ∙ ap (λ o. w ++ option_to_list o) (sym leaves.1)) (enters w repeats))
         ]
   ]
@@ -121,11 +132,14 @@ module _ (a r : Automaton) (ok_a : IsAutomaton a) (built : IsStar a r) where
   star_start w = (λ reach. elim (only 0 w reach) [ inl start ↦ start.1 | inr copy ↦ absurd (omega (arith, copy.2)) ], λ empty. subst (λ v. Reach r 0 v) (sym empty) at_start)
 
   pub star_copies : (q : ℕ) (w : List ℕ) → Reach r (1 + q) w ↔ Joins (Repeats (Accepts a)) (Reach a q) w
-  star_copies q w = (λ reach. elim (only (1 + q) w reach) [
-    | inl start ↦ absurd (omega (arith, start.0))
-    | inr copy ↦ let same : copy.0 ≡ q = omega (arith, copy.2) in subst (λ n. Joins (Repeats (Accepts a)) (Reach a n) w) same copy.3
-  ], λ (front, back, joined, (pieces, each, repeats), reads).
-    subst (λ v. Reach r (1 + q) v) joined (along front (subst (λ v. Reach r Entry v) repeats (repeated [] pieces at_entry each)) q back reads))
+  star_copies q w = (
+    λ reach. elim (only (1 + q) w reach) [
+      | inl start ↦ absurd (omega (arith, start.0))
+      | inr copy ↦ let same : copy.0 ≡ q = omega (arith, copy.2) in subst (λ n. Joins (Repeats (Accepts a)) (Reach a n) w) same copy.3
+    ],
+    λ (front, back, joined, (pieces, each, repeats), reads).
+        subst (λ v. Reach r (1 + q) v) joined (along front (subst (λ v. Reach r Entry v) repeats (repeated [] pieces at_entry each)) q back reads),
+  )
 
   copy_final : (q : ℕ) → get_or r.finals (1 + q) false ≡ get_or a.finals q false
   copy_final q = ap (λ l. get_or l (1 + q) false) built.finals ∙ get_or_last (true ∷ []) a.finals 1 q false refl
@@ -142,10 +156,13 @@ module _ (a r : Automaton) (ok_a : IsAutomaton a) (built : IsStar a r) where
   accepts_all (piece ∷ rest) each = ends [] piece rest at_entry (All-head (Accepts a) piece rest each) (All-tail (Accepts a) piece rest each)
 
   pub star_language : (w : List ℕ) → Accepts r w ↔ Repeats (Accepts a) w
-  star_language w = (λ (q, reach, final). elim (only q w reach) [
-    | inl start ↦ ([], All-nil (Accepts a), sym start.1)
-    | inr copy ↦
-        let split = copy.3 in
-        subst (Repeats (Accepts a)) split.2
-        (repeats_push (Accepts a) split.0 split.1 split.3 (copy.0, split.4, sym (copy_final copy.0) ∙ ap (λ n. get_or r.finals n false) copy.2 ∙ final))
-  ], λ (pieces, each, joined). subst (λ v. Accepts r v) joined (accepts_all pieces each))
+  star_language w = (
+    λ (q, reach, final). elim (only q w reach) [
+      | inl start ↦ ([], All-nil (Accepts a), sym start.1)
+      | inr copy ↦
+          let split = copy.3 in
+          subst (Repeats (Accepts a)) split.2
+          (repeats_push (Accepts a) split.0 split.1 split.3 (copy.0, split.4, sym (copy_final copy.0) ∙ ap (λ n. get_or r.finals n false) copy.2 ∙ final))
+    ],
+    λ (pieces, each, joined). subst (λ v. Accepts r v) joined (accepts_all pieces each),
+  )

@@ -1,7 +1,7 @@
-ghost use Rattle.std.specs.Prelude.{◌≡◌, ℕ, ◌+◌, ◌<◌, ◌≤◌, ◌^◌, ◌++◌, IfOk, OnOk, map};
+ghost use Rattle.std.specs.Prelude.{◌≡◌, ℕ, ◌+◌, ◌<◌, ◌≤◌, ◌^◌, [], ◌∷◌, ◌++◌, IfOk, OnOk, map};
 ghost use Rattle.std.specs.List.{All};
 ghost use Rattle.rela_nfa.specs.Automaton.{states};
-ghost use Rattle.rela_nfa.specs.Construction.{shifted, silent, leaving, copied};
+ghost use Rattle.rela_nfa.specs.Construction.{shifted, silent, single, leaving, copied};
 ghost use Rattle.rela_nfa.specs.Stored.{move_of, moves_in};
 
 use crate::edge::Edge;
@@ -40,6 +40,37 @@ pub(crate) fn silent_edges<L: LabelSet>(
         })?;
     }
     Ok(edges)
+}
+
+/// One edge, by a letter of the set.
+pub(crate) fn one_edge<L: LabelSet>(
+    alloc: Global,
+    set: L,
+    to: usize,
+) -> Result<Vec<Edge<L>>, AllocError>
+    ensures { IfOk result (λ edges. map (move_of L.letters) edges.items ≡ record { label = Some (L.letters set); to = to } ∷ []) }
+{
+    let mut edges = Vec::new(alloc);
+    edges.push(Edge {
+        label: Some(set),
+        to,
+    })?;
+    Ok(edges)
+}
+
+/// The set of one letter.
+pub(crate) fn one_letter<L: LabelSet>(
+    alloc: Global,
+    size: u32,
+    letter: u32,
+) -> Result<L, AllocError>
+    requires fits { L.fits size }
+    requires below { letter < size }
+    ensures { IfOk result (λ set. L.letters set ≡ single size letter) }
+{
+    let mut set = L::none(alloc, size)?;
+    set.add(letter);
+    Ok(set)
 }
 
 impl<L: LabelSet> Nfa<L> {

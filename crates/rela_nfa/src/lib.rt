@@ -5,6 +5,7 @@ mod copying;
 mod edge;
 mod nfa;
 mod operations;
+mod words;
 
 pub use edge::Edge;
 pub use nfa::Nfa;

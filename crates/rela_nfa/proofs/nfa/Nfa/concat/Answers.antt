@@ -35,8 +35,8 @@ module _ (g : Over) (c : goal.After-start-2 g) where
         edges =
             c.in_ok-copy_onto-2.ensures
             ∙ ap (λ l. l ++ copied b c.states-count.result None)
-              (c.in_ok-copy_onto.ensures ∙ ap (λ l. moves_in g.L.LabelSet.letters l ++ copied a 0 (Some (c.states-count.result + c.start.result))) c.new-edges.ensures.items
-              ∙ ap (λ n. copied a 0 (Some (c.states-count.result + n))) c.start.ensures.start)
+            (c.in_ok-copy_onto.ensures ∙ ap (λ l. moves_in g.L.LabelSet.letters l ++ copied a 0 (Some (c.states-count.result + c.start.result))) c.new-edges.ensures.items
+            ∙ ap (λ n. copied a 0 (Some (c.states-count.result + n))) c.start.ensures.start)
             ∙ ap (λ n. copied a 0 (Some (n + b.start)) ++ copied b n None) count;
         finals =
             c.in_ok-extend_from_slice.ensures.items ∙ ap (λ l. l ++ c.deref.result.now) (c.in_ok-finals.ensures.items_if_clones_equal (λ y e. e) ∙ ap (λ n. replicate n false) count)

@@ -29,8 +29,8 @@ module _ (g : Over) (c : goal.In_ok-copy_onto-2 g) where
       let moves = moves_in g.L.LabelSet.letters in
       let ends = map silent ((1 + a.start) ∷ (1 + states a + b.start) ∷ []) in
       let entry : moves c.push-2.new.self.items ≡ ends ∷ [] =
-          ap moves c.in_ok-push-2.ensures.items ∙ ap (λ v. moves (v ++ c.in_ok-silent_edges.field-0 ∷ [])) c.new-edges.ensures.items
-          ∙ ap (λ m. m ∷ []) (c.in_ok-silent_edges.ensures ∙ cc) in
+      ap moves c.in_ok-push-2.ensures.items ∙ ap (λ v. moves (v ++ c.in_ok-silent_edges.field-0 ∷ [])) c.new-edges.ensures.items
+      ∙ ap (λ m. m ∷ []) (c.in_ok-silent_edges.ensures ∙ cc) in
       record {
         letters = ap (λ (x : Automaton). x.letters) c.self.view_is;
         same_letters = sym c.requires.letters;
@@ -41,7 +41,7 @@ module _ (g : Over) (c : goal.In_ok-copy_onto-2 g) where
         finals =
             c.in_ok-extend_from_slice-2.ensures.items
             ∙ ap (λ l. l ++ c.deref-2.result.now)
-              (c.in_ok-extend_from_slice.ensures.items ∙ ap (λ l. l ++ c.deref.result.now) (c.in_ok-push.ensures.items ∙ ap (λ l. l ++ false ∷ []) c.new-finals.ensures.items))
+            (c.in_ok-extend_from_slice.ensures.items ∙ ap (λ l. l ++ c.deref.result.now) (c.in_ok-push.ensures.items ∙ ap (λ l. l ++ false ∷ []) c.new-finals.ensures.items))
             ∙ ap (λ l. false ∷ [] ++ l ++ c.deref-2.result.now) (c.deref.ensures.value ∙ ap (λ (x : Automaton). x.finals) c.self.view_is)
             ∙ ap (λ l. false ∷ [] ++ a.finals ++ l) (c.deref-2.ensures.value ∙ ap (λ (x : Automaton). x.finals) c.other.view_is);
       }
