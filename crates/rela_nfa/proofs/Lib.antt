@@ -6,3 +6,5 @@ pub mod Edges
 pub mod Concats
 pub mod Stars
 pub mod Chains
+pub mod Flagged
+pub mod Growing

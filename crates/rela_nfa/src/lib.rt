@@ -5,6 +5,8 @@ mod copying;
 mod edge;
 mod nfa;
 mod operations;
+mod reading;
+mod state_set;
 mod words;
 
 pub use edge::Edge;
