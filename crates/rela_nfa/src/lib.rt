@@ -11,3 +11,6 @@ mod words;
 
 pub use edge::Edge;
 pub use nfa::Nfa;
+
+#[cfg(test)]
+mod tests;
