@@ -2,9 +2,9 @@
 use Rattle.std.proofs.Common.{◌≡◌, ℕ, zero, suc, ◌+◌, ◌<◌, ◌≤◌, ◌⊎◌, List, [], ◌∷◌, ◌++◌, length, get_or, take, map, Option, None, Some, refl, sym, ap, ◌∙◌, subst, inl, inr, arith, append_assoc, length-append}
 use Rattle.std.specs.List.{All, Contains, slice_get}
 use Rattle.std.proofs.lemmas.List.{append-nil, map-append, take_more, get_or_append_left}
-use Rattle.std.proofs.lemmas.List.Elements.{All-nil, All-push, Contains-get_or}
+use Rattle.std.proofs.lemmas.List.Elements.{All-nil, All-push, All-append, All-weaker}
 use Rattle.std.proofs.lemmas.Option.{slice_get_within, slice_get-get_or, get_or_from_slice_get}
-use Rattle.rela_pairs.specs.Finding.{Finds, GrowsBy, AreNumbers}
+use Rattle.rela_pairs.specs.Finding.{Finds, GrowsBy, AreNumbers, Passes}
 
 -- a place that was there stays
 pub slice_get_grown : {X : Type 0} (old more : List X) (k : ℕ) (x : X) → slice_get old k ≡ Some x → slice_get (old ++ more) k ≡ Some x
@@ -51,3 +51,26 @@ numbers_more mid new xs numbers i n x below at are finds numbered =
     let kept : AreNumbers new (take i xs) numbers = subst (λ l. AreNumbers l (take i xs) numbers) (sym more.1) (numbers_grown mid more.0 numbers (take i xs) are) in
     map-append (slice_get new) numbers (n ∷ []) ∙ ap (λ l. l ++ slice_get new n ∷ []) kept ∙ ap (λ o. map Some (take i xs) ++ o ∷ []) numbered
     ∙ sym (ap (λ l. map Some l) (take_more xs i x below ∙ ap (λ y. take i xs ++ y ∷ []) at) ∙ map-append Some (take i xs) (x ∷ []))
+
+-- one that was found is all that was added
+pub grows_found : {X : Type 0} (old new : List X) (x : X) → Finds old new x → GrowsBy (x ∷ []) old new
+grows_found old new x finds =
+    let more = found_more old new x finds in
+    (more.0, more.1, λ k d below. (0, omega arith, sym (more.2 k d below)))
+
+pub grows_both : {X : Type 0} (xs ys old mid new : List X) → GrowsBy xs old mid → GrowsBy ys mid new → ((x : X) → Contains ys x → Contains xs x) → GrowsBy xs old new
+grows_both xs ys old mid new first second within =
+    (first.0 ++ second.0, second.1 ∙ ap (λ l. l ++ second.0) first.1 ∙ append_assoc old first.0 second.0,
+      All-append (Contains xs) first.0 second.0 first.2 (All-weaker (Contains ys) (Contains xs) within second.0 second.2))
+
+only_one : {X : Type 0} (x y : X) → Contains (x ∷ []) y → x ≡ y
+only_one x y (zero, below, is) = is
+only_one x y (suc k, below, is) = absurd (omega (arith, below))
+
+pub passes_later : {X : Type 0} (limit : ℕ) (xs old mid new : List X) (x : X) → GrowsBy xs old mid → Contains xs x → Passes limit (x ∷ []) mid new → Passes limit xs old new
+passes_later limit xs old mid new x grows among passes = record {
+  grows = grows_both xs (x ∷ []) old mid new grows passes.grows (λ y c. subst (λ z. Contains xs z) (only_one x y c) among);
+  distinct = passes.distinct;
+  past = passes.past;
+  small = passes.small;
+}

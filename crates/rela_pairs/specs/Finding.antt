@@ -1,6 +1,7 @@
 -- How the list of those that were found grows.
-use Rattle.std.specs.Prelude.{◌≡◌, ℕ, ◌⊎◌, List, [], ◌∷◌, ◌++◌, map, Some, Contains, slice_get}
+use Rattle.std.specs.Prelude.{◌≡◌, ℕ, ◌^◌, ◌<◌, ◌⊎◌, length, List, [], ◌∷◌, ◌++◌, map, Some, Contains, slice_get}
 use Rattle.std.specs.List.{All}
+use Rattle.rela_pairs.specs.Reachable.{AreDistinct}
 
 -- new is old with x at the end, unless old has it
 abbrev pub Finds : {X : Type 0} → List X → List X → X → Type 0
@@ -13,3 +14,10 @@ GrowsBy {X} xs old new = (more : List X) × (new ≡ old ++ more) × All (Contai
 -- the numbers are the places of xs
 abbrev pub AreNumbers : {X : Type 0} → List X → List X → List ℕ → Type 0
 AreNumbers found xs numbers = map (slice_get found) numbers ≡ map Some xs
+
+-- putting in some of xs has passed the limit, which isn't the greatest number
+pub record Passes {X : Type 0} (limit : ℕ) (xs old new : List X) : Type 0 where
+  pub grows : GrowsBy xs old new
+  pub distinct : AreDistinct new
+  pub past : limit < length new
+  pub small : limit < 2 ^ 63

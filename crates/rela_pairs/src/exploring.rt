@@ -40,7 +40,8 @@ pub fn explore<S: Successors>(
     let mut found = Found::new(alloc);
     found.number(start, limit)?;
     let mut targets = Vec::new(alloc);
-    while targets.len() < found.pairs().len() {
+    // The pairs that were found stand in a queue: those with targets were asked for what follows.
+    'queue: while targets.len() < found.pairs().len() {
         let pair = found.pairs()[targets.len()];
         let next = successors.next(alloc, pair)?;
         targets.push(found.number_all(alloc, &next, limit)?)?;

@@ -1,5 +1,5 @@
-ghost use Rattle.std.specs.Prelude.{◌≡◌, ◌<◌, ◌≤◌, ◌^◌, [], Some, IfOk, IfErr, length, slice_get};
-ghost use Rattle.rela_pairs.specs.Finding.{Finds, GrowsBy, AreNumbers};
+ghost use Rattle.std.specs.Prelude.{◌≡◌, ◌<◌, ◌≤◌, ◌^◌, [], ◌∷◌, Some, IfOk, IfErr, length, slice_get};
+ghost use Rattle.rela_pairs.specs.Finding.{Finds, GrowsBy, AreNumbers, Passes};
 ghost use Rattle.rela_pairs.specs.Reachable.{AreDistinct};
 
 use crate::errors::BuildError;
@@ -54,7 +54,7 @@ impl Found {
         ensures numbered { IfOk result (λ number. slice_get self.new number ≡ Some pair) }
         ensures finds { IfOk result (λ _. Finds self.old self.new pair) }
         ensures few { IfOk result (λ _. length self.new ≤ limit) }
-        ensures limit { IfErr result (λ e. e ≡ BuildError.Limit → Finds self.old self.new pair × (limit < length self.new) × (limit < 2 ^ 63)) }
+        ensures limit { IfErr result (λ e. e ≡ BuildError.Limit → Passes limit (pair ∷ []) self.old self.new) }
     {
         let (number, _) = self.pairs.insert_full(pair)?;
         if self.pairs.len() > limit {
@@ -74,7 +74,7 @@ impl Found {
         ensures numbers { IfOk result (λ numbers. AreNumbers self.new pairs.now numbers.items) }
         ensures grows { IfOk result (λ _. GrowsBy pairs.now self.old self.new) }
         ensures few { IfOk result (λ _. length self.new ≤ limit) }
-        ensures limit { IfErr result (λ e. e ≡ BuildError.Limit → GrowsBy pairs.now self.old self.new × (limit < length self.new) × (limit < 2 ^ 63)) }
+        ensures limit { IfErr result (λ e. e ≡ BuildError.Limit → Passes limit pairs.now self.old self.new) }
     {
         let mut numbers = Vec::with_capacity(alloc, pairs.len())?;
         for pair in pairs {

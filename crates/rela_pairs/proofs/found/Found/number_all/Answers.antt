@@ -5,7 +5,7 @@ use Rattle.std.proofs.lemmas.List.Elements.{Contains-get_or}
 use Rattle.std.proofs.lemmas.Result.{err_from_is_err_and}
 use Rattle.rela_pairs.specs.Finding.{AreNumbers}
 use Rattle.rela_pairs.specs.declared.pair.Pair.{Pair}
-use Rattle.rela_pairs.proofs.Numbering.{grows_more, numbers_more}
+use Rattle.rela_pairs.proofs.Numbering.{grows_more, numbers_more, passes_later}
 use Rattle.rela_pairs.proofs.found.Found.number_all.Goals as goal
 
 pub loop-pair-preserved : goal.loop-pair-preserved
@@ -31,6 +31,5 @@ returns-in_err-number-clause-limit c =
     let none : Pair = record { left = 0; right = 0 } in
     let p = err_from_is_err_and c.from_residual-in_err-number.result c.from_residual-in_err-number.ensures.1 in
     rw (p.1, p.2) (λ e.
-      let past = c.in_err-number.ensures.limit e in
-      (grows_more pairs c.args.self.now c.loop-pair.self c.number.new.self (get_or pairs i none) c.loop-pair.invariant.grows (Contains-get_or pairs i none c.loop-pair-test.true) past.0,
-        past.1, past.2))
+      passes_later c.args.limit pairs c.args.self.now c.loop-pair.self c.number.new.self (get_or pairs i none) c.loop-pair.invariant.grows
+      (Contains-get_or pairs i none c.loop-pair-test.true) (c.in_err-number.ensures.limit e))
