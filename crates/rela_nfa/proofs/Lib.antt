@@ -8,3 +8,5 @@ pub mod Stars
 pub mod Chains
 pub mod Flagged
 pub mod Growing
+pub mod Joint
+pub mod Meets

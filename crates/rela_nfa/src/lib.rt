@@ -3,6 +3,7 @@
 
 mod copying;
 mod edge;
+mod meeting;
 mod nfa;
 mod operations;
 mod reading;
