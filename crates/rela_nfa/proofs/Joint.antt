@@ -1,10 +1,11 @@
 -- Edges that two automata take together.
 use Rattle.std.proofs.Common.{◌≡◌, ℕ, zero, suc, ◌+◌, ◌<◌, ◌≤◌, ◌⊎◌, ◌↔◌, ◌&&◌, Bool, true, false, if◌then◌else◌, List, [], ◌∷◌, ◌++◌, length, get_or, map, Option, None, Some, refl, sym, ap, ◌∙◌, subst, inl, inr, arith, length-append}
 use Rattle.std.specs.List.{Contains, flat_map, list_any, range_with_len}
-use Rattle.std.specs.Option.{option_to_list}
-use Rattle.std.proofs.lemmas.Bool.{cases_Bool, cases_lt, false≢true, and_parts, and_from, or_cases, or_left, or_right}
-use Rattle.std.proofs.lemmas.List.{append-nil, get_or_past, same_from_push}
-use Rattle.std.proofs.lemmas.List.Elements.{Contains-append_left, Contains-append_right, Contains-append_cases, Contains-get_or}
+use Rattle.std.specs.Option.{ForSome, option_to_list}
+use Rattle.std.proofs.lemmas.Bool.{cases_Bool, cases_lt, false_from_ne_true, true_from_ne_false, false≢true, and_parts, and_from, or_cases, or_left, or_right}
+use Rattle.std.proofs.lemmas.List.{append-nil, ext_get_or, get_or_past, same_from_push}
+use Rattle.std.proofs.lemmas.List.Elements.{Contains-append_left, Contains-append_right, Contains-append_cases, All-contains}
+use Rattle.std.proofs.lemmas.Option.{same_Some}
 use Rattle.std.proofs.lemmas.List.FromFn.{get_or-map-range_with_len, length-map-range_with_len}
 use Rattle.rela_labels.specs.Letters.{has}
 use Rattle.rela_pairs.specs.declared.pair.Pair.{Pair}
@@ -13,6 +14,7 @@ use Rattle.rela_nfa.specs.Meeting.{ReachBoth, JointMove, common, labelled_both, 
 use Rattle.rela_nfa.specs.Reading.{takes}
 use Rattle.rela_nfa.specs.Runs.{StepIn, HasStep, Reach}
 use Rattle.rela_nfa.proofs.Moves.{Contains-nil, Contains-cons_cases}
+use Rattle.rela_nfa.proofs.Parts.{moves_ok}
 use Rattle.rela_nfa.proofs.Reaching.{reach_start, reach_step, reach_silent, reach_each}
 
 -- ---- a step is an edge that takes the letter
@@ -170,6 +172,30 @@ module _ (a b : Automaton) (x : Pair) where
     by_letter set None taken = absurd (false≢true taken)
     by_letter set (Some k) taken = (k, refl, taken)
 
+  -- a label has one boolean for each letter
+  pub joint_sized : IsAutomaton a → (j : JointMove) → Contains (joint_moves a b x) j → ForSome j.label (λ set. length set ≡ a.letters)
+  joint_sized ok j among = elim (Contains-append_cases (lefts ++ rights) boths j among) [
+    | inl silent ↦ elim (Contains-append_cases lefts rights j silent) [
+        | inl left ↦
+            let found = from_flat_map (λ m. silent_one m.label (pair_of m.to x.right)) (moves_of a x.left) j left in
+            let none = (silent_one_only found.0.label (pair_of found.0.to x.right) j found.2).1 in
+            (λ set is. cc)
+        | inr right ↦
+            let found = from_flat_map (λ n. silent_one n.label (pair_of x.left n.to)) (moves_of b x.right) j right in
+            let none = (silent_one_only found.0.label (pair_of x.left found.0.to) j found.2).1 in
+            (λ set is. cc)
+      ]
+    | inr labelled ↦
+        let first = from_flat_map (λ m. moves_with m (moves_of b x.right)) (moves_of a x.left) j labelled in
+        let second = from_flat_map (λ n. labelled_both first.0.label n.label (pair_of first.0.to n.to)) (moves_of b x.right) j first.2 in
+        let only = labelled_both_only first.0.label second.0.label (pair_of first.0.to second.0.to) j second.2 in
+        (λ set is.
+          let same : common only.0 only.1 ≡ set = same_Some (common only.0 only.1) set (sym only.4 ∙ is) in
+          subst (λ l. length l ≡ a.letters) same
+          (length-map-range_with_len (λ k. has only.0 k && has only.1 k) 0 (length only.0)
+          ∙ (All-contains (IsMove a.letters (states a)) (moves_of a x.left) first.0 (moves_ok a ok x.left) first.1).sized only.0 only.2))
+  ]
+
   -- each joint edge can be taken
   pub joint_some : (j : JointMove) → Contains (joint_moves a b x) j → (letter : Option ℕ) × JointStep a b x letter j.to
   joint_some j among = elim (joint_cases j among) [
@@ -282,3 +308,28 @@ module _ (a b : Automaton) where
       one p r None w there step q reach =
           subst (λ v. C (pair_of r q) v) (sym (append-nil w)) (left_silent p r q w (there q (subst (λ v. Reach b q v) (append-nil w) reach)) step)
       one p r (Some k) w there step q reach = after_letter p r k w there step q reach
+
+-- ---- what was met
+
+pub meet_letters : (s t u : List Bool) → length u ≡ length s → ((k : ℕ) → has u k ≡ (has s k && has t k)) → u ≡ common s t
+meet_letters s t u len each =
+    ext_get_or false u (common s t) (len ∙ sym (length-map-range_with_len (λ j. has s j && has t j) 0 (length s))) (λ k below. each k ∙ sym (has-common s t k (omega (arith, below, len))))
+
+pub labelled_met : (s t u : List Bool) (to : Pair) → u ≡ common s t → list_any (λ c. c) u ≡ true → labelled_both (Some s) (Some t) to ≡ record { label = Some u; to = to } ∷ []
+labelled_met s t u to same some =
+    let any : list_any (λ c. c) (common s t) ≡ true = ap (λ l. list_any (λ c. c) l) (sym same) ∙ some in
+    let one : List JointMove = record { label = Some (common s t); to = to } ∷ [] in
+    ap (λ c. if c then one else []) any ∙ ap (λ l. record { label = Some l; to = to } ∷ []) (sym same)
+
+pub labelled_apart : (s t u : List Bool) (to : Pair) → u ≡ common s t → list_any (λ c. c) u ≡ false → labelled_both (Some s) (Some t) to ≡ []
+labelled_apart s t u to same none =
+    let any : list_any (λ c. c) (common s t) ≡ false = ap (λ l. list_any (λ c. c) l) (sym same) ∙ none in
+    let one : List JointMove = record { label = Some (common s t); to = to } ∷ [] in
+    ap (λ c. if c then one else []) any
+
+pub none_in : (set : List Bool) → ((k : ℕ) → has set k ≡ false) → list_any (λ c. c) set ≡ false
+none_in set none = false_from_ne_true (list_any (λ c. c) set) (λ any. let found = some_letter set any in false≢true (sym (none found.0) ∙ found.1))
+
+pub some_in : (set : List Bool) → (((k : ℕ) → has set k ≡ false) → ⊥) → list_any (λ c. c) set ≡ true
+some_in set some =
+    true_from_ne_false (list_any (λ c. c) set) (λ none. some (λ k. false_from_ne_true (has set k) (λ here. false≢true (sym none ∙ any_letter set k here))))

@@ -10,3 +10,4 @@ pub mod Flagged
 pub mod Growing
 pub mod Joint
 pub mod Meets
+pub mod Numbers

@@ -3,8 +3,8 @@ use Rattle.std.proofs.Common.{◌≡◌, ℕ, zero, suc, ◌+◌, ◌<◌, ◌�
 use Rattle.std.specs.List.{All, Contains, slice_get, range_with_len}
 use Rattle.std.specs.Option.{ForSome, option_to_list}
 use Rattle.std.proofs.lemmas.Bool.{cases_lt, false≢true, and_parts, and_from}
-use Rattle.std.proofs.lemmas.List.{get_or-map, get_or_past, length-map}
-use Rattle.std.proofs.lemmas.List.Elements.{All-nil, All-cons, All-map, All-contains}
+use Rattle.std.proofs.lemmas.List.{get_or-map, get_or_default, length-map}
+use Rattle.std.proofs.lemmas.List.Elements.{Contains-get_or}
 use Rattle.std.proofs.lemmas.List.FromFn.{get_or-map-range_with_len, length-map-range_with_len}
 use Rattle.std.proofs.lemmas.Option.{slice_get_within, slice_get-get_or, get_or_from_slice_get, same_Some}
 use Rattle.rela_labels.specs.Letters.{has}
@@ -14,11 +14,12 @@ use Rattle.rela_pairs.specs.Reachable.{Leads, Reachable, AreDistinct, MoreThan}
 use Rattle.rela_pairs.specs.declared.pair.Pair.{Pair}
 use Rattle.rela_pairs.proofs.Steps.{reachable_start, reachable_next}
 use Rattle.rela_nfa.specs.Automaton.{Automaton, Move, IsAutomaton, IsMove, IsFinal, moves_of, states}
-use Rattle.rela_nfa.specs.Meeting.{ReachBoth, AreReachedTogether, IsMeet, IsProduct, JointMove, pair_of, joint_moves, next_pairs, numbered, final_both}
+use Rattle.rela_nfa.specs.Meeting.{ReachBoth, AreReachedTogether, IsMeet, IsProduct, JointMove, pair_of, joint_moves, next_pairs, numbered, final_both, product_moves_at}
 use Rattle.rela_nfa.specs.Reading.{takes}
 use Rattle.rela_nfa.specs.Runs.{StepIn, HasStep, Reach, Accepts}
 use Rattle.rela_nfa.proofs.Moves.{Contains-nil, Contains-cons_cases, Contains-map, Contains-map_back, no_step}
-use Rattle.rela_nfa.proofs.Joint.{JointStep, step_edge, edge_step, joint_in, joint_some, joint_out, both_start, both_step, both_each}
+use Rattle.rela_nfa.proofs.Joint.{JointStep, step_edge, edge_step, joint_in, joint_some, joint_sized, joint_out, both_start, both_step, both_each}
+use Rattle.rela_nfa.proofs.Parts.{state_of_reach}
 use Rattle.rela_nfa.proofs.Reaching.{reach_start, reach_step, reach_each}
 
 -- ---- pairs that are reachable, and pairs that a word leads to
@@ -84,6 +85,9 @@ numbered_each pairs (i ∷ moves) (t ∷ targets) are j among = elim (Contains-c
       (found.0, (suc found.1.0, omega (arith, found.1.1), found.1.2), found.2)
 ]
 
+All-from_contains : {X : Type 0} (P : X → Type 0) (xs : List X) → ((x : X) → Contains xs x → P x) → All P xs
+All-from_contains P xs each k d below = each (get_or xs k d) (Contains-get_or xs k d below)
+
 -- ---- the product
 
 module _ (a b r : Automaton) (explored : Exploration) (built : IsProduct a b explored r) (distinct : AreDistinct explored.pairs)
@@ -94,13 +98,32 @@ module _ (a b r : Automaton) (explored : Exploration) (built : IsProduct a b exp
   product_states = ap length built.finals ∙ length-map explored.pairs (final_both a b)
 
   abbrev edges_at : ℕ → List Move
-  edges_at k = numbered (get_or (map (joint_moves a b) explored.pairs) k []) (get_or explored.targets k [])
+  edges_at k = product_moves_at a b explored k
 
   product_moves : (k : ℕ) (x : Pair) → slice_get explored.pairs k ≡ Some x → moves_of r k ≡ numbered (joint_moves a b x) (get_or explored.targets k [])
   product_moves k x at =
       let below = slice_get_within explored.pairs k x at in
       ap (λ l. get_or l k []) built.edges ∙ get_or-map-range_with_len edges_at 0 (length explored.pairs) k k [] below (omega arith)
       ∙ ap (λ l. numbered l (get_or explored.targets k [])) (get_or-map (joint_moves a b) explored.pairs k x [] below ∙ ap (joint_moves a b) (get_or_from_slice_get explored.pairs k x x at))
+
+  pub product_ok : IsAutomaton a → IsAutomaton r
+  product_ok ok = record {
+    each = ap length built.edges ∙ length-map-range_with_len edges_at 0 (length explored.pairs) ∙ sym product_states;
+    starts = omega (arith, product_states, built.start, slice_get_within explored.pairs 0 (pair_of a.start b.start) first);
+    moves = λ k d below.
+        let within : k < length explored.pairs =
+            omega (arith, below, ap length built.edges, length-map-range_with_len edges_at 0 (length explored.pairs)) in
+        let none : Pair = pair_of 0 0 in
+        let at = slice_get-get_or explored.pairs k none within in
+        let x : Pair = get_or explored.pairs k none in
+        subst (λ l. All (IsMove r.letters (states r)) l) (sym (product_moves k x at) ∙ get_or_default r.edges k [] d below)
+        (All-from_contains (IsMove r.letters (states r)) (numbered (joint_moves a b x) (get_or explored.targets k [])) (λ m among.
+          let found = numbered_back explored.pairs (joint_moves a b x) (get_or explored.targets k []) (targets k x at) m among in
+          record {
+            sized = λ set is. joint_sized a b x ok found.0 found.1 set (sym found.2 ∙ is) ∙ sym built.letters;
+            leads = omega (arith, product_states, slice_get_within explored.pairs m.to found.0.to found.3);
+          }));
+  }
 
   step_back : (k t : ℕ) (x : Pair) (letter : Option ℕ) → slice_get explored.pairs k ≡ Some x → HasStep r k letter t
       → (y : Pair) × (slice_get explored.pairs t ≡ Some y) × JointStep a b x letter y
@@ -176,3 +199,11 @@ module _ (a b r : Automaton) (explored : Exploration) (built : IsProduct a b exp
     accepts (p, first_reach, first_final) (q, second_reach, second_final) =
         let there = numbers (pair_of p q) w (first_reach, second_reach) in
         (there.0, there.2, final_at there.0 (pair_of p q) there.1 ∙ and_from (get_or a.finals p false) (get_or b.finals q false) first_final second_final)
+
+-- what was explored are pairs of states
+pub explored_states : (a b : Automaton) → IsAutomaton a → IsAutomaton b → (pairs : List Pair)
+    → ((x : Pair) → Contains pairs x ↔ Reachable (next_pairs a b) (pair_of a.start b.start) x) → All (λ x. (x.left < states a) × (x.right < states b)) pairs
+explored_states a b ok_a ok_b pairs each k d below =
+    let x : Pair = get_or pairs k d in
+    let together = together_from_reachable a b x ((each x).0 (Contains-get_or pairs k d below)) in
+    (state_of_reach a ok_a x.left together.0 together.1.0, state_of_reach b ok_b x.right together.0 together.1.1)

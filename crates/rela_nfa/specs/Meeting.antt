@@ -77,6 +77,10 @@ numbered [] targets = []
 numbered (j ∷ moves) [] = []
 numbered (j ∷ moves) (t ∷ targets) = record { label = j.label; to = t } ∷ numbered moves targets
 
+-- those of the pair of this number
+abbrev pub product_moves_at : Automaton → Automaton → Exploration → ℕ → List Move
+product_moves_at a b explored k = numbered (slice_index_or (map (joint_moves a b) explored.pairs) k []) (slice_index_or explored.targets k [])
+
 -- whether both states are final
 abbrev pub final_both : Automaton → Automaton → Pair → Bool
 final_both a b x = slice_index_or a.finals x.left false && slice_index_or b.finals x.right false
@@ -85,5 +89,5 @@ final_both a b x = slice_index_or a.finals x.left false && slice_index_or b.fina
 pub record IsProduct (a b : Automaton) (explored : Exploration) (r : Automaton) : Type 0 where
   pub letters : r.letters ≡ a.letters
   pub start : r.start ≡ 0
-  pub edges : r.edges ≡ map (λ k. numbered (slice_index_or (map (joint_moves a b) explored.pairs) k []) (slice_index_or explored.targets k [])) (range_with_len 0 (length explored.pairs))
+  pub edges : r.edges ≡ map (product_moves_at a b explored) (range_with_len 0 (length explored.pairs))
   pub finals : r.finals ≡ map (final_both a b) explored.pairs

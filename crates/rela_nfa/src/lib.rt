@@ -3,6 +3,7 @@
 
 mod copying;
 mod edge;
+mod meet;
 mod meeting;
 mod nfa;
 mod operations;
@@ -12,6 +13,7 @@ mod words;
 
 pub use edge::Edge;
 pub use nfa::Nfa;
+pub use rela_pairs::BuildError;
 
 #[cfg(test)]
 mod tests;

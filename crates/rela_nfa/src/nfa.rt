@@ -89,6 +89,7 @@ impl<L: LabelSet> Nfa<L> {
     pub fn start(&self) -> usize
         ensures start { result ≡ self.now.start }
         ensures state { result < states self.now }
+        ensures automaton { IsAutomaton self.now }
     {
         self.start
     }
@@ -105,6 +106,7 @@ impl<L: LabelSet> Nfa<L> {
     pub fn edges(&self, q: usize) -> &[Edge<L>]
         requires { q < states self.now }
         ensures moves { map (move_of L.letters) result.now ≡ moves_of self.now q }
+        ensures automaton { IsAutomaton self.now }
         ensures lead { All (λ edge. edge.to < states self.now) result.now }
         ensures sized { All (λ edge. ForSome edge.label (λ set. length (L.letters set) ≡ self.now.letters)) result.now }
     {
