@@ -11,3 +11,4 @@ pub mod Growing
 pub mod Joint
 pub mod Meets
 pub mod Numbers
+pub mod Relabelled

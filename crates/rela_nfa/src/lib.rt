@@ -8,6 +8,7 @@ mod meeting;
 mod nfa;
 mod operations;
 mod reading;
+mod relabel;
 mod state_set;
 mod words;
 

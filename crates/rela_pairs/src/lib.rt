@@ -13,3 +13,6 @@ pub use explored::Explored;
 pub use exploring::explore;
 pub use pair::Pair;
 pub use successors::Successors;
+
+#[cfg(test)]
+mod tests;
