@@ -1,11 +1,10 @@
 -- Lists that grow and in which no two are equal.
-use Rattle.std.proofs.Common.{◌≡◌, ◌≢◌, ℕ, zero, suc, eqb, ◌&&◌, add-one, ◌+◌, ◌<◌, ◌≤◌, ◌⊎◌, Bool, true, false, if◌then◌else◌, List, [], ◌∷◌, ◌++◌, length, get_or, take, drop, refl, sym, ap, ◌∙◌, subst, inl, inr, arith, length-append, length-take, length-drop}
+use Rattle.std.proofs.Common.{◌≡◌, ◌≢◌, ℕ, zero, suc, eqb, ◌&&◌, ◌+◌, ◌<◌, ◌≤◌, Bool, true, false, if◌then◌else◌, List, [], ◌∷◌, ◌++◌, length, get_or, take, drop, refl, sym, ap, ◌∙◌, subst, inl, inr, arith, length-append, length-drop}
 use Rattle.std.specs.Bool.{Decides}
-use Rattle.std.specs.List.{All, AllPairs, Contains, list_any}
-use Rattle.std.specs.Set.{is_member}
+use Rattle.std.specs.List.{Contains, list_any}
 use Rattle.std.proofs.lemmas.Bool.{cases_Bool, both_ways, and_parts, and_from, eqb-true, eq-eqb}
 use Rattle.std.proofs.lemmas.List.{take-append-drop, drop_more, length-take-le}
-use Rattle.std.proofs.lemmas.List.Elements.{All-head, All-tail, All-contains, Contains-append_left, Contains-append_right, Contains-append_cases, Contains-push, Contains-get_or}
+use Rattle.std.proofs.lemmas.List.Elements.{All-contains, Contains-append_left, Contains-append_right, Contains-append_cases, Contains-push, Contains-get_or}
 use Rattle.std.proofs.lemmas.List.Quantifiers.{all_pairs_push}
 use Rattle.std.proofs.lemmas.Map.Made.{is_member-Decides}
 use Rattle.indexmap.specs.IndexSet.{insert_key}
@@ -36,7 +35,7 @@ module _ {X : Type 0} (eq : X → X → Bool) (same : (a b : X) → Decides (eq 
     | inr absent ↦
         subst AreDistinct (sym (is ∙ new_key absent))
         (all_pairs_push ◌≢◌ old k distinct (λ i d below equal.
-          both_ways (list_any (eq k) old) absent ((is_member-Decides same old k).1 (subst (λ x. Contains old x) equal (Contains-get_or old i d below)))))
+        both_ways (list_any (eq k) old) absent ((is_member-Decides same old k).1 (subst (λ x. Contains old x) equal (Contains-get_or old i d below)))))
   ]
 
 -- what a list has besides the one at a place
@@ -46,14 +45,14 @@ others ys n y below at z among apart =
     elim (Contains-append_cases (take n ys) (y ∷ drop (n + 1) ys) z (subst (λ l. Contains l z) split among)) [
       | inl before ↦ Contains-append_left (take n ys) (drop (n + 1) ys) z before
       | inr rest ↦ elim (Contains-append_cases (y ∷ []) (drop (n + 1) ys) z rest) [
-          | inl here ↦ absurd (apart (only here))
-          | inr after ↦ Contains-append_right (take n ys) (drop (n + 1) ys) z after
-        ]
+        | inl here ↦ absurd (apart (only here))
+        | inr after ↦ Contains-append_right (take n ys) (drop (n + 1) ys) z after
+      ]
     ]
   where
-  only : {z : _} → Contains (y ∷ []) z → y ≡ z
-  only (zero, below, is) = is
-  only (suc k, below, is) = absurd (omega (arith, below))
+    only : {z : _} → Contains (y ∷ []) z → y ≡ z
+    only (zero, below, is) = is
+    only (suc k, below, is) = absurd (omega (arith, below))
 
 all_apart : {X : Type 0} (x : X) (xs : List X) → AreDistinct (x ∷ xs) → (z : X) → Contains xs z → x ≡ z → ⊥
 all_apart x xs distinct z (k, below, is) equal = distinct 0 (suc k) z (omega arith) (omega (arith, below)) (equal ∙ sym is)
@@ -68,8 +67,8 @@ distinct_within (x ∷ xs) ys distinct within =
     let at = within x (0, omega arith, refl) in
     let n = at.0 in
     let fewer : length xs ≤ length (take n ys ++ drop (n + 1) ys) =
-        distinct_within xs (take n ys ++ drop (n + 1) ys) (distinct_tail x xs distinct) (λ z c.
-          others ys n x at.1 at.2 z (within z (suc c.0, omega (arith, c.1), c.2)) (all_apart x xs distinct z c)) in
+    distinct_within xs (take n ys ++ drop (n + 1) ys) (distinct_tail x xs distinct) (λ z c.
+    others ys n x at.1 at.2 z (within z (suc c.0, omega (arith, c.1), c.2)) (all_apart x xs distinct z c)) in
     omega (arith, fewer, at.1, length-append (take n ys) (drop (n + 1) ys), length-take-le n ys (omega (arith, at.1)), length-drop (n + 1) ys)
 
 -- so where all that have the property are in a short list, there are not more

@@ -1,5 +1,5 @@
 -- Numbers in a list that grows at its end.
-use Rattle.std.proofs.Common.{◌≡◌, ℕ, zero, suc, ◌+◌, ◌<◌, ◌≤◌, ◌⊎◌, List, [], ◌∷◌, ◌++◌, length, get_or, take, map, Option, None, Some, refl, sym, ap, ◌∙◌, subst, inl, inr, arith, append_assoc, length-append}
+use Rattle.std.proofs.Common.{◌≡◌, ℕ, zero, suc, ◌+◌, ◌<◌, List, [], ◌∷◌, ◌++◌, length, get_or, take, map, Some, refl, sym, ap, ◌∙◌, subst, inl, inr, arith, append_assoc, length-append}
 use Rattle.std.specs.List.{All, Contains, slice_get}
 use Rattle.std.proofs.lemmas.List.{append-nil, map-append, take_more, get_or_append_left}
 use Rattle.std.proofs.lemmas.List.Elements.{All-nil, All-push, All-append, All-weaker}
@@ -59,9 +59,11 @@ grows_found old new x finds =
     (more.0, more.1, λ k d below. (0, omega arith, sym (more.2 k d below)))
 
 pub grows_both : {X : Type 0} (xs ys old mid new : List X) → GrowsBy xs old mid → GrowsBy ys mid new → ((x : X) → Contains ys x → Contains xs x) → GrowsBy xs old new
-grows_both xs ys old mid new first second within =
-    (first.0 ++ second.0, second.1 ∙ ap (λ l. l ++ second.0) first.1 ∙ append_assoc old first.0 second.0,
-      All-append (Contains xs) first.0 second.0 first.2 (All-weaker (Contains ys) (Contains xs) within second.0 second.2))
+grows_both xs ys old mid new first second within = (
+  first.0 ++ second.0,
+  second.1 ∙ ap (λ l. l ++ second.0) first.1 ∙ append_assoc old first.0 second.0,
+  All-append (Contains xs) first.0 second.0 first.2 (All-weaker (Contains ys) (Contains xs) within second.0 second.2),
+)
 
 only_one : {X : Type 0} (x y : X) → Contains (x ∷ []) y → x ≡ y
 only_one x y (zero, below, is) = is

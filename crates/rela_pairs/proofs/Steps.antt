@@ -1,11 +1,11 @@
 -- The steps of an exploration.
-use Rattle.std.proofs.Common.{◌≡◌, ℕ, zero, suc, ◌+◌, ◌-◌, ◌<◌, ◌≤◌, ◌⊎◌, ◌↔◌, List, [], ◌∷◌, ◌++◌, length, get_or, take, map, Option, None, Some, refl, sym, ap, ◌∙◌, subst, inl, inr, arith, append_assoc, length-append}
+use Rattle.std.proofs.Common.{◌≡◌, ℕ, zero, suc, ◌+◌, ◌-◌, ◌<◌, ◌≤◌, ◌↔◌, List, [], ◌∷◌, ◌++◌, length, get_or, take, Some, refl, sym, ap, ◌∙◌, subst, inl, inr, arith, length-append}
 use Rattle.std.specs.List.{All, Contains, slice_get}
 use Rattle.std.proofs.lemmas.Bool.{cases_lt}
-use Rattle.std.proofs.lemmas.List.{append-nil, get_or_append_left, get_or_push, get_or-append_right, get_or-take, length-take-le}
-use Rattle.std.proofs.lemmas.List.Elements.{All-nil, All-cons, All-append, All-contains, All-take, All-from_get_or, All-weaker, Contains-get_or}
+use Rattle.std.proofs.lemmas.List.{get_or_append_left, get_or_push, get_or-append_right, get_or-take, length-take-le}
+use Rattle.std.proofs.lemmas.List.Elements.{All-nil, All-cons, All-append, All-contains, All-take, All-weaker}
 use Rattle.std.proofs.lemmas.Option.{slice_get_within, slice_get-get_or, get_or_from_slice_get, same_Some}
-use Rattle.rela_pairs.specs.Exploration.{Exploration, NumbersNext, FoundEarlier}
+use Rattle.rela_pairs.specs.Exploration.{NumbersNext, FoundEarlier}
 use Rattle.rela_pairs.specs.Finding.{Finds, GrowsBy, AreNumbers, Passes}
 use Rattle.rela_pairs.specs.Reachable.{Leads, Reachable, AreDistinct, MoreThan}
 use Rattle.rela_pairs.specs.declared.pair.Pair.{Pair}
@@ -28,9 +28,9 @@ pub reachable_within : {X : Type 0} (next : X → List X) (xs : List X) → ((x 
     → (s : X) → Contains xs s → (x : X) → Reachable next s x → Contains xs x
 reachable_within next xs closed s among x (path, leads) = along path s among leads
   where
-  along : (path : List _) (s : _) → Contains xs s → Leads next s path x → Contains xs x
-  along [] s among here = subst (λ z. Contains xs z) here among
-  along (z ∷ rest) s among leads = along rest z (closed s z among leads.0) leads.1
+    along : (path : List _) (s : _) → Contains xs s → Leads next s path x → Contains xs x
+    along [] s among here = subst (λ z. Contains xs z) here among
+    along (z ∷ rest) s among leads = along rest z (closed s z among leads.0) leads.1
 
 -- ---- more than the limit
 
@@ -95,8 +95,8 @@ module _ (next : Pair → List Pair) (start : Pair) (limit : ℕ) (IsPair : Pair
         earlier = λ k x after at. let below = slice_get_within (start ∷ []) k x at in absurd (omega (arith, after, below));
       })
     where
-    only : pairs ≡ start ∷ []
-    only = elim finds.1 [ inl same ↦ let at = subst (λ l. Contains l start) same finds.0 in absurd (omega (arith, at.1)) | inr more ↦ more ]
+      only : pairs ≡ start ∷ []
+      only = elim finds.1 [ inl same ↦ let at = subst (λ l. Contains l start) same finds.0 in absurd (omega (arith, at.1)) | inr more ↦ more ]
 
   pub exploring_more : (pairs new : List Pair) (targets : List (List ℕ)) (numbers : List ℕ) (pair : Pair) → Exploring pairs targets → length targets < length pairs
       → slice_get pairs (length targets) ≡ Some pair → GrowsBy (next pair) pairs new → AreNumbers new (next pair) numbers → length new ≤ limit → All IsPair (next pair)
@@ -110,13 +110,13 @@ module _ (next : Pair → List Pair) (start : Pair) (limit : ℕ) (IsPair : Pair
     numbered = λ k x below is. elim (cases_lt k (length targets)) [
       | inl less ↦
           let was : slice_get pairs k ≡ Some x =
-              slice_get_before pairs grows.0 k x (omega (arith, less, behind)) (ap (λ l. slice_get l k) (sym grows.1) ∙ is) in
+          slice_get_before pairs grows.0 k x (omega (arith, less, behind)) (ap (λ l. slice_get l k) (sym grows.1) ∙ is) in
           subst (λ l. AreNumbers new (next x) l) (sym (get_or_append_left targets (numbers ∷ []) [] k less))
           (subst (λ l. AreNumbers l (next x) (get_or targets k [])) (sym grows.1) (numbers_grown pairs grows.0 (get_or targets k []) (next x) (so_far.numbered k x less was)))
       | inr last ↦
           let here_now : k ≡ length targets = omega (arith, below, last, length-append targets (numbers ∷ [])) in
           let was : slice_get pairs k ≡ Some x =
-              slice_get_before pairs grows.0 k x (omega (arith, here_now, behind)) (ap (λ l. slice_get l k) (sym grows.1) ∙ is) in
+          slice_get_before pairs grows.0 k x (omega (arith, here_now, behind)) (ap (λ l. slice_get l k) (sym grows.1) ∙ is) in
           let same : pair ≡ x = same_Some pair x (sym at ∙ ap (λ j. slice_get pairs j) (sym here_now) ∙ was) in
           subst (λ l. AreNumbers new (next x) l) (sym (get_or_push targets numbers [] k (sym here_now)))
           (subst (λ y. AreNumbers new (next y) numbers) same are)
@@ -129,30 +129,34 @@ module _ (next : Pair → List Pair) (start : Pair) (limit : ℕ) (IsPair : Pair
           let below = slice_get_within new k x is in
           let place : k < length pairs + length grows.0 = omega (arith, below, ap length grows.1, length-append pairs grows.0) in
           let there : get_or grows.0 (k - length pairs) x ≡ x =
-              sym (get_or-append_right pairs grows.0 (length pairs) k x refl more) ∙ ap (λ l. get_or l k x) (sym grows.1) ∙ get_or_from_slice_get new k x x is in
-          let among = grows.2 (k - length pairs) x (omega (arith, place, more)) in
-          (length targets, pair, omega (arith, behind, more),
+          sym (get_or-append_right pairs grows.0 (length pairs) k x refl more) ∙ ap (λ l. get_or l k x) (sym grows.1) ∙ get_or_from_slice_get new k x x is in
+          let among = grows.2 (k - length pairs) x (omega (arith, place, more)) in (
+            length targets,
+            pair,
+            omega (arith, behind, more),
             subst (λ l. slice_get l (length targets) ≡ Some pair) (sym grows.1) (slice_get_grown pairs grows.0 (length targets) pair at),
-            subst (λ z. Contains (next pair) z) there among)
+            subst (λ z. Contains (next pair) z) there among,
+          )
     ];
   }
     where
-    here : Reachable next start pair
-    here =
-        subst (λ z. Reachable next start z) (get_or_from_slice_get pairs (length targets) pair pair at) (so_far.reached (length targets) pair behind)
+      here : Reachable next start pair
+      here =
+          subst (λ z. Reachable next start z) (get_or_from_slice_get pairs (length targets) pair pair at) (so_far.reached (length targets) pair behind)
 
   pub explored_next : (pairs : List Pair) (targets : List (List ℕ)) → Exploring pairs targets → length pairs ≤ length targets → NumbersNext next (record { pairs = pairs; targets = targets })
   explored_next pairs targets so_far over = λ k x at. so_far.numbered k x (let below = slice_get_within pairs k x at in omega (arith, below, over)) at
 
   pub explored_all : (pairs : List Pair) (targets : List (List ℕ)) → Exploring pairs targets → length pairs ≤ length targets → (x : Pair) → Contains pairs x ↔ Reachable next start x
-  explored_all pairs targets so_far over x =
-      (All-contains (Reachable next start) pairs x so_far.reached,
-        reachable_within next pairs closed start (0, slice_get_within pairs 0 start so_far.first, get_or_from_slice_get pairs 0 start start so_far.first) x)
+  explored_all pairs targets so_far over x = (
+    All-contains (Reachable next start) pairs x so_far.reached,
+    reachable_within next pairs closed start (0, slice_get_within pairs 0 start so_far.first, get_or_from_slice_get pairs 0 start start so_far.first) x,
+  )
     where
-    closed : (x y : Pair) → Contains pairs x → Contains (next x) y → Contains pairs y
-    closed x y (k, below, is) among =
-        let at : slice_get pairs k ≡ Some x = slice_get-get_or pairs k x below ∙ ap Some is in
-        numbers_contain pairs (next x) (get_or targets k []) (so_far.numbered k x (omega (arith, below, over)) at) y among
+      closed : (x y : Pair) → Contains pairs x → Contains (next x) y → Contains pairs y
+      closed x y (k, below, is) among =
+          let at : slice_get pairs k ≡ Some x = slice_get-get_or pairs k x below ∙ ap Some is in
+          numbers_contain pairs (next x) (get_or targets k []) (so_far.numbered k x (omega (arith, below, over)) at) y among
 
 -- ---- the pair that is asked for
 

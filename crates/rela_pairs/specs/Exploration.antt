@@ -1,5 +1,5 @@
 -- The reachable pairs in the order in which they were found, and what follows each.
-use Rattle.std.specs.Prelude.{◌≡◌, ℕ, ◌<◌, List, [], map, Option, Some, Contains, slice_get, slice_index_or}
+use Rattle.std.specs.Prelude.{◌≡◌, ℕ, ◌<◌, List, [], map, Some, Contains, slice_get, slice_index_or}
 use Rattle.rela_pairs.specs.declared.pair.Pair.{Pair}
 
 -- the pairs, and for each the numbers of its next ones

@@ -27,7 +27,10 @@ fn exchanged_pairs(rt: HostRuntime) -> Result<(), Fail> {
     let alloc = rt.alloc();
     let start = Pair { left: 1, right: 2 };
     let explored = explore(alloc, &Exchange, start, 2)?;
-    assert_eq!(rt; explored.pairs(), [start, Pair { left: 2, right: 1 }].as_slice());
+    assert_eq!(rt;
+        explored.pairs(),
+        [start, Pair { left: 2, right: 1 }].as_slice()
+    );
     let refused = explore(alloc, &Exchange, start, 1);
     assert!(rt; refused.is_err_and(|e| e == BuildError::Limit));
     Ok(())

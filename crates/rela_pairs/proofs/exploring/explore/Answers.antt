@@ -1,4 +1,4 @@
-use Rattle.std.proofs.Common.{◌≡◌, ℕ, ◌<◌, ◌≤◌, List, [], ◌∷◌, ◌++◌, Some, length, get_or, map, sym, ap, ◌∙◌, subst, arith, rules}
+use Rattle.std.proofs.Common.{◌≡◌, ◌<◌, List, [], ◌∷◌, Some, length, get_or, map, sym, ap, ◌∙◌, subst, arith}
 use Rattle.std.specs.List.{All, slice_get}
 use Rattle.std.proofs.lemmas.List.{length-map, map_push}
 use Rattle.std.proofs.lemmas.List.Elements.{All-nil}
@@ -40,14 +40,14 @@ queue-preserved g c =
     let behind : length targets < length c.queue.found = omega (arith, place, c.queue-test.true, ap length c.pairs.ensures.pairs) in
     let pair : Pair = get_or c.pairs-in-queue.result.now c.len-in-queue.result none in
     let at : slice_get c.queue.found (length targets) ≡ Some pair =
-        asked_at c.queue.found c.pairs-in-queue.result.now (length targets) c.len-in-queue.result none c.pairs-in-queue.ensures.pairs
-        (omega (arith, place, c.len.ensures, c.len-in-queue.ensures)) behind in
+    asked_at c.queue.found c.pairs-in-queue.result.now (length targets) c.len-in-queue.result none c.pairs-in-queue.ensures.pairs
+    (omega (arith, place, c.len.ensures, c.len-in-queue.ensures)) behind in
     let follow : c.deref.result.now ≡ next pair = c.deref.ensures.value ∙ c.in_ok-next.ensures.next in
     let more =
-        exploring_more next c.args.start c.args.limit IsPair c.queue.found c.number_all.new.self targets c.in_ok-number_all.field-0.items pair c.queue.invariant behind at
-        (subst (λ (l : List Pair). GrowsBy l c.queue.found c.number_all.new.self) follow c.in_ok-number_all.ensures.grows)
-        (subst (λ (l : List Pair). AreNumbers c.number_all.new.self l c.in_ok-number_all.field-0.items) follow c.in_ok-number_all.ensures.numbers) c.in_ok-number_all.ensures.few
-        (subst (λ (l : List Pair). All IsPair l) c.in_ok-next.ensures.next c.in_ok-next.ensures.pairs) in
+    exploring_more next c.args.start c.args.limit IsPair c.queue.found c.number_all.new.self targets c.in_ok-number_all.field-0.items pair c.queue.invariant behind at
+    (subst (λ (l : List Pair). GrowsBy l c.queue.found c.number_all.new.self) follow c.in_ok-number_all.ensures.grows)
+    (subst (λ (l : List Pair). AreNumbers c.number_all.new.self l c.in_ok-number_all.field-0.items) follow c.in_ok-number_all.ensures.numbers) c.in_ok-number_all.ensures.few
+    (subst (λ (l : List Pair). All IsPair l) c.in_ok-next.ensures.next c.in_ok-next.ensures.pairs) in
     subst (λ l. Exploring next c.args.start c.args.limit IsPair c.number_all.new.self l)
     (sym (ap (λ l. map (λ v. v.items) l) c.in_ok-push.ensures.items ∙ map_push (λ v. v.items) c.queue.targets.items _)) more
 
@@ -56,9 +56,9 @@ returns-in_err-number-clause-limit g c =
     let next = g.S.Successors.next c.args.successors.now in
     let p = err_from_is_err_and c.from_residual.result c.from_residual.ensures.1 in
     rw (p.1, p.2) (λ e.
-      passed_limit c.args.limit (Reachable next c.args.start) (c.args.start ∷ []) [] c.number.new.self
-      (subst (λ (l : List Pair). Passes c.args.limit (c.args.start ∷ []) l c.number.new.self) c.new-found.ensures (c.in_err-number.ensures.limit e))
-      (All-nil (Reachable next c.args.start)) (only_start next c.args.start))
+    passed_limit c.args.limit (Reachable next c.args.start) (c.args.start ∷ []) [] c.number.new.self
+    (subst (λ (l : List Pair). Passes c.args.limit (c.args.start ∷ []) l c.number.new.self) c.new-found.ensures (c.in_err-number.ensures.limit e))
+    (All-nil (Reachable next c.args.start)) (only_start next c.args.start))
 
 pub returns-in_err-number_all-clause-limit : goal.returns-in_err-number_all-clause-limit
 returns-in_err-number_all-clause-limit g c =
@@ -68,14 +68,14 @@ returns-in_err-number_all-clause-limit g c =
     let behind : length targets < length c.queue.found = omega (arith, place, c.queue-test.true, ap length c.pairs.ensures.pairs) in
     let pair : Pair = get_or c.pairs-in-queue.result.now c.len-in-queue.result none in
     let here : Reachable next c.args.start pair =
-        asked_valid (Reachable next c.args.start) c.queue.found c.pairs-in-queue.result.now (length targets) c.len-in-queue.result none c.pairs-in-queue.ensures.pairs
-        (omega (arith, place, c.len.ensures, c.len-in-queue.ensures)) behind c.queue.invariant.reached in
+    asked_valid (Reachable next c.args.start) c.queue.found c.pairs-in-queue.result.now (length targets) c.len-in-queue.result none c.pairs-in-queue.ensures.pairs
+    (omega (arith, place, c.len.ensures, c.len-in-queue.ensures)) behind c.queue.invariant.reached in
     let follow : c.deref.result.now ≡ next pair = c.deref.ensures.value ∙ c.in_ok-next.ensures.next in
     let p = err_from_is_err_and c.from_residual-in_err-number_all.result c.from_residual-in_err-number_all.ensures.1 in
     rw (p.1, p.2) (λ e.
-      passed_limit c.args.limit (Reachable next c.args.start) (next pair) c.queue.found c.number_all.new.self
-      (subst (λ (l : List Pair). Passes c.args.limit l c.queue.found c.number_all.new.self) follow (c.in_err-number_all.ensures.limit e))
-      c.queue.invariant.reached (λ x among. reachable_next next c.args.start pair x here among))
+    passed_limit c.args.limit (Reachable next c.args.start) (next pair) c.queue.found c.number_all.new.self
+    (subst (λ (l : List Pair). Passes c.args.limit l c.queue.found c.number_all.new.self) follow (c.in_err-number_all.ensures.limit e))
+    c.queue.invariant.reached (λ x among. reachable_next next c.args.start pair x here among))
 
 pub returns-clause-first : goal.returns-clause-first
 returns-clause-first g c = c.queue.invariant.first
@@ -107,6 +107,6 @@ returns-clause-within g c =
     let targets = map (λ v. v.items) c.queue.targets.items in
     no_more_than c.args.limit (Reachable (g.S.Successors.next c.args.successors.now) c.args.start) c.queue.found
     (λ x reaches.
-      (explored_all (g.S.Successors.next c.args.successors.now) c.args.start c.args.limit (g.S.Successors.is_pair c.args.successors.now) c.queue.found targets c.queue.invariant
-      (omega (arith, length-map c.queue.targets.items (λ v. v.items), c.len.ensures, c.queue.targets.ok.0, c.queue-test.false, ap length c.pairs.ensures.pairs)) x).1 reaches)
+    (explored_all (g.S.Successors.next c.args.successors.now) c.args.start c.args.limit (g.S.Successors.is_pair c.args.successors.now) c.queue.found targets c.queue.invariant
+    (omega (arith, length-map c.queue.targets.items (λ v. v.items), c.len.ensures, c.queue.targets.ok.0, c.queue-test.false, ap length c.pairs.ensures.pairs)) x).1 reaches)
     c.queue.invariant.few

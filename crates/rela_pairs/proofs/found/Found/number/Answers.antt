@@ -1,6 +1,5 @@
-use Rattle.std.proofs.Common.{◌≡◌, List, ◌∙◌, sym, ap, subst, rules}
-use Rattle.indexmap.specs.IndexSet.{insert_key}
-use Rattle.rela_pairs.proofs.Distinct.{pair_eq, pair_found, pairs_distinct}
+use Rattle.std.proofs.Common.{List, subst, rules}
+use Rattle.rela_pairs.proofs.Distinct.{pair_found, pairs_distinct}
 use Rattle.rela_pairs.proofs.Numbering.{grows_found}
 use Rattle.rela_pairs.specs.declared.pair.Pair.{Pair}
 use Rattle.rela_pairs.specs.Finding.{Finds}

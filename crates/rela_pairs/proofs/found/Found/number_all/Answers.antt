@@ -1,5 +1,4 @@
-use Rattle.std.proofs.Common.{◌≡◌, ◌+◌, take, get_or, ap, ◌∙◌, sym, refl, subst}
-use Rattle.std.specs.List.{Contains}
+use Rattle.std.proofs.Common.{◌+◌, take, get_or, sym, subst}
 use Rattle.std.proofs.lemmas.List.{get_or_default}
 use Rattle.std.proofs.lemmas.List.Elements.{Contains-get_or}
 use Rattle.std.proofs.lemmas.Result.{err_from_is_err_and}
@@ -31,5 +30,5 @@ returns-in_err-number-clause-limit c =
     let none : Pair = record { left = 0; right = 0 } in
     let p = err_from_is_err_and c.from_residual-in_err-number.result c.from_residual-in_err-number.ensures.1 in
     rw (p.1, p.2) (λ e.
-      passes_later c.args.limit pairs c.args.self.now c.loop-pair.self c.number.new.self (get_or pairs i none) c.loop-pair.invariant.grows
-      (Contains-get_or pairs i none c.loop-pair-test.true) (c.in_err-number.ensures.limit e))
+    passes_later c.args.limit pairs c.args.self.now c.loop-pair.self c.number.new.self (get_or pairs i none) c.loop-pair.invariant.grows
+    (Contains-get_or pairs i none c.loop-pair-test.true) (c.in_err-number.ensures.limit e))
