@@ -1,0 +1,14 @@
+pub mod Reaching
+pub mod Moves
+pub mod Parts
+pub mod Unions
+pub mod Edges
+pub mod Concats
+pub mod Stars
+pub mod Chains
+pub mod Flagged
+pub mod Growing
+pub mod Joint
+pub mod Meets
+pub mod Numbers
+pub mod Relabelled

@@ -1,0 +1,9 @@
+pub mod Automaton
+pub mod Construction
+pub mod Languages
+pub mod Meeting
+pub mod Reading
+pub mod Relabelling
+pub mod Runs
+pub mod StateSet
+pub mod Stored

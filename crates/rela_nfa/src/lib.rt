@@ -1,0 +1,20 @@
+//! Finite automata with silent edges: the regular languages and their operations.
+#![tactic(auto)]
+
+mod copying;
+mod edge;
+mod meet;
+mod meeting;
+mod nfa;
+mod operations;
+mod reading;
+mod relabel;
+mod state_set;
+mod words;
+
+pub use edge::Edge;
+pub use nfa::Nfa;
+pub use rela_pairs::BuildError;
+
+#[cfg(test)]
+mod tests;

@@ -1,0 +1,115 @@
+ghost use Rattle.std.specs.Prelude.{◌≡◌, ℕ, ◌<◌, ◌↔◌, List, [], IsTrue, IfOk, length, map, slice_index_or};
+ghost use Rattle.std.specs.List.{All};
+ghost use Rattle.std.specs.Option.{ForSome};
+ghost use Rattle.rela_nfa.specs.Automaton.{IsAutomaton, IsFinal, states, moves_of};
+ghost use Rattle.rela_nfa.specs.Stored.{move_of, moves_in};
+
+use crate::edge::Edge;
+use rela_labels::LabelSet;
+use std::alloc::{AllocError, Global};
+use std::marker::Model;
+
+/// A finite automaton with silent edges. It reads letters, which are numbered from 0; its states
+/// are numbered from 0 too. Contracts see it as an `Automaton`, in which each label is the list of
+/// the letters, whether each is in it.
+#[derive(Drop)]
+pub struct Nfa<L: LabelSet> {
+    pub(crate) letters: u32,
+    pub(crate) start: usize,
+    pub(crate) finals: Vec<bool>,
+    pub(crate) edges: Vec<Vec<Edge<L>>>,
+}
+
+impl<L: LabelSet> Model for Nfa<L> {
+    ghost use Rattle.rela_nfa.specs.Automaton.{Automaton, IsAutomaton};
+
+    ghost Value = { Automaton };
+
+    ghost use Rattle.rela_nfa.specs.Stored.{moves_in};
+
+    ghost view = { λ nfa. record {
+      letters = nfa.letters;
+      start = nfa.start;
+      finals = nfa.finals.items;
+      edges = moves_in L.letters nfa.edges.items;
+    } };
+
+    ghost invariant = { λ nfa. L.fits nfa.letters × IsAutomaton (record {
+      letters = nfa.letters;
+      start = nfa.start;
+      finals = nfa.finals.items;
+      edges = moves_in L.letters nfa.edges.items;
+    }) };
+}
+
+impl<L: LabelSet> Nfa<L> {
+    /// The automaton with this number of letters, this start, and for each state whether it is final
+    /// and which edges leave it.
+    pub fn from_parts(
+        alloc: Global,
+        letters: u32,
+        start: usize,
+        finals: &[bool],
+        edges: Vec<Vec<Edge<L>>>,
+    ) -> Result<Nfa<L>, AllocError>
+        requires fits { L.fits letters }
+        requires automaton { IsAutomaton (record { letters = letters; start = start; finals = finals.now; edges = moves_in L.letters edges.items }) }
+        ensures letters { IfOk result (λ nfa. nfa.letters ≡ letters) }
+        ensures start { IfOk result (λ nfa. nfa.start ≡ start) }
+        ensures finals { IfOk result (λ nfa. nfa.finals ≡ finals.now) }
+        ensures edges { IfOk result (λ nfa. nfa.edges ≡ moves_in L.letters edges.items) }
+    {
+        let finals = Vec::from_slice(alloc, finals)?;
+        Ok(Nfa {
+            letters,
+            start,
+            finals,
+            edges,
+        })
+    }
+
+    /// The number of letters.
+    pub fn letters(&self) -> u32
+        ensures letters { result ≡ self.now.letters }
+        ensures fits { L.fits self.now.letters }
+        ensures automaton { IsAutomaton self.now }
+    {
+        self.letters
+    }
+
+    /// The number of states.
+    pub fn states(&self) -> usize
+        ensures states { result ≡ states self.now }
+        ensures automaton { IsAutomaton self.now }
+    {
+        self.finals.len()
+    }
+
+    /// The state from which runs begin.
+    pub fn start(&self) -> usize
+        ensures start { result ≡ self.now.start }
+        ensures state { result < states self.now }
+        ensures automaton { IsAutomaton self.now }
+    {
+        self.start
+    }
+
+    /// Whether a word that leads to the state is accepted.
+    pub fn is_final(&self, q: usize) -> bool
+        requires { q < states self.now }
+        ensures { IsTrue result ↔ IsFinal self.now q }
+    {
+        self.finals[q]
+    }
+
+    /// The edges that leave the state.
+    pub fn edges(&self, q: usize) -> &[Edge<L>]
+        requires { q < states self.now }
+        ensures moves { map (move_of L.letters) result.now ≡ moves_of self.now q }
+        ensures automaton { IsAutomaton self.now }
+        ensures lead { All (λ edge. edge.to < states self.now) result.now }
+        ensures sized { All (λ edge. ForSome edge.label (λ set. length (L.letters set) ≡ self.now.letters)) result.now }
+    {
+        self.edges[q].as_slice()
+    }
+}

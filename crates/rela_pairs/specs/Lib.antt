@@ -1,0 +1,3 @@
+pub mod Exploration
+pub mod Finding
+pub mod Reachable

@@ -1,0 +1,39 @@
+ghost use Rattle.std.specs.Prelude.{◌≡◌, ◌<◌, [], length, slice_index_or};
+
+use crate::found::Found;
+use crate::pair::Pair;
+use std::marker::Model;
+
+/// The pairs that are reachable from a start, numbered in the order in which they were found, and for
+/// each the numbers of the pairs that follow it.
+#[derive(Drop)]
+pub struct Explored {
+    pub(crate) found: Found,
+    pub(crate) targets: Vec<Vec<usize>>,
+}
+
+impl Model for Explored {
+    ghost use Rattle.std.specs.Prelude.{map};
+    ghost use Rattle.rela_pairs.specs.Exploration.{Exploration};
+
+    ghost Value = { Exploration };
+
+    ghost view = { λ e. record { pairs = e.found; targets = map (λ v. v.items) e.targets.items } };
+}
+
+impl Explored {
+    /// The pairs, in the order of their numbers.
+    pub fn pairs(&self) -> &[Pair]
+        ensures { result.now ≡ self.now.pairs }
+    {
+        self.found.pairs()
+    }
+
+    /// The numbers of the pairs that follow the one of this number, in their order.
+    pub fn targets(&self, number: usize) -> &[usize]
+        requires { number < length self.now.targets }
+        ensures { result.now ≡ slice_index_or self.now.targets number [] }
+    {
+        self.targets[number].as_slice()
+    }
+}
