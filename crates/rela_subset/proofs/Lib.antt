@@ -1,4 +1,7 @@
+pub mod Ascending
+pub mod Closing
 pub mod Ends
+pub mod Reached
 pub mod Targets
 pub mod Views
 pub mod Visiting

@@ -50,3 +50,11 @@ pub record Adds (states seen waiting seen' waiting' : List ℕ) : Type 0 where
   pub visited : (q : ℕ) → Contains waiting' q → Contains waiting q ⊎ Contains states q
   pub ordered : IsStrictlySortedBy nat_cmp seen → IsStrictlySortedBy nat_cmp seen'
   pub balance : length waiting' + length seen ≡ length waiting + length seen'
+
+-- the states that are seen, with those of them that wait: their silent edges have not been followed
+pub record IsClosing (a : Automaton) (starts seen waiting : List ℕ) : Type 0 where
+  pub ordered : IsStrictlySortedBy nat_cmp seen
+  pub started : (q : ℕ) → Contains starts q → Contains seen q
+  pub sound : (q : ℕ) → Contains seen q → SilentlyFrom a starts q
+  pub left : (p q : ℕ) → Contains seen p → HasStep a p None q → Contains waiting p ⊎ Contains seen q
+  pub waits : (q : ℕ) → Contains waiting q → Contains seen q

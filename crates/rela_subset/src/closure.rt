@@ -1,7 +1,7 @@
 //! The states that silent edges lead to.
 ghost use Rattle.std.specs.Prelude.{◌≡◌, ◌⊎◌, ℕ, ◌<◌, ◌↔◌, true, IfOk, List, [], ◌∷◌, Contains, map};
 ghost use Rattle.std.specs.List.{All};
-ghost use Rattle.rela_nfa.specs.Automaton.{states};
+ghost use Rattle.rela_nfa.specs.Automaton.{IsAutomaton, states};
 ghost use Rattle.rela_nfa.specs.Runs.{StepIn};
 ghost use Rattle.rela_nfa.specs.Stored.{move_of};
 ghost use Rattle.rela_subset.specs.Sets.{Adds, Lists, NextFrom, SilentlyFrom, leads_by as is_by};
@@ -17,7 +17,8 @@ pub(crate) fn closure<L: LabelSet>(
     a: &Nfa<L>,
     starts: &[usize],
 ) -> Result<Vec<usize>, AllocError>
-    requires { All (λ q. q < states a.now) starts.now }
+    requires automaton { IsAutomaton a.now }
+    requires states { All (λ q. q < states a.now) starts.now }
     ensures { IfOk result (λ set. Lists (SilentlyFrom a.now starts.now) set.items) }
 {
     let mut seen = BTreeSet::new(alloc);
@@ -39,7 +40,8 @@ pub(crate) fn following<L: LabelSet>(
     set: &[usize],
     letter: u32,
 ) -> Result<Vec<usize>, AllocError>
-    requires { All (λ q. q < states a.now) set.now }
+    requires automaton { IsAutomaton a.now }
+    requires states { All (λ q. q < states a.now) set.now }
     ensures { IfOk result (λ next. Lists (NextFrom a.now set.now letter) next.items) }
 {
     let mut ends = Vec::new(alloc);
