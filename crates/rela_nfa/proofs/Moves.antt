@@ -54,8 +54,8 @@ silent_step_only ends None q step =
     (refl, subst (λ n. Contains ends n) (ap (λ (m : Move). m.to) found.1) found.2)
 silent_step_only ends (Some k) q step = let found = Contains-map_back silent ends _ step.1 in absurd (None≢Some (ap (λ (m : Move). m.label) found.1))
   where
-  None≢Some : {X : Type 0} {x : X} → None ≡ Some x → ⊥
-  None≢Some e = cc
+    None≢Some : {X : Type 0} {x : X} → None ≡ Some x → ⊥
+    None≢Some e = cc
 
 module _ (by : ℕ) (moves : List Move) where
   pub shifted_step : (letter : Option ℕ) (q : ℕ) → StepIn moves letter q → StepIn (map (shifted by) moves) letter (by + q)

@@ -3,7 +3,7 @@ use Rattle.std.proofs.Common.{◌≡◌, ◌≢◌, ℕ, ◌+◌, ◌<◌, ◌�
 use Rattle.std.specs.List.{All, Contains, range_with_len}
 use Rattle.std.specs.Option.{ForSome, option_to_list}
 use Rattle.std.proofs.lemmas.Bool.{cases_Bool, cases_lt, cond_both}
-use Rattle.std.proofs.lemmas.List.{get_or_append_left, get_or-append-add, get_or_past}
+use Rattle.std.proofs.lemmas.List.{append-nil, get_or_append_left, get_or-append-add, get_or_past}
 use Rattle.std.proofs.lemmas.List.Elements.{All-nil, All-cons, All-append, All-map, All-weaker, All-contains}
 use Rattle.std.proofs.lemmas.List.FromFn.{get_or-map-range_with_len, length-map-range_with_len}
 use Rattle.rela_nfa.specs.Automaton.{Automaton, Move, IsAutomaton, IsMove, IsFinal, moves_of, states}
@@ -62,9 +62,14 @@ leads_to_state a ok p q (Some k) step = (All-contains (IsMove a.letters (states 
 pub state_of_reach : (a : Automaton) → IsAutomaton a → (q : ℕ) (word : List ℕ) → Reach a q word → q < states a
 state_of_reach a ok = reach_each a (λ q word. q < states a) (λ p q letter word reach below step. leads_to_state a ok p q letter step) ok.starts
 
+-- silent edges to states
+pub silents_ok : (letters n : ℕ) (ends : List ℕ) → All (λ t. t < n) ends → All (IsMove letters n) (map silent ends)
+silents_ok letters n ends within =
+    All-map (IsMove letters n) silent ends (All-weaker (λ t. t < n) (λ t. IsMove letters n (silent t)) (λ t below. record { sized = λ set e. cc; leads = below }) ends within)
+
 silent_ok : (letters n : ℕ) (exit : Option ℕ) → ForSome exit (λ t. t < n) → All (IsMove letters n) (map silent (option_to_list exit))
 silent_ok letters n None within = All-nil (IsMove letters n)
-silent_ok letters n (Some t) within = All-cons (IsMove letters n) (silent t) [] (record { sized = λ set e. cc; leads = within t refl }) (All-nil (IsMove letters n))
+silent_ok letters n (Some t) within = silents_ok letters n (t ∷ []) (All-cons (λ k. k < n) t [] (within t refl) (All-nil (λ k. k < n)))
 
 -- copied edges lead to the states of an automaton with room for them
 pub copied_ok : (a : Automaton) (by : ℕ) (exit : Option ℕ) (n : ℕ) → IsAutomaton a → by + states a ≤ n → ForSome exit (λ t. t < n)
@@ -72,12 +77,24 @@ pub copied_ok : (a : Automaton) (by : ℕ) (exit : Option ℕ) (n : ℕ) → IsA
 copied_ok a by exit n ok room within =
     All-map (All (IsMove a.letters n)) (leaving a by exit) (range_with_len 0 (states a)) (λ k d below. one (get_or (range_with_len 0 (states a)) k d))
   where
-  one : (p : ℕ) → All (IsMove a.letters n) (leaving a by exit p)
-  one p =
-      All-append (IsMove a.letters n) (map (shifted by) (moves_of a p)) (cond (get_or a.finals p false) (map silent (option_to_list exit)) [])
-      (All-map (IsMove a.letters n) (shifted by) (moves_of a p)
-      (All-weaker (IsMove a.letters (states a)) (λ m. IsMove a.letters n (shifted by m)) (λ m is. record { sized = is.sized; leads = omega (arith, is.leads) }) (moves_of a p) (moves_ok a ok p)))
-      (cond_both (get_or a.finals p false) _ _ (All (IsMove a.letters n)) (λ _. silent_ok a.letters n exit within) (λ _. All-nil (IsMove a.letters n)))
+    one : (p : ℕ) → All (IsMove a.letters n) (leaving a by exit p)
+    one p =
+        All-append (IsMove a.letters n) (map (shifted by) (moves_of a p)) (cond (get_or a.finals p false) (map silent (option_to_list exit)) [])
+        (All-map (IsMove a.letters n) (shifted by) (moves_of a p)
+        (All-weaker (IsMove a.letters (states a)) (λ m. IsMove a.letters n (shifted by m)) (λ m is. record { sized = is.sized; leads = omega (arith, is.leads) }) (moves_of a p) (moves_ok a ok p)))
+        (cond_both (get_or a.finals p false) _ _ (All (IsMove a.letters n)) (λ _. silent_ok a.letters n exit within) (λ _. All-nil (IsMove a.letters n)))
+
+pub leaving_with_exit : (a : Automaton) (by q t : ℕ) → IsFinal a q → leaving a by (Some t) q ≡ map (shifted by) (moves_of a q) ++ silent t ∷ []
+leaving_with_exit a by q t final = ap (λ b. map (shifted by) (moves_of a q) ++ cond b (silent t ∷ []) []) final
+
+pub leaving_without_exit : (a : Automaton) (by q : ℕ) → leaving a by None q ≡ map (shifted by) (moves_of a q)
+leaving_without_exit a by q =
+    cond_both (get_or a.finals q false) [] [] (λ l. map (shifted by) (moves_of a q) ++ l ≡ map (shifted by) (moves_of a q))
+    (λ _. append-nil (map (shifted by) (moves_of a q))) (λ _. append-nil (map (shifted by) (moves_of a q)))
+
+pub leaving_unless_final : (a : Automaton) (by : ℕ) (exit : Option ℕ) (q : ℕ) → get_or a.finals q false ≡ false → leaving a by exit q ≡ map (shifted by) (moves_of a q)
+leaving_unless_final a by exit q other =
+    ap (λ b. map (shifted by) (moves_of a q) ++ cond b (map silent (option_to_list exit)) []) other ∙ append-nil (map (shifted by) (moves_of a q))
 
 -- only states have edges
 pub state_of_step : (a : Automaton) → IsAutomaton a → (p q : ℕ) (letter : Option ℕ) → HasStep a p letter q → p < states a
@@ -106,13 +123,13 @@ module _ (a r : Automaton) (by : ℕ) (exit : Option ℕ) (ok : IsAutomaton a) (
       elim (step_cases (map (shifted by) (moves_of a p)) (cond (get_or a.finals p false) out []) letter q (subst (λ l. StepIn l letter q) (part.standing p below) step)) [
         | inl own ↦ inl (shifted_step_back by (moves_of a p) letter q own)
         | inr leaves ↦ elim (cases_Bool (get_or a.finals p false)) [
-            | inl final ↦
-                let only = silent_step_only (option_to_list exit) letter q (subst (λ b. StepIn (cond b out []) letter q) final leaves) in
-                inr (final, only.0, only_exit exit q only.1)
-            | inr other ↦ absurd (no_step letter q (subst (λ b. StepIn (cond b out []) letter q) other leaves))
-          ]
+          | inl final ↦
+              let only = silent_step_only (option_to_list exit) letter q (subst (λ b. StepIn (cond b out []) letter q) final leaves) in
+              inr (final, only.0, only_exit exit q only.1)
+          | inr other ↦ absurd (no_step letter q (subst (λ b. StepIn (cond b out []) letter q) other leaves))
+        ]
       ]
     where
-    only_exit : (o : Option ℕ) (q : ℕ) → Contains (option_to_list o) q → o ≡ Some q
-    only_exit None q c = absurd (Contains-nil q c)
-    only_exit (Some t) q c = elim (Contains-cons_cases t [] q c) [ inl same ↦ ap Some same | inr other ↦ absurd (Contains-nil q other) ]
+      only_exit : (o : Option ℕ) (q : ℕ) → Contains (option_to_list o) q → o ≡ Some q
+      only_exit None q c = absurd (Contains-nil q c)
+      only_exit (Some t) q c = elim (Contains-cons_cases t [] q c) [ inl same ↦ ap Some same | inr other ↦ absurd (Contains-nil q other) ]

@@ -1,7 +1,7 @@
 -- How the edges of one automaton stand in another that is built of it.
-use Rattle.std.specs.Prelude.{ℕ, ◌+◌, false, List, [], ◌∷◌, ◌++◌, map, Option, None, slice_index_or, if◌then◌else◌}
+use Rattle.std.specs.Prelude.{◌≡◌, ℕ, replicate, ◌+◌, ◌==◌, Bool, false, List, [], ◌∷◌, ◌++◌, length, map, Option, None, Some, slice_index_or, if◌then◌else◌}
 use Rattle.std.specs.Option.{option_to_list}
-use Rattle.std.specs.List.{range_with_len}
+use Rattle.std.specs.List.{All, range_with_len}
 use Rattle.rela_nfa.specs.Automaton.{Automaton, Move, moves_of, states}
 
 -- the edge, its end `by` later
@@ -20,3 +20,22 @@ leaving a by exit p =
 -- those of each state
 abbrev pub copied : Automaton → ℕ → Option ℕ → List (List Move)
 copied a by exit = map (leaving a by exit) (range_with_len 0 (states a))
+
+-- the set of one letter
+abbrev pub single : ℕ → ℕ → List Bool
+single letters k = map (λ j. j == k) (range_with_len 0 letters)
+
+-- an edge to the next state by a letter of the set at this place
+abbrev pub link : List (List Bool) → ℕ → List Move
+link sets i = record { label = Some (slice_index_or sets i []); to = i + 1 } ∷ []
+
+-- a state for each set, which leads to the next, and one more
+abbrev pub links : List (List Bool) → List (List Move)
+links sets = map (link sets) (range_with_len 0 (length sets)) ++ [] ∷ []
+
+-- a state for each set, which leads to the next by a letter of it, and one more, which is final or not
+pub record IsChain (sets : List (List Bool)) (final : Bool) (r : Automaton) : Type 0 where
+  pub start : r.start ≡ 0
+  pub edges : r.edges ≡ links sets
+  pub finals : r.finals ≡ replicate (length sets) false ++ final ∷ []
+  pub sized : All (λ set. length set ≡ r.letters) sets

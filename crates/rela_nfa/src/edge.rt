@@ -1,4 +1,9 @@
+ghost use Rattle.std.specs.Prelude.{◌≡◌, ◌+◌, ◌<◌, ◌^◌, IfOk};
+ghost use Rattle.rela_nfa.specs.Construction.{shifted};
+ghost use Rattle.rela_nfa.specs.Stored.{move_of};
+
 use rela_labels::LabelSet;
+use std::alloc::{AllocError, Global};
 
 /// An edge out of a state: to another state, by any one letter of the label, or silently where it
 /// has none.
@@ -6,4 +11,21 @@ use rela_labels::LabelSet;
 pub struct Edge<L> {
     pub label: Option<L>,
     pub to: usize,
+}
+
+impl<L: LabelSet> Edge<L> {
+    /// A copy of the edge that leads to a state `by` later.
+    pub(crate) fn shifted(&self, alloc: Global, by: usize) -> Result<Edge<L>, AllocError>
+        requires { by + self.now.to < 2 ^ 64 }
+        ensures { IfOk result (λ edge. move_of L.letters edge ≡ shifted by (move_of L.letters self.now)) }
+    {
+        let to = by + self.to;
+        match &self.label {
+            Some(set) => Ok(Edge {
+                label: Some(set.copy(alloc)?),
+                to,
+            }),
+            None => Ok(Edge { label: None, to }),
+        }
+    }
 }

@@ -1,5 +1,6 @@
 ghost use Rattle.std.specs.Prelude.{◌≡◌, ℕ, ◌<◌, ◌↔◌, List, [], IsTrue, IfOk, length, map, slice_index_or};
 ghost use Rattle.std.specs.List.{All};
+ghost use Rattle.std.specs.Option.{ForSome};
 ghost use Rattle.rela_nfa.specs.Automaton.{IsAutomaton, IsFinal, states, moves_of};
 ghost use Rattle.rela_nfa.specs.Stored.{move_of, moves_in};
 
@@ -13,10 +14,10 @@ use std::marker::Model;
 /// the letters, whether each is in it.
 #[derive(Drop)]
 pub struct Nfa<L: LabelSet> {
-    letters: u32,
-    start: usize,
-    finals: Vec<bool>,
-    edges: Vec<Vec<Edge<L>>>,
+    pub(crate) letters: u32,
+    pub(crate) start: usize,
+    pub(crate) finals: Vec<bool>,
+    pub(crate) edges: Vec<Vec<Edge<L>>>,
 }
 
 impl<L: LabelSet> Model for Nfa<L> {
@@ -103,7 +104,9 @@ impl<L: LabelSet> Nfa<L> {
     /// The edges that leave the state.
     pub fn edges(&self, q: usize) -> &[Edge<L>]
         requires { q < states self.now }
-        ensures { map (move_of L.letters) result.now ≡ moves_of self.now q }
+        ensures moves { map (move_of L.letters) result.now ≡ moves_of self.now q }
+        ensures lead { All (λ edge. edge.to < states self.now) result.now }
+        ensures sized { All (λ edge. ForSome edge.label (λ set. length (L.letters set) ≡ self.now.letters)) result.now }
     {
         self.edges[q].as_slice()
     }

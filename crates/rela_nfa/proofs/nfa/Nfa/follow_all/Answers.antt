@@ -1,0 +1,29 @@
+use Rattle.std.proofs.Common.{◌≡◌, List, [], ◌∷◌, ◌++◌, map, take, get_or, sym, ap, ◌∙◌, subst}
+use Rattle.std.proofs.lemmas.List.{map_more, take_all}
+use Rattle.rela_nfa.specs.Automaton.{Move}
+use Rattle.rela_nfa.specs.Runs.{StepIn}
+use Rattle.rela_nfa.specs.StateSet.{Adds}
+use Rattle.rela_nfa.specs.Stored.{move_of}
+use Rattle.rela_nfa.proofs.Growing.{no_edge, one_edge}
+use Rattle.rela_nfa.proofs.nfa.Nfa.follow_all.Goals as goal
+
+pub loop-edge-preserved : goal.loop-edge-preserved
+loop-edge-preserved g c =
+    let move = move_of g.L.LabelSet.letters in
+    let items = c.edges-edge-items.result.now in
+    let i = c.loop-edge.edge-index in
+    let edge = c.edge-item.result in
+    let so_far = map move (take i items) in
+    record {
+      count = c.in_ok-follow.ensures.count ∙ c.loop-edge.invariant.count;
+      adds =
+          subst (λ (l : List Move). Adds (StepIn l c.args.letter) c.args.set.now.states c.follow.new.set.states)
+          (sym (map_more move items i edge c.loop-edge-test.true ∙ ap (λ e. so_far ++ move e ∷ []) (sym c.edge-item.is)))
+          (one_edge so_far (move edge) c.args.letter c.args.set.now.states c.loop-edge.set.states c.follow.new.set.states c.loop-edge.invariant.adds c.in_ok-follow.ensures.adds);
+    }
+
+pub returns-clause-adds : goal.returns-clause-adds
+returns-clause-adds g c =
+    let items = c.edges-edge-items.result.now in
+    subst (λ (l : List Move). Adds (StepIn l c.args.letter) c.args.set.now.states c.loop-edge.set.states)
+    (ap (λ l. map (move_of g.L.LabelSet.letters) l) (take_all c.loop-edge.edge-index items c.loop-edge-test.false) ∙ c.edges-edge-items.ensures.moves) c.loop-edge.invariant.adds

@@ -1,0 +1,87 @@
+ghost use Rattle.std.specs.Prelude.{◌≡◌, ℕ, ◌+◌, ◌<◌, ◌↔◌, ◌⊎◌, List, [], IfOk};
+ghost use Rattle.rela_nfa.specs.Automaton.{states};
+ghost use Rattle.rela_nfa.specs.Languages.{Joins, Repeats};
+ghost use Rattle.rela_nfa.specs.Runs.{Reach, Accepts};
+
+use crate::copying::silent_edges;
+use crate::nfa::Nfa;
+use rela_labels::LabelSet;
+use std::alloc::{AllocError, Global};
+
+impl<L: LabelSet> Nfa<L> {
+    /// The words of one language or the other. State 0 is a start of its own; the states of `self`
+    /// come after it, and then those of `other`.
+    pub fn union(&self, alloc: Global, other: &Nfa<L>) -> Result<Nfa<L>, AllocError>
+        requires letters { self.now.letters ≡ other.now.letters }
+        ensures letters { IfOk result (λ nfa. nfa.letters ≡ self.now.letters) }
+        ensures states { IfOk result (λ nfa. states nfa ≡ 1 + states self.now + states other.now) }
+        ensures start { IfOk result (λ nfa. (w : List ℕ) → Reach nfa 0 w ↔ (w ≡ [])) }
+        ensures first { IfOk result (λ nfa. (q : ℕ) (w : List ℕ) → q < states self.now → Reach nfa (1 + q) w ↔ Reach self.now q w) }
+        ensures second { IfOk result (λ nfa. (q : ℕ) (w : List ℕ) → Reach nfa (1 + states self.now + q) w ↔ Reach other.now q w) }
+        ensures language { IfOk result (λ nfa. (w : List ℕ) → Accepts nfa w ↔ (Accepts self.now w ⊎ Accepts other.now w)) }
+    {
+        let count = self.states();
+        let mut finals = Vec::new(alloc);
+        finals.push(false)?;
+        finals.extend_from_slice(&self.finals)?;
+        finals.extend_from_slice(&other.finals)?;
+        let mut edges = Vec::new(alloc);
+        edges.push(silent_edges(alloc, &[1 + self.start(), 1 + count + other.start()])?)?;
+        self.copy_onto(alloc, &mut edges, 1, None)?;
+        other.copy_onto(alloc, &mut edges, 1 + count, None)?;
+        Ok(Nfa {
+            letters: self.letters,
+            start: 0,
+            finals,
+            edges,
+        })
+    }
+
+    /// A word of `self` followed by one of `other`. The states of `self` come first, and then those of
+    /// `other`.
+    pub fn concat(&self, alloc: Global, other: &Nfa<L>) -> Result<Nfa<L>, AllocError>
+        requires letters { self.now.letters ≡ other.now.letters }
+        ensures letters { IfOk result (λ nfa. nfa.letters ≡ self.now.letters) }
+        ensures states { IfOk result (λ nfa. states nfa ≡ states self.now + states other.now) }
+        ensures first { IfOk result (λ nfa. (q : ℕ) (w : List ℕ) → q < states self.now → Reach nfa q w ↔ Reach self.now q w) }
+        ensures second { IfOk result (λ nfa. (q : ℕ) (w : List ℕ) → Reach nfa (states self.now + q) w ↔ Joins (Accepts self.now) (Reach other.now q) w) }
+        ensures language { IfOk result (λ nfa. (w : List ℕ) → Accepts nfa w ↔ Joins (Accepts self.now) (Accepts other.now) w) }
+    {
+        let count = self.states();
+        let mut finals = vec![in alloc; false; count]?;
+        finals.extend_from_slice(&other.finals)?;
+        let mut edges = Vec::new(alloc);
+        self.copy_onto(alloc, &mut edges, 0, Some(count + other.start()))?;
+        other.copy_onto(alloc, &mut edges, count, None)?;
+        Ok(Nfa {
+            letters: self.letters,
+            start: self.start(),
+            finals,
+            edges,
+        })
+    }
+
+    /// Any number of words of `self`, one after the other. State 0 is a start of its own, to which no
+    /// edge leads; the states of `self` come after it.
+    pub fn star(&self, alloc: Global) -> Result<Nfa<L>, AllocError>
+        ensures letters { IfOk result (λ nfa. nfa.letters ≡ self.now.letters) }
+        ensures states { IfOk result (λ nfa. states nfa ≡ 1 + states self.now) }
+        ensures start { IfOk result (λ nfa. (w : List ℕ) → Reach nfa 0 w ↔ (w ≡ [])) }
+        ensures copies { IfOk result (λ nfa. (q : ℕ) (w : List ℕ) → Reach nfa (1 + q) w ↔ Joins (Repeats (Accepts self.now)) (Reach self.now q) w) }
+        ensures language { IfOk result (λ nfa. (w : List ℕ) → Accepts nfa w ↔ Repeats (Accepts self.now) w) }
+    {
+        let mut finals = Vec::new(alloc);
+        finals.push(true)?;
+        finals.extend_from_slice(&self.finals)?;
+        let entry = 1 + self.start();
+        let mut edges = Vec::new(alloc);
+        edges.push(silent_edges(alloc, &[entry])?)?;
+        self.copy_onto(alloc, &mut edges, 1, Some(entry))?;
+        Ok(Nfa {
+            letters: self.letters,
+            start: 0,
+            finals,
+            edges,
+        })
+    }
+}

@@ -1,0 +1,116 @@
+ghost use Rattle.std.specs.Prelude.{◌≡◌, ℕ, ◌+◌, ◌<◌, ◌≤◌, ◌↔◌, true, List, [], IfOk, length, map, take};
+ghost use Rattle.std.specs.List.{All};
+ghost use Rattle.rela_nfa.specs.Automaton.{states};
+ghost use Rattle.rela_nfa.specs.Construction.{single, links, IsChain};
+ghost use Rattle.rela_nfa.specs.Languages.{IsLetterOf};
+ghost use Rattle.rela_nfa.specs.Runs.{Reach, Accepts};
+ghost use Rattle.rela_nfa.specs.Stored.{moves_in};
+
+use crate::copying::{one_edge, one_letter};
+use crate::edge::Edge;
+use crate::nfa::Nfa;
+use rela_labels::LabelSet;
+use std::alloc::{AllocError, Global};
+
+impl<L: LabelSet> Nfa<L> {
+    /// No word at all.
+    pub fn none(alloc: Global, letters: u32) -> Result<Nfa<L>, AllocError>
+        requires { L.fits letters }
+        ensures letters { IfOk result (λ nfa. nfa.letters ≡ letters) }
+        ensures states { IfOk result (λ nfa. states nfa ≡ 1) }
+        ensures start { IfOk result (λ nfa. (w : List ℕ) → Reach nfa 0 w ↔ (w ≡ [])) }
+        ensures language { IfOk result (λ nfa. (w : List ℕ) → ¬ Accepts nfa w) }
+    {
+        one_state(alloc, letters, false)
+    }
+
+    /// The empty word alone.
+    pub fn empty_word(alloc: Global, letters: u32) -> Result<Nfa<L>, AllocError>
+        requires { L.fits letters }
+        ensures letters { IfOk result (λ nfa. nfa.letters ≡ letters) }
+        ensures states { IfOk result (λ nfa. states nfa ≡ 1) }
+        ensures start { IfOk result (λ nfa. (w : List ℕ) → Reach nfa 0 w ↔ (w ≡ [])) }
+        ensures language { IfOk result (λ nfa. (w : List ℕ) → Accepts nfa w ↔ (w ≡ [])) }
+    {
+        one_state(alloc, letters, true)
+    }
+
+    /// Each word of one letter that is in the set.
+    pub fn class(alloc: Global, letters: u32, set: &L) -> Result<Nfa<L>, AllocError>
+        requires fits { L.fits letters }
+        requires sized { length (L.letters set.now) ≡ letters }
+        ensures letters { IfOk result (λ nfa. nfa.letters ≡ letters) }
+        ensures states { IfOk result (λ nfa. states nfa ≡ 2) }
+        ensures start { IfOk result (λ nfa. (w : List ℕ) → Reach nfa 0 w ↔ (w ≡ [])) }
+        ensures end { IfOk result (λ nfa. (w : List ℕ) → Reach nfa 1 w ↔ IsLetterOf (L.letters set.now) w) }
+        ensures language { IfOk result (λ nfa. (w : List ℕ) → Accepts nfa w ↔ IsLetterOf (L.letters set.now) w) }
+    {
+        let finals = Vec::from_slice(alloc, &[false, true])?;
+        let mut edges = Vec::new(alloc);
+        edges.push(one_edge(alloc, set.copy(alloc)?, 1)?)?;
+        edges.push(Vec::new(alloc))?;
+        Ok(Nfa {
+            letters,
+            start: 0,
+            finals,
+            edges,
+        })
+    }
+
+    /// This word alone. State `i` is reached by its first `i` letters.
+    pub fn word(alloc: Global, letters: u32, word: &[u32]) -> Result<Nfa<L>, AllocError>
+        requires fits { L.fits letters }
+        requires letters { All (λ k. k < letters) word.now }
+        ensures letters { IfOk result (λ nfa. nfa.letters ≡ letters) }
+        ensures states { IfOk result (λ nfa. states nfa ≡ length word.now + 1) }
+        ensures reached { IfOk result (λ nfa. (q : ℕ) (w : List ℕ) → Reach nfa q w ↔ ((q ≤ length word.now) × (w ≡ take q word.now))) }
+        ensures language { IfOk result (λ nfa. (w : List ℕ) → Accepts nfa w ↔ (w ≡ word.now)) }
+    {
+        let mut finals = vec![in alloc; false; word.len()]?;
+        finals.push(true)?;
+        let edges = edges_of_word(alloc, letters, word)?;
+        Ok(Nfa {
+            letters,
+            start: 0,
+            finals,
+            edges,
+        })
+    }
+}
+
+/// For each letter an edge to the next state, and no edge from the last state.
+fn edges_of_word<L: LabelSet>(
+    alloc: Global,
+    letters: u32,
+    word: &[u32],
+) -> Result<Vec<Vec<Edge<L>>>, AllocError>
+    requires fits { L.fits letters }
+    requires letters { All (λ k. k < letters) word.now }
+    ensures { IfOk result (λ edges. moves_in L.letters edges.items ≡ links (map (single letters) word.now)) }
+{
+    let mut edges = Vec::with_capacity(alloc, word.len())?;
+    for letter in word {
+        let set = one_letter(alloc, letters, *letter)?;
+        let next = edges.len() + 1;
+        edges.push(one_edge(alloc, set, next)?)?;
+    }
+    edges.push(Vec::new(alloc))?;
+    Ok(edges)
+}
+
+/// The automaton of one state and no edge.
+fn one_state<L: LabelSet>(alloc: Global, letters: u32, is_final: bool) -> Result<Nfa<L>, AllocError>
+    requires { L.fits letters }
+    ensures letters { IfOk result (λ nfa. nfa.letters ≡ letters) }
+    ensures chain { IfOk result (λ nfa. IsChain [] is_final nfa) }
+{
+    let finals = Vec::from_slice(alloc, &[is_final])?;
+    let mut edges = Vec::new(alloc);
+    edges.push(Vec::new(alloc))?;
+    Ok(Nfa {
+        letters,
+        start: 0,
+        finals,
+        edges,
+    })
+}
