@@ -76,6 +76,11 @@ closing_more a starts seen waiting p ends waiting' seen'' waiting'' is popped en
       ];
     }
 
+-- a state that waits is a state
+pub waiting_within : (a : Automaton) (starts seen waiting waiting' : List ℕ) (p : ℕ) → IsAutomaton a → All (λ q. q < states a) starts → IsClosing a starts seen waiting → waiting ≡ waiting' ++ p ∷ [] → p < states a
+waiting_within a starts seen waiting waiting' p ok within is popped =
+    All-contains (λ q. q < states a) seen p (closing_within a starts seen waiting ok within is) (is.waits p (subst (λ w. Contains w p) (sym popped) (Contains-push waiting' p)))
+
 -- fewer states wait or are not seen
 pub closing_smaller : (n : ℕ) (seen waiting : List ℕ) (p : ℕ) (ends waiting' seen'' waiting'' : List ℕ) → waiting ≡ waiting' ++ p ∷ [] → Adds ends seen waiting' seen'' waiting''
     → length seen ≤ n → length seen'' ≤ n → length waiting'' + (n - length seen'') < length waiting + (n - length seen)
@@ -100,3 +105,11 @@ closing_done a starts seen waiting none is =
       ordered = is.ordered;
       members = λ q. (is.sound q, λ (p, start, (steps, follows, spells)). silent_seen a starts seen done steps p q (is.started p start) follows spells);
     }
+
+-- one that waited is done: the rest is kept, and less is left
+pub closing_step : (a : Automaton) (starts seen waiting : List ℕ) (p : ℕ) (ends waiting' seen'' waiting'' : List ℕ) → IsAutomaton a → All (λ q. q < states a) starts
+    → IsClosing a starts seen waiting → waiting ≡ waiting' ++ p ∷ [] → ((q : ℕ) → Contains ends q ↔ HasStep a p None q) → Adds ends seen waiting' seen'' waiting''
+    → IsClosing a starts seen'' waiting'' × (length waiting'' + (states a - length seen'') < length waiting + (states a - length seen))
+closing_step a starts seen waiting p ends waiting' seen'' waiting'' ok within is popped ends_are added =
+    let next = closing_more a starts seen waiting p ends waiting' seen'' waiting'' is popped ends_are added in
+    (next, closing_smaller (states a) seen waiting p ends waiting' seen'' waiting'' popped added (few_seen a starts seen waiting ok within is) (few_seen a starts seen'' waiting'' ok within next))

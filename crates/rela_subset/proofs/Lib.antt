@@ -1,7 +1,10 @@
 pub mod Ascending
 pub mod Closing
 pub mod Ends
+pub mod Following
+pub mod Narrowing
 pub mod Reached
+pub mod SetsFound
 pub mod Targets
 pub mod Views
 pub mod Visiting

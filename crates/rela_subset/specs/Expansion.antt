@@ -1,12 +1,33 @@
 -- The sets of states that follow a set, and the edges to them.
-use Rattle.std.specs.Prelude.{◌≡◌, ◌≢◌, ℕ, ◌+◌, ◌<◌, ◌≤◌, ◌⊎◌, ◌&&◌, not, Bool, true, false, List, [], ◌∷◌, ◌++◌, length, count_by, Option, Some, IsSome, slice_index, slice_index_or, if◌then◌else◌}
+use Rattle.std.specs.Prelude.{◌≡◌, ◌≢◌, ℕ, ◌+◌, ◌<◌, ◌≤◌, ◌⊎◌, ◌↔◌, ◌&&◌, ◌||◌, not, Bool, true, false, List, [], ◌∷◌, ◌++◌, length, count_by, Option, Some, IsSome, slice_index, slice_index_or, slice_set, nat_eq, if◌then◌else◌}
+use Rattle.std.specs.HashMap.{HashMap, get}
 use Rattle.std.specs.List.{All}
 use Rattle.std.specs.Option.{ForSome}
 use Rattle.rela_labels.specs.Letters.{has}
 use Rattle.rela_names.specs.Shortlex.{IsBefore}
-use Rattle.rela_nfa.specs.Automaton.{Automaton, Move, IsMove}
+use Rattle.rela_nfa.specs.Automaton.{Automaton, Move, IsMove, moves_of}
 use Rattle.rela_subset.specs.Deterministic.{takes, target, IsOver, IsSplit}
 use Rattle.rela_subset.specs.Sets.{Lists, NextFrom, ReachedBy}
+
+-- by the two letters the same edges may be taken
+abbrev pub AreTakenAlike : List Move → ℕ → ℕ → Type 0
+AreTakenAlike moves j k = All (λ move. takes k move ≡ takes j move) moves
+
+-- the letters of the rest by which the same edges may be taken from the states of the set as by j
+abbrev pub IsAlike : Automaton → List ℕ → List Bool → ℕ → List Bool → Type 0
+IsAlike a set rest j block = (k : ℕ) → (has block k ≡ true) ↔ ((has rest k ≡ true) × All (λ q. AreTakenAlike (moves_of a q) j k) set)
+
+-- the edge with this label and end is among the new ones, or the label has been joined to that of an old one
+abbrev pub IsPutIn : List Bool → ℕ → List Move → List Move → Type 0
+IsPutIn set to old new =
+    (new ≡ old ++ record { label = Some set; to = to } ∷ [])
+    ⊎ ((i : ℕ) × (joined : List Bool) × (i < length old) × (new ≡ slice_set old i (record { label = Some joined; to = to }))
+    × ((move : Move) → (slice_index_or old i move).to ≡ to) × (length joined ≡ length set)
+    × ((k : ℕ) (move : Move) → has joined k ≡ (takes k (slice_index_or old i move) || has set k)))
+
+-- each place is that of an edge to the end
+abbrev pub ArePlaced : {S : Type 0} → List Move → HashMap ℕ ℕ S → Type 0
+ArePlaced moves places = (to i : ℕ) → get nat_eq places to ≡ Some i → (i < length moves) × ((move : Move) → (slice_index_or moves i move).to ≡ to)
 
 -- the sets found from a set stand behind the old ones, one for each of some letters, which ascend
 pub record HasGrown (a : Automaton) (over : List Bool) (set : List ℕ) (old new : List (List ℕ)) (letters : List ℕ) : Type 0 where

@@ -30,7 +30,14 @@ pub(crate) fn closure<L: LabelSet>(
         push_ends(&mut ends, a.edges(q), None)?;
         visit_all(&mut seen, &mut waiting, &ends)?;
     }
-    seen.iter().copied().collect(alloc)
+    in_order(alloc, &seen)
+}
+
+/// The states of the set, in ascending order.
+fn in_order(alloc: Global, set: &BTreeSet<usize>) -> Result<Vec<usize>, AllocError>
+    ensures { IfOk result (λ states. states.items ≡ set.now.keys) }
+{
+    set.iter().copied().collect(alloc)
 }
 
 /// The states that follow those of the set by the letter, with those that silent edges then lead to.
