@@ -1,8 +1,13 @@
 pub mod Ascending
+pub mod Bundling
 pub mod Closing
 pub mod Ends
+pub mod Expanding
+pub mod Exploring
+pub mod Fewer
 pub mod Following
 pub mod Narrowing
+pub mod Placing
 pub mod Reached
 pub mod SetsFound
 pub mod Targets

@@ -61,6 +61,10 @@ pub record IsExpanded (a : Automaton) (over rest : List Bool) (set : List ℕ) (
   pub within : (letter : ℕ) → has rest letter ≡ true → has over letter ≡ true
   pub ahead : (letter : ℕ) → has rest letter ≡ true → All (λ found. found < letter) letters
 
+-- the edges out of a set, for all letters that are over
+abbrev pub IsExpandedOver : Automaton → List Bool → List ℕ → List (List ℕ) → List (List ℕ) → List Move → Type 0
+IsExpandedOver a over set old new moves = (rest : List Bool) × ((letter : ℕ) → has rest letter ≡ false) × IsExpanded a over rest set old new moves
+
 -- the word is not before the other
 abbrev pub IsUpTo : List ℕ → List ℕ → Type 0
 IsUpTo u v = (u ≡ v) ⊎ IsBefore u v

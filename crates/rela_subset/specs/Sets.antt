@@ -2,7 +2,7 @@
 use Rattle.std.specs.Prelude.{◌≡◌, ◌≢◌, ℕ, ◌+◌, ◌<◌, ◌⊎◌, ◌↔◌, Bool, List, [], length, slice_index_or, Contains, Option, None, Some, is_none}
 use Rattle.std.specs.List.Sorted.{IsStrictlySortedBy}
 use Rattle.std.specs.Ordering.{nat_cmp}
-use Rattle.rela_nfa.specs.Automaton.{Automaton, Move}
+use Rattle.rela_nfa.specs.Automaton.{Automaton, IsFinal, Move}
 use Rattle.rela_nfa.specs.Runs.{Step, Follow, HasStep, Reach, spelled}
 use Rattle.rela_subset.specs.Deterministic.{takes}
 
@@ -30,6 +30,10 @@ NextFrom a set letter q = (p : ℕ) × StepFrom a set letter p × Silently a p q
 -- the word reaches q
 abbrev pub ReachedBy : Automaton → List ℕ → ℕ → Type 0
 ReachedBy a word q = Reach a q word
+
+-- a state of the set is final
+abbrev pub HasFinal : Automaton → List ℕ → Type 0
+HasFinal a set = (q : ℕ) × Contains set q × IsFinal a q
 
 -- no set stands twice
 abbrev pub AreDistinct : List (List ℕ) → Type 0

@@ -4,12 +4,15 @@
 mod alike;
 mod bundle;
 mod closure;
+mod construction;
 mod copies;
 mod dfa;
 mod error;
+mod expansion;
 mod opposite;
 mod state_sets;
 
+pub use construction::determinise;
 pub use dfa::Dfa;
 pub use error::BuildError;
 pub use opposite::complement;
