@@ -3,16 +3,19 @@ use Rattle.std.proofs.Common.{◌≡◌, ◌≢◌, ℕ, ◌+◌, ◌-◌, ◌<�
 use Rattle.std.specs.List.{All, count_by}
 use Rattle.std.specs.Option.{IsSome}
 use Rattle.std.proofs.lemmas.Bool.{cases_Bool, cases_lt, cases_eq, false≢true}
-use Rattle.std.proofs.lemmas.List.{get_or-map, get_or_append_left, get_or-append_right, get_or_push, length-map, length_push}
-use Rattle.std.proofs.lemmas.List.Elements.{All-get_or, All-nil, All-push, All-weaker}
+use Rattle.std.proofs.lemmas.List.{get_or_default, get_or-map, get_or_append_left, get_or-append_right, get_or_push, length-map, length_push}
+use Rattle.std.proofs.lemmas.List.Elements.{All-from_get_or, All-get_or, All-nil, All-push, All-weaker}
 use Rattle.rela_labels.specs.Letters.{has}
 use Rattle.rela_names.specs.Shortlex.{IsBefore, IsSmaller}
 use Rattle.rela_names.proofs.ShortlexLaws.{before_transitive}
-use Rattle.rela_nfa.specs.Automaton.{Automaton, Move, IsMove}
+use Rattle.rela_nfa.specs.Automaton.{Automaton, IsAutomaton, Move, IsMove, states}
 use Rattle.rela_subset.specs.Deterministic.{IsOver, IsSplit, takes, target}
 use Rattle.rela_subset.specs.Expansion.{AreLabelled, Follows, HasGrown, IsExpanded, IsExpandedOver, IsExplored, IsOut, IsUpTo, Leads}
-use Rattle.rela_subset.specs.Sets.{Lists, NextFrom, ReachedBy}
-use Rattle.rela_subset.proofs.Reached.{reached_next}
+use Rattle.rela_subset.specs.Sets.{AreDistinct, Lists, NextFrom, ReachedBy}
+use Rattle.rela_subset.specs.Subsets.{AreApart, ReachSets}
+use Rattle.rela_subset.proofs.Ascending.{apart_lists}
+use Rattle.rela_subset.proofs.Bundling.{digit}
+use Rattle.rela_subset.proofs.Reached.{reached_next, reached_within}
 
 smaller_push : (u v : List ℕ) (j k : ℕ) → length u ≡ length v → IsSmaller u v → IsSmaller (u ++ j ∷ []) (v ++ k ∷ [])
 smaller_push [] v j k same smaller = absurd smaller
@@ -241,6 +244,27 @@ module _ (a : Automaton) (over : List Bool) (sets : List (List ℕ)) (edges : Li
         ];
       }
 
+  -- the words reach as many sets
+  pub reach_sets : (n : ℕ) → length new ≡ n → AreDistinct new → ReachSets a over n
+  reach_sets n count distinct =
+      let len = words_length in
+      record {
+        words = words';
+        count = words_length ∙ count;
+        letters = All-from_get_or (IsOver over) words' [] (λ i below. read' i (omega arith));
+        apart = λ i j e before within.
+            let i_in : i < length words' = omega arith in
+            let told = apart_lists (ReachedBy a (get_or words' i [])) (ReachedBy a (get_or words' j [])) (get_or new i []) (get_or new j [])
+            (reached' i (omega arith)) (reached' j (omega arith)) (distinct i j before (omega arith)) in
+            subst (λ w. AreApart a w (get_or words' j e)) (get_or_default words' i [] e i_in)
+            (subst (λ w. AreApart a (get_or words' i []) w) (get_or_default words' j [] e within) told);
+      }
+
+-- the states of a set are states
+pub explored_within : (a : Automaton) (over : List Bool) (sets : List (List ℕ)) (edges : List (List Move)) → IsAutomaton a → IsExplored a over sets edges
+    → (i : ℕ) → i < length sets → All (λ q. q < states a) (get_or sets i [])
+explored_within a over sets edges ok is i below = reached_within a ok (get_or sets i []) (get_or is.words i []) (is.reached i below)
+
 -- one set more has been left by its edges
 pub explored_more : (a : Automaton) (over : List Bool) (sets : List (List ℕ)) (edges : List (List Move)) (new : List (List ℕ)) (set : List ℕ) (moves : List Move)
     → IsExplored a over sets edges → length edges < length sets → set ≡ get_or sets (length edges) [] → IsExpandedOver a over set sets new moves → IsExplored a over new (edges ++ moves ∷ [])
@@ -252,7 +276,7 @@ explored_more a over sets edges new set moves is left at expanded =
       leads = λ k read. new_follows a over sets edges is left new done.letters done.grown k moves (done.leads k read (none k));
     })
   where
-  all_read : (x y : Bool) → y ≡ false → cond (x && not y) 1 0 ≡ cond x 1 0
+  all_read : (x y : Bool) → y ≡ false → digit (x && not y) ≡ digit x
   all_read true true e = absurd (false≢true (sym e))
   all_read true false e = refl
   all_read false y e = refl

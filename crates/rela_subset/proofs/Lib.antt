@@ -1,6 +1,7 @@
 pub mod Ascending
 pub mod Bundling
 pub mod Closing
+pub mod Determined
 pub mod Ends
 pub mod Expanding
 pub mod Exploring

@@ -40,11 +40,13 @@ pub fn determinise<L: LabelSet>(
     ensures reachable { IfOk result IsReachable }
     ensures arrival { IfOk result IsByArrival }
     ensures few { IfOk result (λ dfa. states dfa ≤ limit) }
-    ensures within { IfOk result (λ _. ¬ ReachSets a.now (L.letters over.now) (limit + 1)) }
+    ensures told_apart { IfOk result (λ _. ¬ ReachSets a.now (L.letters over.now) (limit + 1)) }
     ensures limit { IfErr result (λ e. e ≡ BuildError.Limit → ReachSets a.now (L.letters over.now) (limit + 1)) }
 {
+    prove!(a.start() < a.states());
     let mut sets = StateSets::new(alloc);
-    let first = closure(alloc, a, &[a.start()])?;
+    let start = a.start();
+    let first = closure(alloc, a, &[start])?;
     sets.number(first, limit)?;
     let edges = explore(alloc, a, over, &mut sets, limit)?;
     let finals = finals(alloc, a, &sets)?;

@@ -4,6 +4,7 @@ ghost use Rattle.std.specs.List.{All};
 ghost use Rattle.rela_nfa.specs.Automaton.{IsAutomaton, states};
 ghost use Rattle.rela_nfa.specs.Stored.{move_of};
 ghost use Rattle.rela_subset.specs.Expansion.{HasGrown, IsExpandedOver};
+ghost use Rattle.rela_subset.specs.Sets.{AreDistinct};
 
 use crate::alike::alike;
 use crate::bundle::Bundle;
@@ -32,7 +33,7 @@ pub(crate) fn expand<L: LabelSet>(
     requires few { length sets.old ≤ limit }
     ensures expanded { IfOk result (λ edges. IsExpandedOver a.now (L.letters over.now) set.now sets.old sets.new (map (move_of L.letters) edges.items)) }
     ensures few { IfOk result (λ _. length sets.new ≤ limit) }
-    ensures limit { IfErr result (λ e. e ≡ BuildError.Limit → (length sets.new ≡ limit + 1) × ((letters : List ℕ) × HasGrown a.now (L.letters over.now) set.now sets.old sets.new letters)) }
+    ensures limit { IfErr result (λ e. e ≡ BuildError.Limit → (length sets.new ≡ limit + 1) × AreDistinct sets.new × ((letters : List ℕ) × HasGrown a.now (L.letters over.now) set.now sets.old sets.new letters)) }
 {
     let mut bundle = Bundle::new(alloc);
     let mut rest = over.copy(alloc)?;

@@ -3,11 +3,11 @@ use Rattle.rela_nfa.specs.Stored.{moves_in}
 use Rattle.rela_subset.specs.Expansion.{IsExplored}
 use Rattle.rela_subset.proofs.construction.explore.Given as goal
 
-abbrev pub invariant-loop-edges : goal.invariant-loop-edges
-invariant-loop-edges g l = record {
+abbrev pub invariant-loop-alloc : goal.invariant-loop-alloc
+invariant-loop-alloc g l = record {
   explored : IsExplored l.a (g.L.LabelSet.letters l.over) l.sets (moves_in g.L.LabelSet.letters l.edges.items);
   few : length l.sets ≤ l.limit;
 }
 
-abbrev pub decreases-loop-edges : goal.decreases-loop-edges
-decreases-loop-edges g l = l.limit - length l.edges.items
+abbrev pub decreases-loop-alloc : goal.decreases-loop-alloc
+decreases-loop-alloc g l = l.limit - length l.edges.items
