@@ -1,5 +1,5 @@
 -- Lists of numbers in ascending order are sets.
-use Rattle.std.proofs.Common.{◌≡◌, ◌≢◌, ℕ, suc, ◌+◌, ◌<◌, ◌≤◌, ◌⊎◌, ◌↔◌, List, [], ◌∷◌, length, get_or, refl, sym, ap, ◌∙◌, subst, inl, inr, arith}
+use Rattle.std.proofs.Common.{◌≡◌, ◌≢◌, ℕ, suc, ◌<◌, ◌⊎◌, ◌↔◌, List, [], ◌∷◌, get_or, refl, sym, ap, ◌∙◌, inl, inr, arith}
 use Rattle.std.specs.List.{Contains}
 use Rattle.std.specs.List.Sorted.{IsStrictlySortedBy}
 use Rattle.std.specs.Ordering.{nat_cmp}
@@ -36,17 +36,20 @@ same_or_apart (x ∷ xs) [] sorted sorted' = inr (x, inl (Contains-head x xs, Co
 same_or_apart (x ∷ xs) (y ∷ ys) sorted sorted' = elim (cases_lt x y) [
   | inl below ↦ inr (x, inl (Contains-head x xs, not_among x y ys sorted' below))
   | inr not_below ↦ elim (cases_lt y x) [
-      | inl above ↦ inr (y, inr (Contains-head y ys, not_among y x xs sorted above))
-      | inr not_above ↦
-          let same : x ≡ y = omega arith in
-          elim (same_or_apart xs ys (sorted_tail nat_cmp x xs sorted) (sorted_tail nat_cmp y ys sorted')) [
-            | inl others ↦ inl (ap (λ n. n ∷ xs) same ∙ ap (λ l. y ∷ l) others)
-            | inr apart ↦ inr (apart.0, elim apart.1 [
-                | inl first ↦ inl (Contains-tail x xs apart.0 first.0, one_later x y xs ys apart.0 sorted same first.0 first.1)
-                | inr second ↦ inr (Contains-tail y ys apart.0 second.0, one_later y x ys xs apart.0 sorted' (sym same) second.0 second.1)
-              ])
-          ]
-    ]
+    | inl above ↦ inr (y, inr (Contains-head y ys, not_among y x xs sorted above))
+    | inr not_above ↦
+        let same : x ≡ y = omega arith in
+        elim (same_or_apart xs ys (sorted_tail nat_cmp x xs sorted) (sorted_tail nat_cmp y ys sorted')) [
+          | inl others ↦ inl (ap (λ n. n ∷ xs) same ∙ ap (λ l. y ∷ l) others)
+          | inr apart ↦ inr (
+            apart.0,
+            elim apart.1 [
+              | inl first ↦ inl (Contains-tail x xs apart.0 first.0, one_later x y xs ys apart.0 sorted same first.0 first.1)
+              | inr second ↦ inr (Contains-tail y ys apart.0 second.0, one_later y x ys xs apart.0 sorted' (sym same) second.0 second.1)
+            ],
+          )
+        ]
+  ]
 ]
 
 -- the numbers of a set have one such list
@@ -54,17 +57,20 @@ pub same_lists : (P Q : ℕ → Type 0) (xs ys : List ℕ) → Lists P xs → Li
 same_lists P Q xs ys first second same = elim (same_or_apart xs ys first.ordered second.ordered) [
   | inl equal ↦ equal
   | inr apart ↦ absurd (elim apart.1 [
-      | inl one ↦ one.1 ((second.members apart.0).1 ((same apart.0).0 ((first.members apart.0).0 one.0)))
-      | inr one ↦ one.1 ((first.members apart.0).1 ((same apart.0).1 ((second.members apart.0).0 one.0)))
-    ])
+    | inl one ↦ one.1 ((second.members apart.0).1 ((same apart.0).0 ((first.members apart.0).0 one.0)))
+    | inr one ↦ one.1 ((first.members apart.0).1 ((same apart.0).1 ((second.members apart.0).0 one.0)))
+  ])
 ]
 
 -- two lists that differ tell the sets apart
 pub apart_lists : (P Q : ℕ → Type 0) (xs ys : List ℕ) → Lists P xs → Lists Q ys → xs ≢ ys → (q : ℕ) × ((P q × ¬ Q q) ⊎ (Q q × ¬ P q))
 apart_lists P Q xs ys first second differ = elim (same_or_apart xs ys first.ordered second.ordered) [
   | inl equal ↦ absurd (differ equal)
-  | inr apart ↦ (apart.0, elim apart.1 [
+  | inr apart ↦ (
+    apart.0,
+    elim apart.1 [
       | inl one ↦ inl ((first.members apart.0).0 one.0, λ q. one.1 ((second.members apart.0).1 q))
       | inr one ↦ inr ((second.members apart.0).0 one.0, λ q. one.1 ((first.members apart.0).1 q))
-    ])
+    ],
+  )
 ]

@@ -1,14 +1,13 @@
 -- An edge that is put among others, or joined to one of them.
-use Rattle.std.proofs.Common.{◌≡◌, ℕ, zero, suc, ◌+◌, ◌<◌, ◌≤◌, ◌⊎◌, Bool, true, false, cond, ◌||◌, List, [], ◌∷◌, ◌++◌, length, get_or, set, Option, None, Some, refl, sym, ap, ◌∙◌, subst, inl, inr, arith}
+use Rattle.std.proofs.Common.{◌≡◌, ℕ, zero, suc, ◌+◌, ◌<◌, Bool, true, false, cond, ◌||◌, List, [], ◌∷◌, ◌++◌, length, get_or, set, None, Some, refl, sym, ap, ◌∙◌, subst, inl, inr, arith}
 use Rattle.std.specs.List.{All, Contains, count_by}
-use Rattle.std.specs.Option.{ForSome, IsSome}
-use Rattle.std.proofs.lemmas.Bool.{cases_Bool, false≢true}
+use Rattle.std.specs.Option.{IsSome}
+use Rattle.std.proofs.lemmas.Bool.{cases_Bool}
 use Rattle.std.proofs.lemmas.List.{get_or-set_same, length-set}
 use Rattle.std.proofs.lemmas.List.Elements.{All-push, All-set, Contains-push}
 use Rattle.std.proofs.lemmas.List.Sums.{sum_by-set, sum_by_push, get_or-le-sum_by}
 use Rattle.rela_labels.specs.Letters.{has}
 use Rattle.rela_nfa.specs.Automaton.{Move, IsMove}
-use Rattle.rela_nfa.specs.Runs.{StepIn}
 use Rattle.rela_subset.specs.Deterministic.{takes, target}
 use Rattle.rela_subset.specs.Expansion.{AreLabelled, IsPutIn}
 use Rattle.rela_subset.proofs.Targets.{step_target}
@@ -95,9 +94,9 @@ module _ (label : List Bool) (to : ℕ) (old new : List Move) (put : IsPutIn lab
       let is_move = λ (both : List Bool) (same : length both ≡ size). let made : IsMove size n (edge_of both to) = record { sized = λ x e. subst (λ s. length s ≡ size) (same_label both x e) same; leads = below } in made in
       elim put [
         | inl pushed ↦ record {
-            sized = subst (All (IsMove size n)) (sym pushed) (All-push (IsMove size n) old (edge_of label to) are.sized (is_move label len));
-            labelled = subst (All (λ move. IsSome move.label)) (sym pushed) (All-push (λ (move : Move). IsSome move.label) old (edge_of label to) are.labelled refl);
-          }
+          sized = subst (All (IsMove size n)) (sym pushed) (All-push (IsMove size n) old (edge_of label to) are.sized (is_move label len));
+          labelled = subst (All (λ move. IsSome move.label)) (sym pushed) (All-push (λ (move : Move). IsSome move.label) old (edge_of label to) are.labelled refl);
+        }
         | inr joined ↦
             let i = joined.0 in let move = edge_of joined.1 to in record {
               sized = subst (All (IsMove size n)) (sym joined.3) (All-set (IsMove size n) old i move (is_move joined.1 (joined.5 ∙ len)) are.sized);
@@ -105,5 +104,5 @@ module _ (label : List Bool) (to : ℕ) (old new : List Move) (put : IsPutIn lab
             }
       ]
     where
-    same_label : (both x : List Bool) → Some both ≡ Some x → both ≡ x
-    same_label both x e = cc
+      same_label : (both x : List Bool) → Some both ≡ Some x → both ≡ x
+      same_label both x e = cc

@@ -7,11 +7,11 @@ use Rattle.std.specs.Ordering.{nat_cmp}
 use Rattle.std.proofs.lemmas.List.{length_push}
 use Rattle.std.proofs.lemmas.List.Elements.{All-contains, All-from_get_or, Contains-get_or, Contains-append_left, Contains-push, Contains-push_cases}
 use Rattle.std.proofs.lemmas.Map.Views.{length-le_from_below}
-use Rattle.rela_nfa.specs.Automaton.{Automaton, IsAutomaton, Move, moves_of, states}
+use Rattle.rela_nfa.specs.Automaton.{Automaton, IsAutomaton, Move, states}
 use Rattle.rela_nfa.specs.Runs.{Step, StepIn, HasStep, Follow, spelled}
-use Rattle.rela_subset.specs.Sets.{Adds, IsClosing, Lists, Silently, SilentlyFrom}
+use Rattle.rela_subset.specs.Sets.{Adds, IsClosing, Lists, SilentlyFrom}
 use Rattle.rela_subset.proofs.Targets.{Contains-nil}
-use Rattle.rela_subset.proofs.Reached.{follow_within, silently_more, step_to_state}
+use Rattle.rela_subset.proofs.Reached.{follow_within, silently_more}
 
 pub closing_within : (a : Automaton) (starts seen waiting : List ℕ) → IsAutomaton a → All (λ q. q < states a) starts → IsClosing a starts seen waiting → All (λ q. q < states a) seen
 closing_within a starts seen waiting ok within is = All-from_get_or (λ q. q < states a) seen 0 (λ i below.
@@ -62,12 +62,12 @@ closing_more a starts seen waiting p ends waiting' seen'' waiting'' is popped en
       ];
       left = λ r q c step. elim (added.waits r c) [
         | inl old ↦ elim (is.left r q old step) [
-            | inl waits ↦ elim (Contains-push_cases waiting' p r (subst (λ w. Contains w r) popped waits)) [
-                | inl other ↦ inl (added.stays r other)
-                | inr same ↦ inr (added.added q ((ends_are q).1 (subst (λ n. HasStep a n None q) (sym same) step)))
-              ]
-            | inr seen_before ↦ inr (added.kept q seen_before)
+          | inl waits ↦ elim (Contains-push_cases waiting' p r (subst (λ w. Contains w r) popped waits)) [
+            | inl other ↦ inl (added.stays r other)
+            | inr same ↦ inr (added.added q ((ends_are q).1 (subst (λ n. HasStep a n None q) (sym same) step)))
           ]
+          | inr seen_before ↦ inr (added.kept q seen_before)
+        ]
         | inr waits ↦ inl waits
       ];
       waits = λ q c. elim (added.visited q c) [
@@ -94,9 +94,9 @@ silent_seen : (a : Automaton) (starts seen : List ℕ) → IsClosing a starts se
 silent_seen a starts seen is [] p q c here spells = subst (λ n. Contains seen n) here c
 silent_seen a starts seen is (step ∷ rest) p q c follows spells = first step.letter follows.0 spells (λ next e. silent_seen a starts seen is rest step.to q next follows.1 e)
   where
-  first : (letter : Option ℕ) → HasStep a p letter step.to → option_to_list letter ++ spelled rest ≡ [] → (Contains seen step.to → spelled rest ≡ [] → Contains seen q) → Contains seen q
-  first None taken none later = elim (is.left p step.to c taken) [ inl waits ↦ absurd (Contains-nil p waits) | inr next ↦ later next none ]
-  first (Some k) taken none later = absurd (cc)
+    first : (letter : Option ℕ) → HasStep a p letter step.to → option_to_list letter ++ spelled rest ≡ [] → (Contains seen step.to → spelled rest ≡ [] → Contains seen q) → Contains seen q
+    first None taken none later = elim (is.left p step.to c taken) [ inl waits ↦ absurd (Contains-nil p waits) | inr next ↦ later next none ]
+    first (Some k) taken none later = absurd (cc)
 
 pub closing_done : (a : Automaton) (starts seen waiting : List ℕ) → waiting ≡ [] → IsClosing a starts seen waiting → Lists (SilentlyFrom a starts) seen
 closing_done a starts seen waiting none is =

@@ -1,23 +1,22 @@
 -- The automaton of the sets that have been found, all of them left by their edges.
-use Rattle.std.proofs.Common.{◌≡◌, ◌≢◌, ℕ, ◌+◌, ◌-◌, ◌<◌, ◌≤◌, ◌⊎◌, ◌↔◌, Bool, true, false, cond, eqb, List, [], ◌∷◌, ◌++◌, length, get_or, map, Option, None, Some, refl, sym, ap, ◌∙◌, subst, inl, inr, arith}
+use Rattle.std.proofs.Common.{◌≡◌, ℕ, ◌+◌, ◌<◌, ◌≤◌, ◌⊎◌, ◌↔◌, Bool, true, false, eqb, List, [], ◌∷◌, ◌++◌, length, get_or, map, sym, ap, ◌∙◌, subst, inl, inr, arith}
 use Rattle.std.specs.Bool.{IsTrue}
-use Rattle.std.specs.List.{All, AllPairs, Contains, IsDistinct, count_by, list_any}
+use Rattle.std.specs.List.{All, list_any}
 use Rattle.std.specs.Option.{IsSome, unwrap_or}
-use Rattle.std.proofs.lemmas.Bool.{cases_Bool, cases_lt, false≢true}
+use Rattle.std.proofs.lemmas.Bool.{cases_Bool, cases_lt}
 use Rattle.std.proofs.lemmas.List.{append-nil, append_assoc, get_or-map, get_or_append_left, get_or_push, length-map}
-use Rattle.std.proofs.lemmas.List.Elements.{All-contains, All-from_get_or, All-get_or, All-head, All-nil, All-push, All-tail, Contains-get_or}
+use Rattle.std.proofs.lemmas.List.Elements.{All-from_get_or, All-get_or, All-head, All-tail}
 use Rattle.std.proofs.lemmas.Map.Keys.{IsDistinct-from_apart}
 use Rattle.std.proofs.lemmas.Map.Steps.{length-le_from_distinct_below}
 use Rattle.std.proofs.lemmas.Map.Views.{Contains-from_any, exact_unsigned_eq}
 use Rattle.rela_labels.specs.Letters.{has}
-use Rattle.rela_names.specs.Shortlex.{IsBefore}
-use Rattle.rela_nfa.specs.Automaton.{Automaton, IsAutomaton, IsMove, Move}
-use Rattle.rela_nfa.specs.Runs.{Accepts, Reach}
-use Rattle.rela_subset.specs.Deterministic.{Deterministic, IsAccepted, IsByArrival, IsDeterministic, IsOver, IsReachable, IsSplit, LeadsTo, led_from, moves_of, next, state_after, states, target}
-use Rattle.rela_subset.specs.Expansion.{AreLabelled, Follows, IsExplored, IsOut, IsUpTo}
+use Rattle.rela_nfa.specs.Automaton.{Automaton, IsMove, Move}
+use Rattle.rela_nfa.specs.Runs.{Accepts}
+use Rattle.rela_subset.specs.Deterministic.{Deterministic, IsAccepted, IsByArrival, IsDeterministic, IsOver, IsReachable, IsSplit, LeadsTo, led_from, moves_of, next, state_after}
+use Rattle.rela_subset.specs.Expansion.{IsExplored, IsOut, IsUpTo}
 use Rattle.rela_subset.specs.Sets.{AreDistinct, HasFinal, Lists, NextFrom, ReachedBy}
 use Rattle.rela_subset.specs.Subsets.{AreApart, ReachSame, ReachSets}
-use Rattle.rela_subset.proofs.Ascending.{apart_lists, same_lists}
+use Rattle.rela_subset.proofs.Ascending.{same_lists}
 use Rattle.rela_subset.proofs.Exploring.{before_upto, upto_push, upto_transitive}
 use Rattle.rela_subset.proofs.Reached.{reached_next}
 
@@ -35,7 +34,7 @@ module _ (a : Automaton) (over : List Bool) (sets : List (List ℕ)) (d : Determ
       each = all ∙ sym each;
       starts = let some = is.some in omega arith;
       moves = subst (λ n. All (All (IsMove (length d.over) n)) d.edges) (sym each)
-      (subst (λ o. All (All (IsMove (length o) (length sets))) d.edges) (sym over_is) (each_edges (All (IsMove (length over) (length sets))) (λ q below. (out_of q below).edges.sized)));
+          (subst (λ o. All (All (IsMove (length o) (length sets))) d.edges) (sym over_is) (each_edges (All (IsMove (length over) (length sets))) (λ q below. (out_of q below).edges.sized)));
     };
     labelled = each_edges (All (λ (move : Move). IsSome move.label)) (λ q below. (out_of q below).edges.labelled);
     split = subst (λ o. All (IsSplit o) d.edges) (sym over_is) (each_edges (IsSplit over) (λ q below. (out_of q below).split));
@@ -105,7 +104,7 @@ module _ (a : Automaton) (over : List Bool) (sets : List (List ℕ)) (d : Determ
       let at = stands word read in (
         subst (λ o. IsOver o word) (sym over_is) read,
         one_number (state_after d word) q at.within below
-        (same_lists (ReachedBy a word) (ReachedBy a word) (get_or sets (state_after d word) []) (get_or sets q []) at.reached (is.reached q below) (λ p. (λ r. r, λ r. r))),
+            (same_lists (ReachedBy a word) (ReachedBy a word) (get_or sets (state_after d word) []) (get_or sets q []) at.reached (is.reached q below) (λ p. (λ r. r, λ r. r))),
       )
 
   pub reachable : IsReachable d
@@ -141,25 +140,25 @@ module _ (a : Automaton) (over : List Bool) (sets : List (List ℕ)) (d : Determ
       let number = λ (i : ℕ) (e : ℕ) (below : i < length reach.words). let at : get_or numbers i e ≡ state_after d (get_or reach.words i []) = get_or-map (state_after d) reach.words i [] e below in at in
       let read = λ (i : ℕ) (below : i < length reach.words). let over_letters : IsOver over (get_or reach.words i []) = All-get_or (IsOver over) reach.words i [] below reach.letters in over_letters in
       let differ = λ (i j e : ℕ) (before : i < j) (within : j < length numbers).
-          let i_in : i < length reach.words = omega arith in
-          let j_in : j < length reach.words = omega arith in
-          let apart : AreApart a (get_or reach.words i []) (get_or reach.words j []) = reach.apart i j [] before j_in in
-          elim (cases_Bool (eqb (get_or numbers i e) (get_or numbers j e))) as (λ _. eqb (get_or numbers i e) (get_or numbers j e) ≡ false) [
-            | inl same ↦
-                let equal : state_after d (get_or reach.words i []) ≡ state_after d (get_or reach.words j []) =
-                    sym (number i e i_in) ∙ exact_unsigned_eq (get_or numbers i e) (get_or numbers j e) same ∙ number j e j_in in
-                let reach_same = (same_state (get_or reach.words i []) (get_or reach.words j []) (read i i_in) (read j j_in)).0 equal in
-                absurd (elim apart.1 [
-                  | inl one ↦ one.1 ((reach_same apart.0).0 one.0)
-                  | inr one ↦ one.1 ((reach_same apart.0).1 one.0)
-                ])
-            | inr other ↦ other
-          ] in
+      let i_in : i < length reach.words = omega arith in
+      let j_in : j < length reach.words = omega arith in
+      let apart : AreApart a (get_or reach.words i []) (get_or reach.words j []) = reach.apart i j [] before j_in in
+      elim (cases_Bool (eqb (get_or numbers i e) (get_or numbers j e))) as (λ _. eqb (get_or numbers i e) (get_or numbers j e) ≡ false) [
+        | inl same ↦
+            let equal : state_after d (get_or reach.words i []) ≡ state_after d (get_or reach.words j []) =
+            sym (number i e i_in) ∙ exact_unsigned_eq (get_or numbers i e) (get_or numbers j e) same ∙ number j e j_in in
+            let reach_same = (same_state (get_or reach.words i []) (get_or reach.words j []) (read i i_in) (read j j_in)).0 equal in
+            absurd (elim apart.1 [
+              | inl one ↦ one.1 ((reach_same apart.0).0 one.0)
+              | inr one ↦ one.1 ((reach_same apart.0).1 one.0)
+            ])
+        | inr other ↦ other
+      ] in
       let below = λ (q : ℕ) (among : list_any (eqb q) numbers ≡ true).
-          let c = Contains-from_any exact_unsigned_eq q numbers among in
-          let in_words : c.0 < length reach.words = omega (arith, c.1) in
-          let at = stands (get_or reach.words c.0 []) (read c.0 in_words) in
-          let within : q < length sets = subst (λ m. m < length sets) (sym (number c.0 q in_words) ∙ c.2) at.within in within in
+      let c = Contains-from_any exact_unsigned_eq q numbers among in
+      let in_words : c.0 < length reach.words = omega (arith, c.1) in
+      let at = stands (get_or reach.words c.0 []) (read c.0 in_words) in
+      let within : q < length sets = subst (λ m. m < length sets) (sym (number c.0 q in_words) ∙ c.2) at.within in within in
       let bound : length numbers ≤ length sets = length-le_from_distinct_below numbers (length sets) (IsDistinct-from_apart eqb numbers differ) below in
       let counted = reach.count in
       omega arith

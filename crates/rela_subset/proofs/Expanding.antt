@@ -1,14 +1,14 @@
 -- One more block of letters out of a set.
-use Rattle.std.proofs.Common.{◌≡◌, ◌≢◌, ℕ, ◌+◌, ◌-◌, ◌<◌, ◌≤◌, ◌⊎◌, ◌↔◌, Bool, true, false, cond, not, ◌&&◌, List, [], ◌∷◌, ◌++◌, length, get_or, Option, None, Some, refl, sym, ap, ◌∙◌, subst, inl, inr, arith, length-append}
-use Rattle.std.specs.List.{All, Contains, count_by}
-use Rattle.std.specs.Option.{ForSome, IsSome}
+use Rattle.std.proofs.Common.{◌≡◌, ℕ, ◌+◌, ◌-◌, ◌<◌, ◌≤◌, ◌⊎◌, Bool, true, false, not, ◌&&◌, List, [], ◌∷◌, ◌++◌, length, get_or, refl, sym, ap, ◌∙◌, subst, inl, inr, arith, length-append}
+use Rattle.std.specs.List.{All, count_by}
+use Rattle.std.specs.Option.{IsSome}
 use Rattle.std.proofs.lemmas.Bool.{cases_Bool, cases_lt, false≢true}
 use Rattle.std.proofs.lemmas.List.{append-nil, append_assoc, get_or_append_left, get_or_push, length_push}
 use Rattle.std.proofs.lemmas.List.Elements.{All-nil, All-push, All-weaker}
 use Rattle.rela_labels.specs.Letters.{has}
-use Rattle.rela_nfa.specs.Automaton.{Automaton, Move, IsMove, moves_of}
-use Rattle.rela_subset.specs.Deterministic.{takes, target}
-use Rattle.rela_subset.specs.Expansion.{AreLabelled, AreTakenAlike, HasGrown, IsAlike, IsExpanded, IsPutIn, Leads}
+use Rattle.rela_nfa.specs.Automaton.{Automaton, Move, IsMove}
+use Rattle.rela_subset.specs.Deterministic.{takes}
+use Rattle.rela_subset.specs.Expansion.{HasGrown, IsAlike, IsExpanded, IsPutIn}
 use Rattle.rela_subset.specs.Sets.{Lists, NextFrom}
 use Rattle.rela_subset.proofs.Bundling.{digit, put_count, put_labelled, put_target, put_target_old}
 use Rattle.rela_subset.proofs.Narrowing.{next_alike}
@@ -112,10 +112,10 @@ expanded_none a over rest set sets moves same none = record {
   ahead = λ k h. All-nil (λ found. found < k);
 }
   where
-  nothing : (x y : Bool) → y ≡ x → 0 ≡ digit (x && not y)
-  nothing true true e = refl
-  nothing true false e = absurd (cc)
-  nothing false y e = refl
+    nothing : (x y : Bool) → y ≡ x → 0 ≡ digit (x && not y)
+    nothing true true e = refl
+    nothing true false e = absurd (cc)
+    nothing false y e = refl
 
 -- a letter is alike itself
 pub itself : (a : Automaton) (rest block : List Bool) (set : List ℕ) (letter : ℕ) → has rest letter ≡ true → IsAlike a set rest letter block → has block letter ≡ true
@@ -142,31 +142,31 @@ module _ (a : Automaton) (over rest rest' block : List Bool) (set : List ℕ) (o
   free : (k : ℕ) → has block k ≡ true → count_by (takes k) moves ≡ 0
   free k h = is.split k ∙ none (has over k) (has rest k) (in_rest k h)
     where
-    none : (x y : Bool) → y ≡ true → digit (x && not y) ≡ 0
-    none true true e = refl
-    none true false e = absurd (cc)
-    none false y e = refl
+      none : (x y : Bool) → y ≡ true → digit (x && not y) ≡ 0
+      none true true e = refl
+      none true false e = absurd (cc)
+      none false y e = refl
 
   split' : (k : ℕ) → count_by (takes k) moves' ≡ digit (has over k && not (has rest' k))
   split' k =
       put_count block to moves moves' put k (free k) ∙ ap (λ n. n + digit (has block k)) (is.split k)
       ∙ sums (has over k) (has rest k) (has block k) (in_rest k) (is.within k) ∙ ap (λ b. digit (has over k && not b)) (sym (cut k))
     where
-    sums : (x y z : Bool) → (z ≡ true → y ≡ true) → (y ≡ true → x ≡ true) → digit (x && not y) + digit z ≡ digit (x && not (y && not z))
-    sums true true true zy yx = omega arith
-    sums true true false zy yx = omega arith
-    sums true false true zy yx = let never = zy refl in cc
-    sums true false false zy yx = omega arith
-    sums false true z zy yx = let never = yx refl in cc
-    sums false false true zy yx = let never = zy refl in cc
-    sums false false false zy yx = omega arith
+      sums : (x y z : Bool) → (z ≡ true → y ≡ true) → (y ≡ true → x ≡ true) → digit (x && not y) + digit z ≡ digit (x && not (y && not z))
+      sums true true true zy yx = omega arith
+      sums true true false zy yx = omega arith
+      sums true false true zy yx = let never = zy refl in cc
+      sums true false false zy yx = omega arith
+      sums false true z zy yx = let never = yx refl in cc
+      sums false false true zy yx = let never = zy refl in cc
+      sums false false false zy yx = omega arith
 
   still : (k : ℕ) → has rest' k ≡ true → has rest k ≡ true
   still k h = first (has rest k) (has block k) (sym (cut k) ∙ h)
     where
-    first : (x y : Bool) → (x && not y) ≡ true → x ≡ true
-    first true y e = refl
-    first false y e = e
+      first : (x y : Bool) → (x && not y) ≡ true → x ≡ true
+      first true y e = refl
+      first false y e = e
 
   after : (k : ℕ) → has rest' k ≡ true → letter < k
   after k h = elim (cases_lt letter k) [
@@ -177,19 +177,19 @@ module _ (a : Automaton) (over rest rest' block : List Bool) (set : List ℕ) (o
         absurd (taken (has rest k) (has block k) (subst (λ n. has block n ≡ true) same (itself a rest block set letter among alike)) (sym (cut k) ∙ h))
   ]
     where
-    taken : (x y : Bool) → y ≡ true → (x && not y) ≡ true → ⊥
-    taken true true e f = false≢true f
-    taken true false e f = false≢true e
-    taken false y e f = false≢true f
+      taken : (x y : Bool) → y ≡ true → (x && not y) ≡ true → ⊥
+      taken true true e f = false≢true f
+      taken true false e f = false≢true e
+      taken false y e f = false≢true f
 
   -- a letter of this block, or of one before
   cases : (k : ℕ) → has rest' k ≡ false → (has rest k ≡ false) ⊎ ((has rest k ≡ true) × (has block k ≡ true))
   cases k h = which (has rest k) (has block k) refl refl (sym (cut k) ∙ h)
     where
-    which : (x y : Bool) → has rest k ≡ x → has block k ≡ y → (x && not y) ≡ false → (has rest k ≡ false) ⊎ ((has rest k ≡ true) × (has block k ≡ true))
-    which true true e f g = inr (e, f)
-    which true false e f g = absurd (false≢true (sym g))
-    which false y e f g = inl e
+      which : (x y : Bool) → has rest k ≡ x → has block k ≡ y → (x && not y) ≡ false → (has rest k ≡ false) ⊎ ((has rest k ≡ true) × (has block k ≡ true))
+      which true true e f g = inr (e, f)
+      which true false e f g = absurd (false≢true (sym g))
+      which false y e f g = inl e
 
   expanded_by : GrowsBy a over set old mid new is.letters letter to → length block ≡ length over → IsExpanded a over rest' set old new moves'
   expanded_by grows size = record {
@@ -197,7 +197,7 @@ module _ (a : Automaton) (over rest rest' block : List Bool) (set : List ℕ) (o
     grown = grows.grown;
     edges = put_labelled block to moves moves' put (length over) (length new) size within (record {
       sized = All-weaker (IsMove (length over) (length mid)) (IsMove (length over) (length new))
-      (λ move fits. record { sized = fits.sized; leads = let below = fits.leads in let longer = grows.longer in omega arith }) moves is.edges.sized;
+          (λ move fits. record { sized = fits.sized; leads = let below = fits.leads in let longer = grows.longer in omega arith }) moves is.edges.sized;
       labelled = is.edges.labelled;
     });
     split = split';

@@ -1,16 +1,15 @@
 -- The sets that have been found, one more of them left by its edges.
-use Rattle.std.proofs.Common.{◌≡◌, ◌≢◌, ℕ, ◌+◌, ◌-◌, ◌<◌, ◌≤◌, ◌⊎◌, ◌↔◌, Bool, true, false, cond, not, ◌&&◌, List, [], ◌∷◌, ◌++◌, length, get_or, map, Option, None, Some, refl, sym, ap, ◌∙◌, subst, inl, inr, arith, length-append}
-use Rattle.std.specs.List.{All, count_by}
-use Rattle.std.specs.Option.{IsSome}
-use Rattle.std.proofs.lemmas.Bool.{cases_Bool, cases_lt, cases_eq, false≢true}
+use Rattle.std.proofs.Common.{◌≡◌, ℕ, ◌+◌, ◌-◌, ◌<◌, ◌≤◌, ◌⊎◌, Bool, true, false, not, ◌&&◌, List, [], ◌∷◌, ◌++◌, length, get_or, map, refl, sym, ap, ◌∙◌, subst, inl, inr, arith, length-append}
+use Rattle.std.specs.List.{All}
+use Rattle.std.proofs.lemmas.Bool.{cases_lt, cases_eq, false≢true}
 use Rattle.std.proofs.lemmas.List.{get_or_default, get_or-map, get_or_append_left, get_or-append_right, get_or_push, length-map, length_push}
 use Rattle.std.proofs.lemmas.List.Elements.{All-from_get_or, All-get_or, All-nil, All-push, All-weaker}
 use Rattle.rela_labels.specs.Letters.{has}
 use Rattle.rela_names.specs.Shortlex.{IsBefore, IsSmaller}
 use Rattle.rela_names.proofs.ShortlexLaws.{before_transitive}
 use Rattle.rela_nfa.specs.Automaton.{Automaton, IsAutomaton, Move, IsMove, states}
-use Rattle.rela_subset.specs.Deterministic.{IsOver, IsSplit, takes, target}
-use Rattle.rela_subset.specs.Expansion.{AreLabelled, Follows, HasGrown, IsExpanded, IsExpandedOver, IsExplored, IsOut, IsUpTo, Leads}
+use Rattle.rela_subset.specs.Deterministic.{IsOver}
+use Rattle.rela_subset.specs.Expansion.{AreLabelled, Follows, HasGrown, IsExpandedOver, IsExplored, IsOut, IsUpTo, Leads}
 use Rattle.rela_subset.specs.Sets.{AreDistinct, Lists, NextFrom, ReachedBy}
 use Rattle.rela_subset.specs.Subsets.{AreApart, ReachSets}
 use Rattle.rela_subset.proofs.Ascending.{apart_lists}
@@ -51,9 +50,9 @@ pub upto_transitive : (u v w : List ℕ) → IsUpTo u v → IsUpTo v w → IsUpT
 upto_transitive u v w first second = elim first [
   | inl same ↦ subst (λ x. IsUpTo x w) (sym same) second
   | inr before ↦ elim second [
-      | inl same ↦ inr (subst (λ x. IsBefore u x) same before)
-      | inr later ↦ inr (before_transitive u v w before later)
-    ]
+    | inl same ↦ inr (subst (λ x. IsBefore u x) same before)
+    | inr later ↦ inr (before_transitive u v w before later)
+  ]
 ]
 
 pub before_upto : (u v w : List ℕ) → IsBefore u v → IsUpTo v w → IsBefore u w
@@ -184,7 +183,7 @@ module _ (a : Automaton) (over : List Bool) (sets : List (List ℕ)) (edges : Li
   wider : (moves : List Move) → AreLabelled (length over) (length sets) moves → AreLabelled (length over) (length new) moves
   wider moves are = record {
     sized = All-weaker (IsMove (length over) (length sets)) (IsMove (length over) (length new))
-    (λ move fits. record { sized = fits.sized; leads = let below = fits.leads in let longer = more_sets in omega arith }) moves are.sized;
+        (λ move fits. record { sized = fits.sized; leads = let below = fits.leads in let longer = more_sets in omega arith }) moves are.sized;
     labelled = are.labelled;
   }
 
@@ -200,9 +199,9 @@ module _ (a : Automaton) (over : List Bool) (sets : List (List ℕ)) (edges : Li
           by = lead.by;
           within = omega arith;
           follows = subst (λ s. Lists (NextFrom a s k) (get_or new lead.to [])) (sym (old_set i below))
-          (subst (λ s. Lists (NextFrom a (get_or sets i []) k) s) (sym (old_set lead.to within)) lead.follows);
+              (subst (λ s. Lists (NextFrom a (get_or sets i []) k) s) (sym (old_set lead.to within)) lead.follows);
           early = subst (λ w. IsUpTo w (get_or words' i [] ++ k ∷ [])) (sym (old_word lead.to within))
-          (subst (λ w. IsUpTo (get_or is.words lead.to []) (w ++ k ∷ [])) (sym (old_word i below)) lead.early);
+              (subst (λ w. IsUpTo (get_or is.words lead.to []) (w ++ k ∷ [])) (sym (old_word i below)) lead.early);
         };
   }
 
@@ -276,7 +275,7 @@ explored_more a over sets edges new set moves is left at expanded =
       leads = λ k read. new_follows a over sets edges is left new done.letters done.grown k moves (done.leads k read (none k));
     })
   where
-  all_read : (x y : Bool) → y ≡ false → digit (x && not y) ≡ digit x
-  all_read true true e = absurd (false≢true (sym e))
-  all_read true false e = refl
-  all_read false y e = refl
+    all_read : (x y : Bool) → y ≡ false → digit (x && not y) ≡ digit x
+    all_read true true e = absurd (false≢true (sym e))
+    all_read true false e = refl
+    all_read false y e = refl

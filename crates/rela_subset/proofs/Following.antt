@@ -1,10 +1,10 @@
 -- The states that follow those of a set by a letter.
-use Rattle.std.proofs.Common.{◌≡◌, ℕ, ◌+◌, ◌<◌, ◌≤◌, ◌⊎◌, ◌↔◌, List, [], ◌∷◌, ◌++◌, length, get_or, take, Option, Some, refl, sym, ap, ◌∙◌, subst, inl, inr, arith}
+use Rattle.std.proofs.Common.{◌≡◌, ℕ, ◌+◌, ◌<◌, ◌≤◌, ◌⊎◌, ◌↔◌, List, [], ◌∷◌, ◌++◌, length, get_or, take, Some, sym, ap, ◌∙◌, subst, inl, inr}
 use Rattle.std.specs.List.{All, Contains}
 use Rattle.std.proofs.lemmas.List.{take_all, take_more}
 use Rattle.std.proofs.lemmas.List.Elements.{All-from_get_or, Contains-get_or, Contains-append_left, Contains-push, Contains-push_cases}
 use Rattle.rela_nfa.specs.Automaton.{Automaton, IsAutomaton, Move, moves_of, states}
-use Rattle.rela_nfa.specs.Runs.{StepIn, HasStep}
+use Rattle.rela_nfa.specs.Runs.{StepIn}
 use Rattle.rela_subset.specs.Sets.{Lists, NextFrom, SilentlyFrom, StepFrom}
 use Rattle.rela_subset.proofs.Targets.{Contains-nil}
 use Rattle.rela_subset.proofs.Reached.{step_to_state}

@@ -1,11 +1,11 @@
 -- Letters by which the same edges may be taken.
-use Rattle.std.proofs.Common.{◌≡◌, ℕ, ◌+◌, ◌<◌, ◌≤◌, ◌⊎◌, ◌↔◌, Bool, true, false, List, [], ◌∷◌, ◌++◌, length, get_or, map, take, Option, None, Some, refl, sym, ap, ◌∙◌, subst, inl, inr, arith}
-use Rattle.std.specs.List.{All, Contains}
+use Rattle.std.proofs.Common.{◌≡◌, ℕ, ◌+◌, ◌<◌, ◌≤◌, ◌↔◌, Bool, true, List, [], ◌∷◌, ◌++◌, length, get_or, map, take, Some, refl, sym, ap, ◌∙◌, subst}
+use Rattle.std.specs.List.{All}
 use Rattle.std.proofs.lemmas.List.{map_more, take_all, take_more}
 use Rattle.std.proofs.lemmas.List.Elements.{All-contains, All-nil, All-pop, All-push}
 use Rattle.rela_labels.specs.Letters.{has}
 use Rattle.rela_nfa.specs.Automaton.{Automaton, Move, moves_of}
-use Rattle.rela_nfa.specs.Runs.{HasStep, StepIn}
+use Rattle.rela_nfa.specs.Runs.{StepIn}
 use Rattle.rela_nfa.specs.Stored.{move_of}
 use Rattle.rela_nfa.specs.declared.edge.Edge.{Edge}
 use Rattle.rela_subset.specs.Deterministic.{takes}
@@ -28,7 +28,7 @@ module _ {L : Type 0} (letters : L → List Bool) (edges : List (Edge L)) (j : �
       → ((k : ℕ) → (has narrow' k ≡ true) ↔ ((has narrow k ≡ true) × (takes k (move_of letters edge) ≡ takes j (move_of letters edge)))) → IsNarrowed (i + 1) narrow'
   narrowed_more i edge narrow narrow' below at before last k =
       let grown : map (move_of letters) (take (i + 1) edges) ≡ map (move_of letters) (take i edges) ++ move_of letters edge ∷ [] =
-          map_more (move_of letters) edges i edge below ∙ ap (λ e. map (move_of letters) (take i edges) ++ move_of letters e ∷ []) (sym at) in
+      map_more (move_of letters) edges i edge below ∙ ap (λ e. map (move_of letters) (take i edges) ++ move_of letters e ∷ []) (sym at) in
       let both = All-more_iff (λ move. takes k move ≡ takes j move) (map (move_of letters) (take i edges)) (move_of letters edge) in (
         λ h. let (was, here) = (last k).0 h in let (first, alike) = (before k).0 was in
             (first, subst (λ ms. AreTakenAlike ms j k) (sym grown) (both.1 (alike, here))),

@@ -1,10 +1,10 @@
 -- The places of edges by their ends.
-use Rattle.std.proofs.Common.{◌≡◌, ◌≢◌, ℕ, ◌+◌, ◌<◌, ◌≤◌, ◌⊎◌, Bool, true, false, cond, ◌||◌, nat_eq, List, [], ◌∷◌, ◌++◌, length, get_or, set, map, Option, None, Some, refl, sym, ap, ◌∙◌, subst, inl, inr, arith}
+use Rattle.std.proofs.Common.{◌≡◌, ℕ, ◌<◌, Bool, cond, ◌||◌, nat_eq, List, [], ◌∷◌, ◌++◌, length, get_or, set, map, Some, sym, ap, ◌∙◌, subst, inl, inr, arith}
 use Rattle.std.specs.HashMap.{HashMap, get}
 use Rattle.std.specs.List.{All}
 use Rattle.std.specs.Map.{lookup}
 use Rattle.std.specs.Option.{ForSome, option_map}
-use Rattle.std.proofs.lemmas.Bool.{cases_Bool, cases_eq, cases_lt, false≢true}
+use Rattle.std.proofs.lemmas.Bool.{cases_Bool, cases_eq}
 use Rattle.std.proofs.lemmas.List.{get_or-map, get_or-set_same, get_or-set_other, get_or_append_left, get_or_push, length-map, length-set, length_push, map-set, map_push}
 use Rattle.std.proofs.lemmas.Map.Views.{exact_unsigned_eq}
 use Rattle.std.proofs.lemmas.Option.{same_Some}
@@ -14,7 +14,6 @@ use Rattle.rela_nfa.specs.Stored.{move_of}
 use Rattle.rela_nfa.specs.declared.edge.Edge.{Edge}
 use Rattle.rela_subset.specs.Deterministic.{takes}
 use Rattle.rela_subset.specs.Expansion.{ArePlaced, IsPutIn}
-use Rattle.rela_subset.proofs.Bundling.{edge_of}
 
 module _ {L S : Type 0} (letters : L → List Bool) (edges : List (Edge L)) (places : HashMap ℕ ℕ S) (placed : ArePlaced (map (move_of letters) edges) places) where
   abbrev moves : List Move

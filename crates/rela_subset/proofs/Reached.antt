@@ -1,11 +1,11 @@
 -- What words reach, one letter after the other.
-use Rattle.std.proofs.Common.{◌≡◌, ℕ, ◌+◌, ◌<◌, ◌≤◌, ◌⊎◌, ◌↔◌, List, [], ◌∷◌, ◌++◌, length, get_or, Option, None, Some, refl, sym, ap, ◌∙◌, subst, inl, inr, arith, append_assoc}
-use Rattle.std.specs.List.{All, Contains}
+use Rattle.std.proofs.Common.{◌≡◌, ℕ, ◌<◌, ◌↔◌, List, [], ◌∷◌, ◌++◌, get_or, Option, None, Some, refl, sym, ap, ◌∙◌, subst, inl, inr, arith, append_assoc}
+use Rattle.std.specs.List.{All}
 use Rattle.std.specs.Option.{option_to_list}
 use Rattle.std.proofs.lemmas.Bool.{cases_lt}
-use Rattle.std.proofs.lemmas.List.{append-nil, get_or_past}
+use Rattle.std.proofs.lemmas.List.{get_or_past}
 use Rattle.std.proofs.lemmas.List.Elements.{All-get_or, All-from_get_or, Contains-get_or}
-use Rattle.rela_nfa.specs.Automaton.{Automaton, Move, IsAutomaton, IsMove, moves_of, states}
+use Rattle.rela_nfa.specs.Automaton.{Automaton, IsAutomaton, IsMove, moves_of, states}
 use Rattle.rela_nfa.specs.Runs.{Step, StepIn, HasStep, Follow, Reach, spelled}
 use Rattle.rela_subset.specs.Sets.{Lists, Silently, SilentlyFrom, NextFrom, ReachedBy}
 use Rattle.rela_subset.proofs.Targets.{Contains-nil, Contains-head, step_within}
@@ -48,7 +48,6 @@ module _ (a : Automaton) where
   silently_more p q r silently step =
       let last : List Step = record { letter = None; to = r } ∷ [] in
       (silently.0 ++ last, follow_join a silently.0 last p q r silently.1 (step, refl), spelled_join silently.0 last ∙ ap (λ w. w ++ []) silently.2)
-
 
 -- a run that reads a word, then a last letter, and then silent edges
 record IsPushed (a : Automaton) (p q k : ℕ) (word : List ℕ) : Type 0 where

@@ -1,11 +1,11 @@
 -- Sets that are numbered as they are found.
-use Rattle.std.proofs.Common.{◌≡◌, ℕ, ◌+◌, ◌<◌, ◌≤◌, ◌⊎◌, Bool, true, false, cond, ◌&&◌, nat_eq, List, [], ◌∷◌, ◌++◌, length, get_or, map, Some, refl, sym, ap, ◌∙◌, subst, inl, inr, arith}
+use Rattle.std.proofs.Common.{◌≡◌, ℕ, ◌+◌, ◌<◌, ◌⊎◌, Bool, true, cond, ◌&&◌, nat_eq, List, [], ◌∷◌, ◌++◌, length, get_or, map, Some, refl, sym, ap, ◌∙◌, inl, inr, arith}
 use Rattle.std.specs.Cmp.Lexicographic.{pointwise}
 use Rattle.std.specs.declared.vec.Vec.{Vec}
 use Rattle.std.specs.List.{IsDistinct, list_any, slice_get}
 use Rattle.indexmap.specs.IndexSet.{insert_key}
 use Rattle.std.proofs.lemmas.Bool.{cases_Bool, cases_lt, false≢true}
-use Rattle.std.proofs.lemmas.List.{get_or-map, get_or_append_left, get_or_push, length_push, map_push, length-map}
+use Rattle.std.proofs.lemmas.List.{get_or-map, get_or_push, length_push, map_push, length-map}
 use Rattle.std.proofs.lemmas.Map.Keys.{apart_from_distinct}
 use Rattle.std.proofs.lemmas.Map.Views.{exact_unsigned_eq}
 use Rattle.std.proofs.lemmas.Option.{get_or_from_slice_get}
@@ -59,13 +59,16 @@ module _ {A : Type 0} where
     | inl among ↦ inl (ap sets_of (is ∙ ap (λ b. cond b keys (keys ++ value ∷ [])) among))
     | inr absent ↦
         let pushed : sets_of new ≡ sets_of keys ++ value.items ∷ [] =
-            ap sets_of (is ∙ ap (λ b. cond b keys (keys ++ value ∷ [])) absent) ∙ map_push (λ (v : Vec ℕ A). v.items) keys value in
+        ap sets_of (is ∙ ap (λ b. cond b keys (keys ++ value ∷ [])) absent) ∙ map_push (λ (v : Vec ℕ A). v.items) keys value in
         let len : length (sets_of new) ≡ length (sets_of keys) + 1 = ap length pushed ∙ length_push (sets_of keys) value.items in
         let last : get_or (sets_of new) (length (sets_of keys)) [] ≡ value.items =
-            ap (λ l. get_or l (length (sets_of keys)) []) pushed ∙ get_or_push (sets_of keys) value.items [] (length (sets_of keys)) refl in
+        ap (λ l. get_or l (length (sets_of keys)) []) pushed ∙ get_or_push (sets_of keys) value.items [] (length (sets_of keys)) refl in
         let all = length-map new (λ (v : Vec ℕ A). v.items) in
-        inr (pushed, elim (cases_lt n (length (sets_of keys))) [
-          | inl below ↦ absurd (distinct_sets new distinct n (length (sets_of keys)) below (omega arith) (at ∙ sym last))
-          | inr above ↦ omega arith
-        ])
+        inr (
+          pushed,
+          elim (cases_lt n (length (sets_of keys))) [
+            | inl below ↦ absurd (distinct_sets new distinct n (length (sets_of keys)) below (omega arith) (at ∙ sym last))
+            | inr above ↦ omega arith
+          ],
+        )
   ]

@@ -1,9 +1,9 @@
 -- Edges whose labels have a letter.
-use Rattle.std.proofs.Common.{◌≡◌, ℕ, zero, suc, ◌+◌, ◌<◌, ◌≤◌, ◌⊎◌, Bool, true, false, cond, List, [], ◌∷◌, ◌++◌, length, get_or, Option, None, Some, refl, sym, ap, ◌∙◌, subst, inl, inr, arith}
+use Rattle.std.proofs.Common.{◌≡◌, ℕ, zero, suc, ◌+◌, ◌<◌, ◌≤◌, ◌⊎◌, Bool, true, false, cond, List, [], ◌∷◌, Option, None, Some, refl, sym, ap, ◌∙◌, subst, inl, inr, arith}
 use Rattle.std.specs.List.{All, Contains, count_by}
 use Rattle.std.specs.Option.{IsSome}
 use Rattle.std.proofs.lemmas.Bool.{cases_Bool, false≢true}
-use Rattle.std.proofs.lemmas.List.Elements.{All-head, All-tail, All-contains}
+use Rattle.std.proofs.lemmas.List.Elements.{All-contains}
 use Rattle.std.proofs.lemmas.List.Sums.{sum_by-cons}
 use Rattle.std.proofs.lemmas.Option.{same_Some}
 use Rattle.rela_labels.specs.Letters.{has}
@@ -75,9 +75,9 @@ step_counts [] k t step = absurd (Contains-nil _ step.1)
 step_counts (move ∷ others) k t step = elim (cases_Bool (takes k move)) [
   | inl yes' ↦ let counted = count_taking k move others yes' in omega arith
   | inr no' ↦ elim (step_cases move others k t step) [
-      | inl here ↦ absurd (false≢true (sym no' ∙ here.0))
-      | inr later ↦ let counted = count_other k move others no' in let rest = step_counts others k t later in omega arith
-    ]
+    | inl here ↦ absurd (false≢true (sym no' ∙ here.0))
+    | inr later ↦ let counted = count_other k move others no' in let rest = step_counts others k t later in omega arith
+  ]
 ]
 
 -- where one edge takes the letter, steps by it lead to the target alone
@@ -85,18 +85,18 @@ pub step_target : (moves : List Move) (k t : ℕ) → count_by (takes k) moves �
 step_target [] k t one step = absurd (Contains-nil _ step.1)
 step_target (move ∷ others) k t one step = elim (cases_Bool (takes k move)) [
   | inl yes' ↦ elim (step_cases move others k t step) [
-      | inl here ↦ ap (λ b. cond b (Some move.to) (target others k)) yes' ∙ ap Some here.1
-      | inr later ↦
-          let counted = count_taking k move others yes' in
-          let rest = step_counts others k t later in
-          absurd (omega arith)
-    ]
+    | inl here ↦ ap (λ b. cond b (Some move.to) (target others k)) yes' ∙ ap Some here.1
+    | inr later ↦
+        let counted = count_taking k move others yes' in
+        let rest = step_counts others k t later in
+        absurd (omega arith)
+  ]
   | inr no' ↦ elim (step_cases move others k t step) [
-      | inl here ↦ absurd (false≢true (sym no' ∙ here.0))
-      | inr later ↦
-          let counted = count_other k move others no' in
-          ap (λ b. cond b (Some move.to) (target others k)) no' ∙ step_target others k t (omega arith) later
-    ]
+    | inl here ↦ absurd (false≢true (sym no' ∙ here.0))
+    | inr later ↦
+        let counted = count_other k move others no' in
+        ap (λ b. cond b (Some move.to) (target others k)) no' ∙ step_target others k t (omega arith) later
+  ]
 ]
 
 -- where an edge takes the letter, it has a target

@@ -8,7 +8,6 @@ use Rattle.rela_nfa.specs.Automaton.{Automaton, Move}
 use Rattle.rela_nfa.specs.Stored.{move_of, moves_in}
 use Rattle.rela_nfa.specs.declared.edge.Edge.{Edge}
 use Rattle.rela_subset.specs.Deterministic.{Deterministic, IsDeterministic, automaton_of, moves_of, next, states, target}
-use Rattle.rela_subset.specs.Stored.{deterministic}
 use Rattle.rela_subset.proofs.Words.{target_at, next_within}
 
 pub moves_read : {L A : Type 0} (letters : L → List Bool) (edges : List (Vec (Edge L) A)) (q : ℕ) (v : Vec (Edge L) A) → q < length edges

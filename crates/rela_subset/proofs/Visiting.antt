@@ -1,5 +1,5 @@
 -- States that are put with those that are seen, and with those that wait where they are new.
-use Rattle.std.proofs.Common.{◌≡◌, ℕ, ◌+◌, ◌<◌, ◌⊎◌, ◌↔◌, List, [], ◌∷◌, ◌++◌, length, Option, None, Some, refl, sym, ap, ◌∙◌, subst, inl, inr, arith}
+use Rattle.std.proofs.Common.{◌≡◌, ℕ, ◌+◌, ◌⊎◌, ◌↔◌, List, [], ◌∷◌, ◌++◌, length, refl, sym, ap, ◌∙◌, subst, inl, inr, arith}
 use Rattle.std.specs.BTreeSet.{insert_key}
 use Rattle.std.specs.declared.cmp.Ordering.{Ordering}
 use Rattle.std.specs.declared.cmp.Ordering.TheVariants.{Less, Equal, Greater}
@@ -20,31 +20,31 @@ pub inserted : (keys : List ℕ) (k q : ℕ) → Contains (insert_key nat_cmp ke
 inserted [] k q = (λ c. inr (Contains-one k q c), λ either. elim either [ inl old ↦ absurd (Contains-nil q old) | inr new ↦ subst (λ n. Contains (k ∷ []) n) new (Contains-head k []) ])
 inserted (x ∷ xs) k q = by_order (nat_cmp k x) refl (inserted xs k q)
   where
-  by_order : (r : Ordering) → r ≡ nat_cmp k x → Contains (insert_key nat_cmp xs k) q ↔ (Contains xs q ⊎ (k ≡ q)) → Contains (match_ordering r (k ∷ x ∷ xs) (x ∷ xs) (x ∷ insert_key nat_cmp xs k)) q ↔ (Contains (x ∷ xs) q ⊎ (k ≡ q))
-  by_order Less e rest = (
-    λ c. elim (Contains-cons_cases k (x ∷ xs) q c) [ inl new ↦ inr new | inr old ↦ inl old ],
-    λ either. elim either [ inl old ↦ Contains-tail k (x ∷ xs) q old | inr new ↦ subst (λ n. Contains (k ∷ x ∷ xs) n) new (Contains-head k (x ∷ xs)) ],
-  )
-  by_order Equal e rest = (
-    λ c. inl c,
-    λ either. elim either [
-      | inl old ↦ old
-      | inr new ↦ let same : k ≡ x = ranked k x Equal e in subst (λ n. Contains (x ∷ xs) n) (sym same ∙ new) (Contains-head x xs)
-    ],
-  )
-  by_order Greater e rest = (
-    λ c. elim (Contains-cons_cases x (insert_key nat_cmp xs k) q c) [
-      | inl first ↦ inl (subst (λ n. Contains (x ∷ xs) n) first (Contains-head x xs))
-      | inr later ↦ elim (rest.0 later) [ inl old ↦ inl (Contains-tail x xs q old) | inr new ↦ inr new ]
-    ],
-    λ either. elim either [
-      | inl old ↦ elim (Contains-cons_cases x xs q old) [
+    by_order : (r : Ordering) → r ≡ nat_cmp k x → Contains (insert_key nat_cmp xs k) q ↔ (Contains xs q ⊎ (k ≡ q)) → Contains (match_ordering r (k ∷ x ∷ xs) (x ∷ xs) (x ∷ insert_key nat_cmp xs k)) q ↔ (Contains (x ∷ xs) q ⊎ (k ≡ q))
+    by_order Less e rest = (
+      λ c. elim (Contains-cons_cases k (x ∷ xs) q c) [ inl new ↦ inr new | inr old ↦ inl old ],
+      λ either. elim either [ inl old ↦ Contains-tail k (x ∷ xs) q old | inr new ↦ subst (λ n. Contains (k ∷ x ∷ xs) n) new (Contains-head k (x ∷ xs)) ],
+    )
+    by_order Equal e rest = (
+      λ c. inl c,
+      λ either. elim either [
+        | inl old ↦ old
+        | inr new ↦ let same : k ≡ x = ranked k x Equal e in subst (λ n. Contains (x ∷ xs) n) (sym same ∙ new) (Contains-head x xs)
+      ],
+    )
+    by_order Greater e rest = (
+      λ c. elim (Contains-cons_cases x (insert_key nat_cmp xs k) q c) [
+        | inl first ↦ inl (subst (λ n. Contains (x ∷ xs) n) first (Contains-head x xs))
+        | inr later ↦ elim (rest.0 later) [ inl old ↦ inl (Contains-tail x xs q old) | inr new ↦ inr new ]
+      ],
+      λ either. elim either [
+        | inl old ↦ elim (Contains-cons_cases x xs q old) [
           | inl first ↦ subst (λ n. Contains (x ∷ insert_key nat_cmp xs k) n) first (Contains-head x (insert_key nat_cmp xs k))
           | inr later ↦ Contains-tail x (insert_key nat_cmp xs k) q (rest.1 (inl later))
         ]
-      | inr new ↦ Contains-tail x (insert_key nat_cmp xs k) q (rest.1 (inr new))
-    ],
-  )
+        | inr new ↦ Contains-tail x (insert_key nat_cmp xs k) q (rest.1 (inr new))
+      ],
+    )
 
 pub adds_none : (seen waiting : List ℕ) → Adds [] seen waiting seen waiting
 adds_none seen waiting = record {

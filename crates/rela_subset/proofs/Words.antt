@@ -1,13 +1,13 @@
 -- Where words lead.
-use Rattle.std.proofs.Common.{◌≡◌, ℕ, ◌+◌, ◌<◌, ◌≤◌, ◌⊎◌, ◌↔◌, Bool, true, false, not, cond, List, [], ◌∷◌, ◌++◌, length, get_or, map, Option, None, Some, refl, sym, ap, ◌∙◌, subst, inl, inr, arith}
+use Rattle.std.proofs.Common.{◌≡◌, ℕ, ◌<◌, ◌↔◌, true, false, not, cond, List, [], ◌∷◌, ◌++◌, length, get_or, map, Option, None, Some, refl, sym, ap, ◌∙◌, subst, inl, inr, arith}
 use Rattle.std.specs.List.{All, count_by}
 use Rattle.std.specs.Option.{IsSome, unwrap_or, option_to_list}
 use Rattle.std.proofs.lemmas.Bool.{cases_Bool, cases_lt, false≢true}
 use Rattle.std.proofs.lemmas.List.{get_or_past, get_or-map}
 use Rattle.std.proofs.lemmas.List.Elements.{All-nil, All-cons, All-head, All-tail, All-get_or}
 use Rattle.rela_labels.specs.Letters.{has}
-use Rattle.rela_nfa.specs.Automaton.{Automaton, Move, IsMove}
-use Rattle.rela_nfa.specs.Runs.{Step, StepIn, HasStep, Follow, Reach, Accepts, spelled}
+use Rattle.rela_nfa.specs.Automaton.{Move, IsMove}
+use Rattle.rela_nfa.specs.Runs.{Step, StepIn, Follow, Reach, Accepts, spelled}
 use Rattle.rela_subset.specs.Deterministic.{Deterministic, IsDeterministic, IsSplit, IsOver, IsAccepted, LeadsTo, automaton_of, led_from, moves_of, next, states, state_after, takes, target}
 use Rattle.rela_subset.proofs.Targets.{Contains-nil, some_target, step_counts, step_target, step_within, target_step, labelled_step}
 
@@ -43,9 +43,9 @@ module _ (d : Deterministic) (ok : IsDeterministic d) where
     | inr past ↦ absurd (no_step letter (subst (λ l. StepIn l letter q) (get_or_past d.edges p [] (let each = ok.automaton.each in omega arith)) step))
   ]
     where
-    no_step : (letter : Option ℕ) → ¬ StepIn [] letter q
-    no_step None step = Contains-nil _ step
-    no_step (Some k) step = Contains-nil _ step.1
+      no_step : (letter : Option ℕ) → ¬ StepIn [] letter q
+      no_step None step = Contains-nil _ step
+      no_step (Some k) step = Contains-nil _ step.1
 
   -- a step is by a letter that is read, to the next state
   step_next : (p q k : ℕ) → StepIn (moves_of d p) (Some k) q → (has d.over k ≡ true) × (next d p k ≡ q)
@@ -67,12 +67,12 @@ module _ (d : Deterministic) (ok : IsDeterministic d) where
   follow_leads [] p q here = (All-nil (λ k. has d.over k ≡ true), here)
   follow_leads (step ∷ rest) p q follows = first step.letter follows.0 (follow_leads rest step.to q follows.1)
     where
-    first : (letter : Option ℕ) → StepIn (moves_of d p) letter step.to → IsOver d.over (spelled rest) × (led_from d step.to (spelled rest) ≡ q)
-        → IsOver d.over (option_to_list letter ++ spelled rest) × (led_from d p (option_to_list letter ++ spelled rest) ≡ q)
-    first None taken later = absurd (labelled_step (moves_of d p) step.to (labelled_at p (from_state p step.to None taken)) taken)
-    first (Some k) taken later =
-        let at = step_next p step.to k taken in
-        (All-cons (λ j. has d.over j ≡ true) k (spelled rest) at.0 later.0, ap (λ n. led_from d n (spelled rest)) at.1 ∙ later.1)
+      first : (letter : Option ℕ) → StepIn (moves_of d p) letter step.to → IsOver d.over (spelled rest) × (led_from d step.to (spelled rest) ≡ q)
+          → IsOver d.over (option_to_list letter ++ spelled rest) × (led_from d p (option_to_list letter ++ spelled rest) ≡ q)
+      first None taken later = absurd (labelled_step (moves_of d p) step.to (labelled_at p (from_state p step.to None taken)) taken)
+      first (Some k) taken later =
+          let at = step_next p step.to k taken in
+          (All-cons (λ j. has d.over j ≡ true) k (spelled rest) at.0 later.0, ap (λ n. led_from d n (spelled rest)) at.1 ∙ later.1)
 
   -- and a word over the letters is spelled by edges to where it leads
   leads_follow : (word : List ℕ) (p : ℕ) → p < states d → IsOver d.over word
@@ -85,18 +85,22 @@ module _ (d : Deterministic) (ok : IsDeterministic d) where
       (record { letter = Some k; to = next d p k } ∷ later.0, (taken, later.1), ap (λ w. k ∷ w) later.2)
 
   pub reach_leads : (q : ℕ) (word : List ℕ) → Reach (automaton_of d) q word ↔ LeadsTo d q word
-  reach_leads q word = (λ reach.
-      let leads = follow_leads reach.0 d.start q reach.1 in
-      subst (λ w. IsOver d.over w × (state_after d w ≡ q)) reach.2 leads,
+  reach_leads q word = (
+    λ reach.
+        let leads = follow_leads reach.0 d.start q reach.1 in
+        subst (λ w. IsOver d.over w × (state_after d w ≡ q)) reach.2 leads,
     λ leads.
-      let found = leads_follow word d.start ok.automaton.starts leads.0 in
-      (found.0, subst (λ n. Follow (automaton_of d) d.start found.0 n) leads.1 found.1, found.2))
+        let found = leads_follow word d.start ok.automaton.starts leads.0 in
+        (found.0, subst (λ n. Follow (automaton_of d) d.start found.0 n) leads.1 found.1, found.2),
+  )
 
   pub accepts_accepted : (word : List ℕ) → Accepts (automaton_of d) word ↔ IsAccepted d word
-  accepts_accepted word = (λ (q, reach, final).
-      let leads = (reach_leads q word).0 reach in
-      (leads.0, ap (λ n. get_or d.finals n false) leads.1 ∙ final),
-    λ accepted. (state_after d word, (reach_leads (state_after d word) word).1 (accepted.0, refl), accepted.1))
+  accepts_accepted word = (
+    λ (q, reach, final).
+        let leads = (reach_leads q word).0 reach in
+        (leads.0, ap (λ n. get_or d.finals n false) leads.1 ∙ final),
+    λ accepted. (state_after d word, (reach_leads (state_after d word) word).1 (accepted.0, refl), accepted.1),
+  )
 
   -- a word leads to a state
   pub led_within : (word : List ℕ) (p : ℕ) → p < states d → IsOver d.over word → led_from d p word < states d
@@ -121,13 +125,16 @@ pub opposite_accepts : (d e : Deterministic) → IsDeterministic d → e.over �
 opposite_accepts d e ok over start edges finals word =
     let after : state_after e word ≡ state_after d word = led_same d e edges word e.start ∙ ap (λ p. led_from d p word) start in
     let opposite : IsOver d.over word → get_or e.finals (state_after e word) false ≡ not (get_or d.finals (state_after d word) false) = λ read.
-        ap (λ q. get_or e.finals q false) after ∙ ap (λ fs. get_or fs (state_after d word) false) finals
-        ∙ get_or-map not d.finals (state_after d word) false false (led_within d ok word d.start ok.automaton.starts read) in (
+    ap (λ q. get_or e.finals q false) after ∙ ap (λ fs. get_or fs (state_after d word) false) finals
+    ∙ get_or-map not d.finals (state_after d word) false false (led_within d ok word d.start ok.automaton.starts read) in (
       λ accepted.
           let read : IsOver d.over word = subst (λ o. IsOver o word) over accepted.0 in
           (read, λ other. false≢true (sym (opposite read ∙ ap not other.1) ∙ accepted.1)),
-      λ (read, other). (subst (λ o. IsOver o word) (sym over) read, elim (cases_Bool (get_or d.finals (state_after d word) false)) [
-        | inl final ↦ absurd (other (read, final))
-        | inr not_final ↦ opposite read ∙ ap not not_final
-      ]),
+      λ (read, other). (
+        subst (λ o. IsOver o word) (sym over) read,
+        elim (cases_Bool (get_or d.finals (state_after d word) false)) [
+          | inl final ↦ absurd (other (read, final))
+          | inr not_final ↦ opposite read ∙ ap not not_final
+        ],
+      ),
     )

@@ -1,8 +1,7 @@
 -- The sets of states that follow a set, and the edges to them.
-use Rattle.std.specs.Prelude.{◌≡◌, ◌≢◌, ℕ, ◌+◌, ◌<◌, ◌≤◌, ◌⊎◌, ◌↔◌, ◌&&◌, ◌||◌, not, Bool, true, false, List, [], ◌∷◌, ◌++◌, length, count_by, Option, Some, IsSome, slice_index, slice_index_or, slice_set, nat_eq, if◌then◌else◌}
+use Rattle.std.specs.Prelude.{◌≡◌, ℕ, ◌+◌, ◌<◌, ◌≤◌, ◌⊎◌, ◌↔◌, ◌&&◌, ◌||◌, not, Bool, true, false, List, [], ◌∷◌, ◌++◌, length, count_by, Some, IsSome, slice_index, slice_index_or, slice_set, nat_eq, if◌then◌else◌}
 use Rattle.std.specs.HashMap.{HashMap, get}
 use Rattle.std.specs.List.{All}
-use Rattle.std.specs.Option.{ForSome}
 use Rattle.rela_labels.specs.Letters.{has}
 use Rattle.rela_names.specs.Shortlex.{IsBefore}
 use Rattle.rela_nfa.specs.Automaton.{Automaton, Move, IsMove, moves_of}

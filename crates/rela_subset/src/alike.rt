@@ -54,12 +54,7 @@ fn narrowed<L: LabelSet>(
 }
 
 /// The letters of the block by which the edge may be taken, or may not be, as by this letter.
-fn cut<L: LabelSet>(
-    alloc: Global,
-    block: L,
-    edge: &Edge<L>,
-    letter: u32,
-) -> Result<L, AllocError>
+fn cut<L: LabelSet>(alloc: Global, block: L, edge: &Edge<L>, letter: u32) -> Result<L, AllocError>
     requires { ForSome edge.now.label (λ set. length (L.letters set) ≡ length (L.letters block)) }
     ensures size { IfOk result (λ part. length (L.letters part) ≡ length (L.letters block)) }
     ensures alike { IfOk result (λ part. (k : ℕ) → (has (L.letters part) k ≡ true)

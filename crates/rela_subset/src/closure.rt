@@ -73,11 +73,7 @@ fn visit_all(
 }
 
 /// The same for one state.
-fn visit(
-    seen: &mut BTreeSet<usize>,
-    waiting: &mut Vec<usize>,
-    q: usize,
-) -> Result<(), AllocError>
+fn visit(seen: &mut BTreeSet<usize>, waiting: &mut Vec<usize>, q: usize) -> Result<(), AllocError>
     ensures { IfOk result (λ _. Adds (q ∷ []) seen.old.keys waiting.old.items seen.new.keys waiting.new.items) }
 {
     if !seen.insert(q)? {

@@ -1,5 +1,5 @@
 //! The subset construction.
-ghost use Rattle.std.specs.Prelude.{◌≡◌, ◌≢◌, ℕ, ◌+◌, ◌<◌, ◌≤◌, ◌↔◌, List, [], Bool, false, IfOk, IfErr, IsTrue, length, map, slice_index_or};
+ghost use Rattle.std.specs.Prelude.{◌≡◌, ◌≢◌, ℕ, ◌+◌, ◌^◌, ◌<◌, ◌≤◌, ◌↔◌, List, [], Bool, false, IfOk, IfErr, IsTrue, length, map, slice_index_or};
 ghost use Rattle.std.specs.List.{All};
 ghost use Rattle.rela_nfa.specs.Automaton.{IsAutomaton, states as nfa_states};
 ghost use Rattle.rela_nfa.specs.Runs.{Accepts};
@@ -22,7 +22,7 @@ use std::alloc::{AllocError, Global};
 /// reach, the empty set among them if it is reached. It accepts the words over the letters that the
 /// given one accepts, and its states are numbered as words first arrive at them, in shortlex order.
 ///
-/// `Limit` where there are more than `limit` such sets. For each set found, the letters are split
+/// `Limit` where there are more than `limit` such sets, so that `usize::MAX` is no limit. For each set found, the letters are split
 /// by the labels of the edges out of its states: a block costs a set operation for each of these
 /// edges, and a walk through the states that follow.
 pub fn determinise<L: LabelSet>(
@@ -34,6 +34,7 @@ pub fn determinise<L: LabelSet>(
     requires letters { length (L.letters over.now) ≡ a.now.letters }
     requires limit { 1 ≤ limit }
     ensures over { IfOk result (λ dfa. dfa.over ≡ L.letters over.now) }
+    ensures start { IfOk result (λ dfa. dfa.start ≡ 0) }
     ensures language { IfOk result (λ dfa. (word : List ℕ) → IsAccepted dfa word ↔ (IsOver (L.letters over.now) word × Accepts a.now word)) }
     ensures sets { IfOk result (λ dfa. (v w : List ℕ) → IsOver (L.letters over.now) v → IsOver (L.letters over.now) w
         → (state_after dfa v ≡ state_after dfa w) ↔ ReachSame a.now v w) }
@@ -42,6 +43,7 @@ pub fn determinise<L: LabelSet>(
     ensures few { IfOk result (λ dfa. states dfa ≤ limit) }
     ensures told_apart { IfOk result (λ _. ¬ ReachSets a.now (L.letters over.now) (limit + 1)) }
     ensures limit { IfErr result (λ e. e ≡ BuildError.Limit → ReachSets a.now (L.letters over.now) (limit + 1)) }
+    ensures bounded { IfErr result (λ e. e ≡ BuildError.Limit → limit < 2 ^ 63) }
 {
     prove!(a.start() < a.states());
     let mut sets = StateSets::new(alloc);
@@ -72,6 +74,7 @@ fn explore<L: LabelSet>(
     ensures few { IfOk result (λ _. length sets.new ≤ limit) }
     ensures distinct { IfOk result (λ _. AreDistinct sets.new) }
     ensures limit { IfErr result (λ e. e ≡ BuildError.Limit → ReachSets a.now (L.letters over.now) (limit + 1)) }
+    ensures bounded { IfErr result (λ e. e ≡ BuildError.Limit → limit < 2 ^ 63) }
 {
     let mut edges = Vec::new(alloc);
     while edges.len() < sets.len() {
@@ -83,11 +86,7 @@ fn explore<L: LabelSet>(
 }
 
 /// For each set whether a state of it is final.
-fn finals<L: LabelSet>(
-    alloc: Global,
-    a: &Nfa<L>,
-    sets: &StateSets,
-) -> Result<Vec<bool>, AllocError>
+fn finals<L: LabelSet>(alloc: Global, a: &Nfa<L>, sets: &StateSets) -> Result<Vec<bool>, AllocError>
     requires { All (All (λ q. q < nfa_states a.now)) sets.now }
     ensures len { IfOk result (λ flags. length flags.items ≡ length sets.now) }
     ensures each { IfOk result (λ flags. (i : ℕ) → i < length sets.now → IsTrue (slice_index_or flags.items i false) ↔ HasFinal a.now (slice_index_or sets.now i [])) }

@@ -37,12 +37,7 @@ impl<L: LabelSet> Model for Dfa<L> {
 
 impl<L: LabelSet> Dfa<L> {
     // the automaton of these parts
-    pub(crate) fn new(
-        over: L,
-        start: usize,
-        finals: Vec<bool>,
-        edges: Vec<Vec<Edge<L>>>,
-    ) -> Dfa<L>
+    pub(crate) fn new(over: L, start: usize, finals: Vec<bool>, edges: Vec<Vec<Edge<L>>>) -> Dfa<L>
         requires { IsDeterministic (deterministic L.letters (L.letters over) start finals.items edges.items) }
         ensures { result ≡ deterministic L.letters (L.letters over) start finals.items edges.items }
     {

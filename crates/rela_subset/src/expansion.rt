@@ -1,5 +1,5 @@
 //! The edges out of a set of states.
-ghost use Rattle.std.specs.Prelude.{◌≡◌, ℕ, ◌+◌, ◌<◌, ◌≤◌, List, Bool, true, false, IfOk, IfErr, length, map};
+ghost use Rattle.std.specs.Prelude.{◌≡◌, ℕ, ◌+◌, ◌^◌, ◌<◌, ◌≤◌, List, Bool, true, false, IfOk, IfErr, length, map};
 ghost use Rattle.std.specs.List.{All};
 ghost use Rattle.rela_nfa.specs.Automaton.{IsAutomaton, states};
 ghost use Rattle.rela_nfa.specs.Stored.{move_of};
@@ -34,6 +34,7 @@ pub(crate) fn expand<L: LabelSet>(
     ensures expanded { IfOk result (λ edges. IsExpandedOver a.now (L.letters over.now) set.now sets.old sets.new (map (move_of L.letters) edges.items)) }
     ensures few { IfOk result (λ _. length sets.new ≤ limit) }
     ensures limit { IfErr result (λ e. e ≡ BuildError.Limit → (length sets.new ≡ limit + 1) × AreDistinct sets.new × ((letters : List ℕ) × HasGrown a.now (L.letters over.now) set.now sets.old sets.new letters)) }
+    ensures bounded { IfErr result (λ e. e ≡ BuildError.Limit → limit < 2 ^ 63) }
 {
     let mut bundle = Bundle::new(alloc);
     let mut rest = over.copy(alloc)?;

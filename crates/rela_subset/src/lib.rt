@@ -16,3 +16,6 @@ pub use construction::determinise;
 pub use dfa::Dfa;
 pub use error::BuildError;
 pub use opposite::complement;
+
+#[cfg(test)]
+mod tests;

@@ -60,6 +60,7 @@ impl StateSets {
         ensures few { IfOk result (λ _. length self.new ≤ limit) }
         ensures grown { IfOk result (λ number. (self.new ≡ self.old) ⊎ ((self.new ≡ self.old ++ set.items ∷ []) × (number ≡ length self.old))) }
         ensures limit { IfErr result (λ e. e ≡ BuildError.Limit → (self.new ≡ self.old ++ set.items ∷ []) × (length self.new ≡ limit + 1)) }
+        ensures bounded { IfErr result (λ e. e ≡ BuildError.Limit → limit < 2 ^ 63) }
         ensures distinct { AreDistinct self.new }
     {
         let (number, _) = self.sets.insert_full(set)?;

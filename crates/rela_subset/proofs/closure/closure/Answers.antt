@@ -1,4 +1,4 @@
-use Rattle.std.proofs.Common.{◌≡◌, [], map, None, sym, subst, ◌∙◌}
+use Rattle.std.proofs.Common.{map, None, sym, subst, ◌∙◌}
 use Rattle.std.proofs.lemmas.List.{nil_from_length}
 use Rattle.std.proofs.lemmas.Result.{IfOk-weaker}
 use Rattle.rela_nfa.specs.Automaton.{moves_of}

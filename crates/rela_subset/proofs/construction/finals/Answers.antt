@@ -1,4 +1,4 @@
-use Rattle.std.proofs.Common.{◌↔◌, [], get_or, length, ap, subst, arith}
+use Rattle.std.proofs.Common.{◌↔◌, length, ap, subst, arith}
 use Rattle.std.specs.Bool.{IsTrue}
 use Rattle.std.proofs.lemmas.List.{length_push}
 use Rattle.rela_subset.specs.Sets.{HasFinal}

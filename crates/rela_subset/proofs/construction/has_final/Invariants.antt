@@ -1,4 +1,4 @@
-use Rattle.std.proofs.Common.{ℕ, take}
+use Rattle.std.proofs.Common.{take}
 use Rattle.rela_subset.specs.Sets.{HasFinal}
 use Rattle.rela_subset.proofs.construction.has_final.Given as goal
 

@@ -1,4 +1,4 @@
-use Rattle.std.proofs.Common.{length, refl, ap, sym, ◌∙◌}
+use Rattle.std.proofs.Common.{length, ap, sym, ◌∙◌}
 use Rattle.std.proofs.lemmas.Result.{err_from_is_err_and}
 use Rattle.rela_subset.proofs.Expanding.{expanded_none, expanded_more, grown_last, itself}
 use Rattle.rela_subset.proofs.Fewer.{fewer_left}
@@ -17,9 +17,12 @@ pub returns-in_err-to-clause-limit : goal.returns-in_err-to-clause-limit
 returns-in_err-to-clause-limit g c =
     let p = err_from_is_err_and c.from_residual-in_err-to.result c.from_residual-in_err-to.ensures.1 in
     rw (p.1, p.2) (λ e.
-    let limit = c.in_err-to.ensures.limit e in
-    (limit.1, c.in_err-to.ensures.distinct, grown_last c.args.a.now (g.L.LabelSet.letters c.args.over.now) (g.L.LabelSet.letters c.loop-letter.rest) c.args.set.now c.args.sets.now c.loop-letter.sets c.number.new.self
-    c.in-Some.letter c.in_ok-next.next.items c.loop-letter.bundle c.loop-letter.invariant.expanded c.in-Some.ensures.member c.in_ok-next.ensures limit.0))
+    let limit = c.in_err-to.ensures.limit e in (
+      limit.1,
+      c.in_err-to.ensures.distinct,
+      grown_last c.args.a.now (g.L.LabelSet.letters c.args.over.now) (g.L.LabelSet.letters c.loop-letter.rest) c.args.set.now c.args.sets.now c.loop-letter.sets c.number.new.self
+          c.in-Some.letter c.in_ok-next.next.items c.loop-letter.bundle c.loop-letter.invariant.expanded c.in-Some.ensures.member c.in_ok-next.ensures limit.0,
+    ))
 
 pub put-requires : goal.put-requires
 put-requires g c = λ k move below label is.
