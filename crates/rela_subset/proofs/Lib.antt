@@ -1,0 +1,17 @@
+pub mod Ascending
+pub mod Bundling
+pub mod Closing
+pub mod Determined
+pub mod Ends
+pub mod Expanding
+pub mod Exploring
+pub mod Fewer
+pub mod Following
+pub mod Narrowing
+pub mod Placing
+pub mod Reached
+pub mod SetsFound
+pub mod Targets
+pub mod Views
+pub mod Visiting
+pub mod Words

@@ -1,0 +1,5 @@
+pub mod Deterministic
+pub mod Expansion
+pub mod Sets
+pub mod Stored
+pub mod Subsets

@@ -1,0 +1,154 @@
+ghost use Rattle.std.specs.Prelude.{◌≡◌, ℕ, ◌<◌, ◌↔◌, List, Bool, true, false, IsTrue, IfOk, Option, Some, length, map, not};
+ghost use Rattle.rela_labels.specs.Letters.{has};
+ghost use Rattle.rela_nfa.specs.Runs.{Reach, Accepts};
+ghost use Rattle.rela_nfa.specs.Stored.{move_of, moves_in};
+ghost use Rattle.rela_subset.specs.Deterministic.{IsDeterministic, IsFinal, IsAccepted, IsOver, LeadsTo, automaton_of, moves_of, next, states, state_after, target};
+ghost use Rattle.rela_subset.specs.Stored.{deterministic};
+
+use crate::copies::copy_all;
+use rela_labels::LabelSet;
+use rela_nfa::{Edge, Nfa};
+use std::alloc::{AllocError, Global};
+use std::marker::Model;
+
+/// A deterministic automaton, complete over a set of letters: at each state each of these letters
+/// is in the label of exactly one edge, and no other letter in any. Its states are numbered from 0.
+/// Contracts see it as a `Deterministic`, in which each label is the list of the letters, whether
+/// each is in it.
+#[derive(Drop)]
+pub struct Dfa<L: LabelSet> {
+    pub(crate) over: L,
+    pub(crate) start: usize,
+    pub(crate) finals: Vec<bool>,
+    pub(crate) edges: Vec<Vec<Edge<L>>>,
+}
+
+impl<L: LabelSet> Model for Dfa<L> {
+    ghost use Rattle.rela_subset.specs.Deterministic.{Deterministic, IsDeterministic};
+
+    ghost Value = { Deterministic };
+
+    ghost use Rattle.rela_subset.specs.Stored.{deterministic};
+
+    ghost view = { λ dfa. deterministic L.letters (L.letters dfa.over) dfa.start dfa.finals.items dfa.edges.items };
+
+    ghost invariant = { λ dfa. IsDeterministic (deterministic L.letters (L.letters dfa.over) dfa.start dfa.finals.items dfa.edges.items) };
+}
+
+impl<L: LabelSet> Dfa<L> {
+    // the automaton of these parts
+    pub(crate) fn new(over: L, start: usize, finals: Vec<bool>, edges: Vec<Vec<Edge<L>>>) -> Dfa<L>
+        requires { IsDeterministic (deterministic L.letters (L.letters over) start finals.items edges.items) }
+        ensures { result ≡ deterministic L.letters (L.letters over) start finals.items edges.items }
+    {
+        Dfa {
+            over,
+            start,
+            finals,
+            edges,
+        }
+    }
+
+    /// The automaton over these letters, with this start, and for each state whether it is final
+    /// and which edges leave it.
+    pub fn from_parts(
+        alloc: Global,
+        over: &L,
+        start: usize,
+        finals: &[bool],
+        edges: Vec<Vec<Edge<L>>>,
+    ) -> Result<Dfa<L>, AllocError>
+        requires { IsDeterministic (deterministic L.letters (L.letters over.now) start finals.now edges.items) }
+        ensures over { IfOk result (λ dfa. dfa.over ≡ L.letters over.now) }
+        ensures start { IfOk result (λ dfa. dfa.start ≡ start) }
+        ensures finals { IfOk result (λ dfa. dfa.finals ≡ finals.now) }
+        ensures edges { IfOk result (λ dfa. dfa.edges ≡ moves_in L.letters edges.items) }
+    {
+        let over = over.copy(alloc)?;
+        let finals = Vec::from_slice(alloc, finals)?;
+        Ok(Dfa::new(over, start, finals, edges))
+    }
+
+    /// The number of letters, of which those of `over` are read.
+    pub fn letters(&self) -> u32
+        ensures letters { result ≡ length self.now.over }
+        ensures fits { L.fits (length self.now.over) }
+    {
+        self.over.size()
+    }
+
+    /// The letters that are read.
+    pub fn over(&self) -> &L
+        ensures { L.letters result.now ≡ self.now.over }
+    {
+        &self.over
+    }
+
+    /// The number of states.
+    pub fn states(&self) -> usize
+        ensures states { result ≡ states self.now }
+        ensures deterministic { IsDeterministic self.now }
+    {
+        self.finals.len()
+    }
+
+    /// The state from which words are read.
+    pub fn start(&self) -> usize
+        ensures start { result ≡ self.now.start }
+        ensures state { result < states self.now }
+    {
+        self.start
+    }
+
+    /// Whether a word that leads to the state is accepted.
+    pub fn is_final(&self, q: usize) -> bool
+        requires { q < states self.now }
+        ensures { IsTrue result ↔ IsFinal self.now q }
+    {
+        self.finals[q]
+    }
+
+    /// The edges that leave the state.
+    pub fn edges(&self, q: usize) -> &[Edge<L>]
+        requires { q < states self.now }
+        ensures { map (move_of L.letters) result.now ≡ moves_of self.now q }
+    {
+        self.edges[q].as_slice()
+    }
+
+    /// The state to which the letter leads from the state, in the time of a look at each of its
+    /// edges.
+    pub fn next(&self, q: usize, letter: u32) -> usize
+        requires state { q < states self.now }
+        requires letter { has self.now.over letter ≡ true }
+        ensures next { result ≡ next self.now q letter }
+        ensures state { result < states self.now }
+    {
+        target_of(&self.edges[q], letter).unwrap()
+    }
+
+    /// The same automaton, as one that need not be deterministic.
+    pub fn to_nfa(&self, alloc: Global) -> Result<Nfa<L>, AllocError>
+        ensures automaton { IfOk result (λ nfa. nfa ≡ automaton_of self.now) }
+        ensures reach { IfOk result (λ nfa. (q : ℕ) (word : List ℕ) → Reach nfa q word ↔ LeadsTo self.now q word) }
+        ensures language { IfOk result (λ nfa. (word : List ℕ) → Accepts nfa word ↔ IsAccepted self.now word) }
+    {
+        let edges = copy_all(alloc, &self.edges)?;
+        let nfa = Nfa::from_parts(alloc, self.over.size(), self.start, &self.finals, edges)?;
+        Ok(nfa)
+    }
+}
+
+/// Where the first edge leads whose label has the letter.
+fn target_of<L: LabelSet>(edges: &[Edge<L>], letter: u32) -> Option<usize>
+    ensures { result ≡ target (map (move_of L.letters) edges.now) letter }
+{
+    for edge in edges {
+        if let Some(label) = &edge.label {
+            if label.contains(letter) {
+                return Some(edge.to);
+            }
+        }
+    }
+    None
+}

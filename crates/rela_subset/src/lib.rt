@@ -1,0 +1,21 @@
+//! Deterministic automata: the sets of states that an automaton reaches, and the complement.
+#![tactic(auto)]
+
+mod alike;
+mod bundle;
+mod closure;
+mod construction;
+mod copies;
+mod dfa;
+mod error;
+mod expansion;
+mod opposite;
+mod state_sets;
+
+pub use construction::determinise;
+pub use dfa::Dfa;
+pub use error::BuildError;
+pub use opposite::complement;
+
+#[cfg(test)]
+mod tests;

@@ -1,0 +1,31 @@
+ghost use Rattle.std.specs.Prelude.{◌≡◌, ℕ, ◌↔◌, IfOk, List, map, not};
+ghost use Rattle.rela_subset.specs.Deterministic.{IsAccepted, IsOver, state_after};
+
+use crate::copies::copy_all;
+use crate::dfa::Dfa;
+use rela_labels::LabelSet;
+use std::alloc::{AllocError, Global};
+
+/// The automaton with the same states and edges that accepts the words over the same letters which
+/// the given one doesn't accept.
+pub fn complement<L: LabelSet>(alloc: Global, dfa: &Dfa<L>) -> Result<Dfa<L>, AllocError>
+    ensures over { IfOk result (λ other. other.over ≡ dfa.now.over) }
+    ensures start { IfOk result (λ other. other.start ≡ dfa.now.start) }
+    ensures edges { IfOk result (λ other. other.edges ≡ dfa.now.edges) }
+    ensures finals { IfOk result (λ other. other.finals ≡ map not dfa.now.finals) }
+    ensures states { IfOk result (λ other. (word : List ℕ) → state_after other word ≡ state_after dfa.now word) }
+    ensures language { IfOk result (λ other. (word : List ℕ) → IsAccepted other word ↔ (IsOver dfa.now.over word × ¬ IsAccepted dfa.now word)) }
+{
+    let over = dfa.over.copy(alloc)?;
+    let finals = others(alloc, &dfa.finals)?;
+    let edges = copy_all(alloc, &dfa.edges)?;
+    let other = Dfa::new(over, dfa.start, finals, edges);
+    Ok(other)
+}
+
+/// The opposite of each.
+fn others(alloc: Global, flags: &[bool]) -> Result<Vec<bool>, AllocError>
+    ensures { IfOk result (λ others. others.items ≡ map not flags.now) }
+{
+    flags.iter().map(|flag| !*flag).collect(alloc)
+}

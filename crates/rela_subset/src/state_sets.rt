@@ -1,0 +1,72 @@
+ghost use Rattle.std.specs.Prelude.{◌≡◌, ◌⊎◌, ℕ, ◌+◌, ◌^◌, ◌<◌, ◌≤◌, List, [], ◌∷◌, ◌++◌, IfOk, IfErr, length, slice_index_or};
+ghost use Rattle.rela_subset.specs.Sets.{AreDistinct};
+
+use crate::error::BuildError;
+use indexmap::IndexSet;
+use std::alloc::{AllocError, Global};
+use std::marker::Model;
+
+/// Sets of states, each a list in ascending order, numbered as they are found. Contracts see them
+/// as the list of these lists.
+#[derive(Drop)]
+pub(crate) struct StateSets {
+    sets: IndexSet<Vec<usize>>,
+}
+
+impl Model for StateSets {
+    ghost use Rattle.std.specs.Prelude.{List, ℕ, map};
+    ghost use Rattle.rela_subset.specs.Sets.{AreDistinct};
+
+    ghost Value = { List (List ℕ) };
+
+    ghost view = { λ all. map (λ set. set.items) all.sets.keys };
+
+    ghost invariant = { λ all. AreDistinct (map (λ set. set.items) all.sets.keys) };
+}
+
+impl StateSets {
+    /// No sets.
+    pub(crate) fn new(alloc: Global) -> StateSets
+        ensures { result ≡ [] }
+    {
+        StateSets {
+            sets: IndexSet::new(alloc),
+        }
+    }
+
+    /// How many there are.
+    pub(crate) fn len(&self) -> usize
+        ensures len { result ≡ length self.now }
+        ensures small { result < 2 ^ 63 }
+        ensures distinct { AreDistinct self.now }
+    {
+        self.sets.len()
+    }
+
+    /// The set of this number.
+    pub(crate) fn get(&self, number: usize) -> &[usize]
+        requires { number < length self.now }
+        ensures { result.now ≡ slice_index_or self.now number [] }
+    {
+        self.sets.as_slice()[number].as_slice()
+    }
+
+    /// The number of the set, which is put behind the others where it isn't among them. `Limit` where
+    /// there are then more than `limit`.
+    pub(crate) fn number(&mut self, set: Vec<usize>, limit: usize) -> Result<usize, BuildError>
+        requires { length self.old ≤ limit }
+        ensures at { IfOk result (λ number. slice_index_or self.new number [] ≡ set.items) }
+        ensures within { IfOk result (λ number. number < length self.new) }
+        ensures few { IfOk result (λ _. length self.new ≤ limit) }
+        ensures grown { IfOk result (λ number. (self.new ≡ self.old) ⊎ ((self.new ≡ self.old ++ set.items ∷ []) × (number ≡ length self.old))) }
+        ensures limit { IfErr result (λ e. e ≡ BuildError.Limit → (self.new ≡ self.old ++ set.items ∷ []) × (length self.new ≡ limit + 1)) }
+        ensures bounded { IfErr result (λ e. e ≡ BuildError.Limit → limit < 2 ^ 63) }
+        ensures distinct { AreDistinct self.new }
+    {
+        let (number, _) = self.sets.insert_full(set)?;
+        if self.sets.len() > limit {
+            return Err(BuildError::Limit);
+        }
+        Ok(number)
+    }
+}

@@ -1,0 +1,77 @@
+ghost use Rattle.std.specs.Prelude.{◌≡◌, ◌<◌, IfOk, length};
+
+use super::*;
+use crate::copies::copy_all;
+use rela_labels::{BlockSet, LabelSet};
+use rela_nfa::Nfa;
+use std::alloc::{AllocError, Global};
+use std::test::Fail;
+
+type Letters = BlockSet<1>;
+
+fn set_of(alloc: Global, letters: &[u32]) -> Result<Letters, AllocError>
+    ensures { IfOk result (λ set. length set ≡ 3) }
+{
+    let mut set = Letters::none(alloc, 3)?;
+    for letter in letters {
+        if *letter < 3 {
+            set.add(*letter);
+        }
+    }
+    Ok(set)
+}
+
+fn rebuilt(alloc: Global, dfa: &Dfa<Letters>) -> Result<Dfa<Letters>, AllocError>
+    ensures { IfOk result (λ again. again ≡ dfa.now) }
+{
+    let edges = copy_all(alloc, &dfa.edges)?;
+    let again = Dfa::from_parts(alloc, &dfa.over, dfa.start, &dfa.finals, edges)?;
+    Ok(again)
+}
+
+#[test]
+fn all_words_but_one(rt: HostRuntime) -> Result<(), Fail> {
+    let alloc = rt.alloc();
+    let all = set_of(alloc, &[0, 1, 2])?;
+    let word: Nfa<Letters> = Nfa::word(alloc, 3, &[0])?;
+    let dfa = determinise(alloc, &word, &all, 10)?;
+    let others = complement(alloc, &dfa)?;
+    let nfa = rebuilt(alloc, &others)?.to_nfa(alloc)?;
+    assert!(rt; nfa.accepts(alloc, &[])?);
+    assert!(rt; nfa.accepts(alloc, &[1])?);
+    assert!(rt; nfa.accepts(alloc, &[0, 0])?);
+    assert!(rt; !nfa.accepts(alloc, &[0])?);
+    Ok(())
+}
+
+#[test]
+fn reads_a_letter(rt: HostRuntime) -> Result<(), Fail> {
+    let alloc = rt.alloc();
+    let some = set_of(alloc, &[0, 2])?;
+    let word: Nfa<Letters> = Nfa::word(alloc, 3, &[2])?;
+    let dfa = determinise(alloc, &word, &some, 3)?;
+    assert_eq!(rt; dfa.letters(), 3);
+    assert_eq!(rt; dfa.states(), 3);
+    assert!(rt; !dfa.is_final(dfa.start()));
+    assert!(rt; !dfa.over().contains(1));
+    assert!(rt; dfa.over().contains(2));
+    assert!(rt; dfa.is_final(dfa.next(dfa.start(), 2)));
+    assert_eq!(rt; dfa.edges(dfa.start()).len(), 2);
+    Ok(())
+}
+
+#[test]
+fn as_many_states_as_the_limit(rt: HostRuntime) -> Result<(), Fail> {
+    let alloc = rt.alloc();
+    let all = set_of(alloc, &[0, 1, 2])?;
+    let first = set_of(alloc, &[0])?;
+    let any: Nfa<Letters> = Nfa::class(alloc, 3, &all)?;
+    let last: Nfa<Letters> = Nfa::class(alloc, 3, &first)?;
+    let words = any.star(alloc)?.concat(alloc, &last)?.concat(alloc, &any)?;
+    let states = determinise(alloc, &words, &all, 4_000_000)?.states();
+    assert!(rt; states > 1);
+    assert_eq!(rt; determinise(alloc, &words, &all, states)?.states(), states);
+    let refused = determinise(alloc, &words, &all, states - 1);
+    assert!(rt; matches!(refused, Err(BuildError::Limit)));
+    Ok(())
+}
