@@ -11,11 +11,10 @@ ghost use Rattle.rela_subset.specs.Subsets.{ReachSame, ReachSets};
 
 use crate::closure::closure;
 use crate::dfa::Dfa;
-use crate::error::BuildError;
 use crate::expansion::expand;
 use crate::state_sets::StateSets;
 use rela_labels::LabelSet;
-use rela_nfa::{Edge, Nfa};
+use rela_nfa::{BuildError, Edge, Nfa};
 use std::alloc::{AllocError, Global};
 
 /// The automaton over these letters whose states are the sets of states that words over the letters

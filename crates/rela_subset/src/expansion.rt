@@ -9,10 +9,9 @@ ghost use Rattle.rela_subset.specs.Sets.{AreDistinct};
 use crate::alike::alike;
 use crate::bundle::Bundle;
 use crate::closure::following;
-use crate::error::BuildError;
 use crate::state_sets::StateSets;
 use rela_labels::LabelSet;
-use rela_nfa::{Edge, Nfa};
+use rela_nfa::{BuildError, Edge, Nfa};
 use std::alloc::Global;
 
 /// The edges out of the set, one for each set that follows it by a letter of `over`. Those sets are

@@ -7,15 +7,14 @@ mod closure;
 mod construction;
 mod copies;
 mod dfa;
-mod error;
 mod expansion;
 mod opposite;
 mod state_sets;
 
 pub use construction::determinise;
 pub use dfa::Dfa;
-pub use error::BuildError;
 pub use opposite::complement;
+pub use rela_nfa::BuildError;
 
 #[cfg(test)]
 mod tests;

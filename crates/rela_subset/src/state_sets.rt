@@ -1,8 +1,8 @@
 ghost use Rattle.std.specs.Prelude.{◌≡◌, ◌⊎◌, ℕ, ◌+◌, ◌^◌, ◌<◌, ◌≤◌, List, [], ◌∷◌, ◌++◌, IfOk, IfErr, length, slice_index_or};
 ghost use Rattle.rela_subset.specs.Sets.{AreDistinct};
 
-use crate::error::BuildError;
 use indexmap::IndexSet;
+use rela_nfa::BuildError;
 use std::alloc::{AllocError, Global};
 use std::marker::Model;
 
