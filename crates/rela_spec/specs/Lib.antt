@@ -1,0 +1,15 @@
+pub mod Grammar
+pub mod GrammarPaths
+pub mod GrammarPredicates
+pub mod GrammarSpecs
+pub mod GrammarWords
+pub mod Joined
+pub mod Keywords
+pub mod Members
+pub mod Names
+pub mod PathTexts
+pub mod Phrases
+pub mod PredicateTexts
+pub mod Print
+pub mod Printed
+pub mod SpecTexts

@@ -1,0 +1,14 @@
+//! Specifications: their trees, the reading of tokens as a tree, and the canonical text of a tree.
+#![tactic(auto)]
+
+mod parsing;
+mod printing;
+mod tree;
+mod words;
+
+pub use parsing::parse;
+pub use printing::print;
+pub use tree::{Item, Member, Modifier, PathExpr, SpecExpr, SpecFile};
+
+#[cfg(test)]
+mod tests;
