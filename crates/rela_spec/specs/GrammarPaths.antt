@@ -2,7 +2,7 @@
 use Rattle.std.specs.Prelude.{ℕ, zero, suc, List, [], ◌∷◌, codes, ⊤}
 use Rattle.rela_locations.specs.declared.members.By.{By}
 use Rattle.rela_locations.specs.declared.members.By.TheVariants as by
-use Rattle.rela_spec.specs.Phrases.{Phrase, done, none, ◌>>=◌, ◌>>◌, ◌or◌, whether, many, chain}
+use Rattle.rela_spec.specs.Phrases.{Phrase, done, none, ◌>>=◌, ◌>>◌, ◌or◌, whether, many, chain, bracketed}
 use Rattle.rela_spec.specs.GrammarWords.{mark, word, name, reference, number}
 use Rattle.rela_spec.specs.declared.tree.Member.{Member}
 use Rattle.rela_spec.specs.declared.tree.Member.TheVariants as member
@@ -19,12 +19,9 @@ picked_by =
 
 -- a name in brackets, behind what it picks by
 unfoldable pub picked : ℕ → Phrase Member
-picked zero = none
-picked (suc room) = do
+picked room = do
   b ← picked_by
-  mark 40
-  n ← name
-  mark 41
+  n ← bracketed room (mark 40) λ _. name >>= λ n. mark 41 >> done n
   done (member.Within b n.name n.at)
 
 unfoldable pub a_member : ℕ → Phrase Member
@@ -36,31 +33,24 @@ a_member room =
 
 -- members in brackets
 unfoldable pub class : ℕ → Phrase PathExpr
-class zero = none
-class (suc room) = do
-  mark 91
+class room = bracketed room (mark 91) λ inner. do
   negated ← whether (mark 94)
-  members ← many (a_member room)
+  members ← many (a_member inner)
   mark 93
   done (expr.Class negated members)
 
 -- a number in brackets
 unfoldable pub times : ℕ → Phrase ℕ
-times zero = none
-times (suc room) = do
-  mark 123
-  n ← number
-  mark 125
-  done n
+times room = bracketed room (mark 123) λ _. number >>= λ n. mark 125 >> done n
 
 -- the empty path, or a path expression, in brackets
-unfoldable pub group : Phrase PathExpr → Phrase PathExpr
-group inside = mark 40 >> ((mark 41 >> done expr.Empty) or (inside >>= λ e. mark 41 >> done e))
+unfoldable pub group : ℕ → Phrase PathExpr → Phrase PathExpr
+group room inside = bracketed room (mark 40) λ _. (mark 41 >> done expr.Empty) or (inside >>= λ e. mark 41 >> done e)
 
--- what has no path expression in brackets
-unfoldable pub simple : ℕ → Phrase PathExpr
-simple room =
+unfoldable pub atom : ℕ → Phrase PathExpr → Phrase PathExpr
+atom room inside =
     (mark 46 >> done expr.Any)
+    or group room inside
     or class room
     or (reference >>= λ n. done (expr.Reference n.name n.at))
     or (a_member room >>= λ m. done (expr.One m))
@@ -75,12 +65,12 @@ postfix room e =
     or done e
 
 unfoldable pub negation : ℕ → Phrase PathExpr → Phrase PathExpr
-negation room atom = (mark 33 >> (atom >>= postfix room >>= λ e. done (expr.Not e))) or (atom >>= postfix room)
+negation room inside = (mark 33 >> (atom room inside >>= postfix room >>= λ e. done (expr.Not e))) or (atom room inside >>= postfix room)
 
 -- `|` binds the least, then `&`, then parts in a row, then `!`, and what stands behind a part the most
 unfoldable pub expression : ℕ → Phrase PathExpr → Phrase PathExpr
-expression room atom = chain expr.Alt (mark 124) (chain expr.And (mark 38) (chain expr.Seq (done tt) (negation room atom)))
+expression room inside = chain expr.Alt (mark 124) (chain expr.And (mark 38) (chain expr.Seq (done tt) (negation room inside)))
 
 unfoldable pub path : ℕ → Phrase PathExpr
-path zero = expression zero (simple zero)
-path (suc room) = expression (suc room) (group (path room) or simple (suc room))
+path zero = expression zero none
+path (suc room) = expression (suc room) (path room)

@@ -1,6 +1,6 @@
 -- The grammar of specifications of changes. A phrase with a number has at most so many brackets nested in it.
 use Rattle.std.specs.Prelude.{ℕ, zero, suc, List, [], ◌∷◌, codes, ⊤}
-use Rattle.rela_spec.specs.Phrases.{Phrase, done, none, ◌>>=◌, ◌>>◌, ◌or◌, chain}
+use Rattle.rela_spec.specs.Phrases.{Phrase, done, none, ◌>>=◌, ◌>>◌, ◌or◌, chain, bracketed}
 use Rattle.rela_spec.specs.GrammarWords.{mark, word, reference}
 use Rattle.rela_spec.specs.GrammarPaths.{path}
 use Rattle.rela_spec.specs.declared.tree.PathExpr.{PathExpr}
@@ -11,21 +11,14 @@ use Rattle.rela_spec.specs.declared.tree.SpecExpr.TheVariants as spec
 
 -- a path expression in brackets
 unfoldable pub argument : ℕ → Phrase PathExpr
-argument zero = none
-argument (suc room) = do
-  mark 40
-  e ← path room
-  mark 41
-  done e
+argument room = bracketed room (mark 40) λ inner. path inner >>= λ e. mark 41 >> done e
 
 -- two path expressions in brackets
 unfoldable pub replacement : ℕ → Phrase (Modifier PathExpr)
-replacement zero = none
-replacement (suc room) = do
-  mark 40
-  old ← path room
+replacement room = bracketed room (mark 40) λ inner. do
+  old ← path inner
   mark 44
-  new ← path room
+  new ← path inner
   mark 41
   done (modifier.Replace old new)
 
@@ -41,22 +34,23 @@ change room =
 
 -- a zone with what has to become of its paths
 unfoldable pub unit : ℕ → Phrase SpecExpr
-unit zero = none
-unit (suc room) = do
-  mark 123
-  zone ← path room
+unit room = bracketed room (mark 123) λ inner. do
+  zone ← path inner
   mark 58
-  m ← change room
+  m ← change inner
   mark 125
   done (spec.Unit zone m)
 
-unfoldable pub single : ℕ → Phrase SpecExpr
-single room = (reference >>= λ n. done (spec.Reference n.name n.at)) or unit room
+unfoldable pub single : ℕ → Phrase SpecExpr → Phrase SpecExpr
+single room inside =
+    (reference >>= λ n. done (spec.Reference n.name n.at))
+    or bracketed room (mark 40) (λ _. inside >>= λ s. mark 41 >> done s)
+    or unit room
 
 -- `else` binds less than `then`
-unfoldable pub alternatives : Phrase SpecExpr → Phrase SpecExpr
-alternatives atom = chain spec.Else (word (codes "else")) (chain spec.Then (word (codes "then")) atom)
+unfoldable pub alternatives : ℕ → Phrase SpecExpr → Phrase SpecExpr
+alternatives room inside = chain spec.Else (word (codes "else")) (chain spec.Then (word (codes "then")) (single room inside))
 
 unfoldable pub body : ℕ → Phrase SpecExpr
-body zero = alternatives (single zero)
-body (suc room) = alternatives ((mark 40 >> (body room >>= λ s. mark 41 >> done s)) or single (suc room))
+body zero = alternatives zero none
+body (suc room) = alternatives (suc room) (body room)

@@ -1,5 +1,5 @@
 -- Phrases: what the tokens at the front of a list spell, in the manner of a grammar.
-use Rattle.std.specs.Prelude.{◌≡◌, ◌⊎◌, ℕ, Bool, true, false, List, [], ◌∷◌, ⊤}
+use Rattle.std.specs.Prelude.{◌≡◌, ◌⊎◌, ℕ, zero, suc, Bool, true, false, List, [], ◌∷◌, ⊤}
 use Rattle.rela_lex.specs.declared.token.Token.{Token}
 
 -- a phrase R: by `R a v b` the tokens a, up to the rest b of them, spell the value v
@@ -53,3 +53,8 @@ chain join between part = do
   first ← part
   others ← many (between >> part)
   done (joined_parts join first others)
+
+-- at most so many brackets are nested: none, or an opening one, and behind it what may nest one less
+abbrev pub bracketed : {A : Type 0} → ℕ → Phrase (⊤) → (ℕ → Phrase A) → Phrase A
+bracketed zero opening inside = none
+bracketed (suc room) opening inside = opening >> inside room
