@@ -4,3 +4,8 @@ pub mod PrintedLines
 pub mod PrintedPaths
 pub mod PrintedPredicates
 pub mod PrintedSpecs
+pub mod Exact
+pub mod Then
+pub mod Choose
+pub mod Many
+pub mod Opened

@@ -12,4 +12,5 @@ pub mod Phrases
 pub mod PredicateTexts
 pub mod Print
 pub mod Printed
+pub mod Readings
 pub mod SpecTexts

@@ -2,6 +2,7 @@
 #![tactic(auto)]
 
 mod parsing;
+mod scratch;
 mod printing;
 mod tree;
 mod words;
