@@ -9,3 +9,6 @@ pub mod Then
 pub mod Choose
 pub mod Many
 pub mod Opened
+pub mod PathReadings
+pub mod Loops
+pub mod PrefixReadings

@@ -1,5 +1,5 @@
 -- Readings of tokens: what is read at the front of a list, and what is left of it, or the first fault.
-use Rattle.std.specs.Prelude.{◌≡◌, ℕ, zero, suc, Bool, true, false, if◌then◌else◌, Option, None, Some, Result, Ok, Err, List, [], ◌∷◌, length, ⊤}
+use Rattle.std.specs.Prelude.{◌≡◌, ℕ, zero, suc, Bool, true, false, if◌then◌else◌, Option, None, Some, Result, Ok, Err, List, [], ◌∷◌, ◌++◌, length, ⊤}
 use Rattle.rela_lex.specs.declared.error.SpecError.{SpecError}
 use Rattle.rela_lex.specs.declared.error.SpecError.TheVariants.{Syntax, TooDeep, Memory}
 use Rattle.rela_lex.specs.declared.token.Token.{Token}
@@ -63,3 +63,7 @@ read_all passes p ts = read_many passes p (length ts) ts
 -- a part, and more of them as long as the next token passes
 abbrev pub read_chain : {A : Type 0} → (List A → A) → (TokenKind → Bool) → Reading A → Reading A → Reading A
 read_chain join passes next part = part >>= λ first. read_all passes next >>= λ others. read_done (joined_parts join first others)
+
+-- the values that are read, behind these
+abbrev pub read_onto : {A : Type 0} → List A → Reading (List A) → Reading (List A)
+read_onto before p ts = and_read (p ts) (λ vs. read_done (before ++ vs))

@@ -2,8 +2,8 @@
 #![tactic(auto)]
 
 mod parsing;
-mod scratch;
 mod printing;
+mod scratch;
 mod tree;
 mod words;
 

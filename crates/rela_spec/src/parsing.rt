@@ -32,16 +32,13 @@ pub fn parse(alloc: Global, tokens: &[Token], end: u32) -> Result<SpecFile, Spec
     let mut cursor = Cursor::new(tokens, end);
     let level = level_line(&mut cursor)?;
     let mut items = Vec::new(alloc);
-    while !cursor.is_at_end() {
+    while cursor.has_next() {
         items.push(item(alloc, &mut cursor)?)?;
     }
-    match cursor.bad_number() {
-        Some(at) => Err(SpecError::BadNumber { at }),
-        None => Ok(SpecFile {
-            level,
-            items: List::from_vec(items),
-        }),
-    }
+    Ok(SpecFile {
+        level,
+        items: List::from_vec(items),
+    })
 }
 
 /// The level that the text begins with, or interface.

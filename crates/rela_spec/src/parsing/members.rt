@@ -1,6 +1,9 @@
 //! Members, and classes of members in brackets.
 
-ghost use Rattle.std.specs.Prelude.{◌≡◌, ◌<◌, true, length, OnOk};
+ghost use Rattle.std.specs.Prelude.{◌≡◌, ◌≢◌, ◌<◌, ◌≤◌, ◌++◌, true, Ok, Err, length, IfOk, IfErr, OnOk};
+ghost use Rattle.rela_lex.specs.declared.error.SpecError.TheVariants.{Memory};
+ghost use Rattle.rela_spec.specs.Readings.{next_is};
+ghost use Rattle.rela_spec.specs.ReadPaths.{is_picking, read_class, read_member, read_members, read_picked, read_picked_by, starts_member};
 
 use crate::parsing::cursor::Cursor;
 use crate::tree::{Member, PathExpr};
@@ -10,55 +13,56 @@ use rela_names::List;
 use std::alloc::Global;
 
 /// Whether a member comes next.
-pub(crate) fn is_at_member(cursor: &Cursor) -> bool {
-    cursor.is_at_name()
-        || cursor.is_at_word(b"drop")
+#[tactic(auto, unfolding(crate::specs::ReadPaths::starts_member))]
+pub(crate) fn is_at_member(cursor: &Cursor) -> bool
+    ensures { result ≡ next_is starts_member cursor.now.rest.now }
+{
+    cursor.is_at_word(b"drop")
         || cursor.is_at_word(b"loop")
-        || by_next(cursor).is_some()
+        || is_at_picking(cursor)
+        || cursor.is_at_name()
 }
 
-/// What the word that comes next picks locations by.
-fn by_next(cursor: &Cursor) -> Option<By> {
-    if cursor.is_at_word(b"interface") {
-        Some(By::Interface)
-    } else if cursor.is_at_word(b"device") {
-        Some(By::Device)
-    } else if cursor.is_at_word(b"group") {
-        Some(By::Group)
-    } else if cursor.is_at_word(b"tag") {
-        Some(By::Tag)
-    } else {
-        None
-    }
-}
-
-/// The member that has to come next, where `room` more brackets may be opened.
-pub(crate) fn member(alloc: Global, cursor: &mut Cursor, room: usize) -> Result<Member, SpecError>
-    ensures { OnOk result (length cursor.new.rest.now < length cursor.old.rest.now) }
+/// Whether a word comes next that says what locations are picked by.
+fn is_at_picking(cursor: &Cursor) -> bool
+    ensures { result ≡ next_is is_picking cursor.now.rest.now }
 {
-    if cursor.take_word(b"drop") {
-        return Ok(Member::Drop);
-    }
-    if cursor.take_word(b"loop") {
-        return Ok(Member::Loop);
-    }
-    match by_next(cursor) {
-        Some(by) => {
-            cursor.skip();
-            within(alloc, cursor, by, room)
-        }
-        None => {
-            let at = cursor.here();
-            let name = cursor.name(alloc)?;
-            Ok(Member::Here { name, at })
-        }
-    }
+    cursor.is_at_word(b"interface")
+        || cursor.is_at_word(b"device")
+        || cursor.is_at_word(b"group")
+        || cursor.is_at_word(b"tag")
 }
 
-/// The name in brackets behind the word that says what it picks by.
-fn within(alloc: Global, cursor: &mut Cursor, by: By, room: usize) -> Result<Member, SpecError>
-    ensures { OnOk result (length cursor.new.rest.now < length cursor.old.rest.now) }
+/// What the word that has to come next picks locations by.
+#[tactic(auto, unfolding(crate::specs::ReadPaths::read_picked_by))]
+fn picked_by(cursor: &mut Cursor) -> Result<By, SpecError>
+    ensures end { cursor.new.end ≡ cursor.old.end }
+    ensures read { IfOk result (λ by. read_picked_by cursor.old.end cursor.old.rest.now ≡ Ok (by, cursor.new.rest.now)) }
+    ensures fault { IfErr result (λ e. read_picked_by cursor.old.end cursor.old.rest.now ≡ Err e) }
+    ensures less { OnOk result (length cursor.new.rest.now < length cursor.old.rest.now) }
 {
+    if cursor.take_word(b"interface") {
+        return Ok(By::Interface);
+    }
+    if cursor.take_word(b"device") {
+        return Ok(By::Device);
+    }
+    if cursor.take_word(b"group") {
+        return Ok(By::Group);
+    }
+    cursor.word(b"tag")?;
+    Ok(By::Tag)
+}
+
+/// The locations within what a name picks, where `room` more brackets may be opened.
+#[tactic(auto, unfolding(crate::specs::ReadPaths::read_picked))]
+fn picked(alloc: Global, cursor: &mut Cursor, room: usize) -> Result<Member, SpecError>
+    ensures end { cursor.new.end ≡ cursor.old.end }
+    ensures read { IfOk result (λ member. read_picked cursor.old.end room cursor.old.rest.now ≡ Ok (member, cursor.new.rest.now)) }
+    ensures fault { IfErr result (λ e. e ≢ Memory → read_picked cursor.old.end room cursor.old.rest.now ≡ Err e) }
+    ensures less { OnOk result (length cursor.new.rest.now < length cursor.old.rest.now) }
+{
+    let by = picked_by(cursor)?;
     cursor.open(b'(', room)?;
     let at = cursor.here();
     let name = cursor.name(alloc)?;
@@ -66,16 +70,54 @@ fn within(alloc: Global, cursor: &mut Cursor, by: By, room: usize) -> Result<Mem
     Ok(Member::Within { by, name, at })
 }
 
+/// The member that has to come next, where `room` more brackets may be opened.
+#[tactic(auto, unfolding(crate::specs::ReadPaths::read_member))]
+pub(crate) fn member(alloc: Global, cursor: &mut Cursor, room: usize) -> Result<Member, SpecError>
+    ensures end { cursor.new.end ≡ cursor.old.end }
+    ensures read { IfOk result (λ member. read_member cursor.old.end room cursor.old.rest.now ≡ Ok (member, cursor.new.rest.now)) }
+    ensures fault { IfErr result (λ e. e ≢ Memory → read_member cursor.old.end room cursor.old.rest.now ≡ Err e) }
+    ensures less { OnOk result (length cursor.new.rest.now < length cursor.old.rest.now) }
+{
+    if cursor.take_word(b"drop") {
+        return Ok(Member::Drop);
+    }
+    if cursor.take_word(b"loop") {
+        return Ok(Member::Loop);
+    }
+    if is_at_picking(cursor) {
+        return picked(alloc, cursor, room);
+    }
+    let at = cursor.here();
+    let name = cursor.name(alloc)?;
+    Ok(Member::Here { name, at })
+}
+
+/// The members that come next.
+#[tactic(auto, unfolding(crate::specs::ReadPaths::read_members))]
+fn members(alloc: Global, cursor: &mut Cursor, room: usize) -> Result<Vec<Member>, SpecError>
+    ensures end { cursor.new.end ≡ cursor.old.end }
+    ensures read { IfOk result (λ members. read_members cursor.old.end room cursor.old.rest.now ≡ Ok (members.items, cursor.new.rest.now)) }
+    ensures fault { IfErr result (λ e. e ≢ Memory → read_members cursor.old.end room cursor.old.rest.now ≡ Err e) }
+    ensures left { OnOk result (length cursor.new.rest.now ≤ length cursor.old.rest.now) }
+{
+    let mut members = Vec::new(alloc);
+    while is_at_member(cursor) {
+        members.push(member(alloc, cursor, room)?)?;
+    }
+    Ok(members)
+}
+
 /// The class in brackets that has to come next.
+#[tactic(auto, unfolding(crate::specs::ReadPaths::read_class))]
 pub(crate) fn class(alloc: Global, cursor: &mut Cursor, room: usize) -> Result<PathExpr, SpecError>
-    ensures { OnOk result (length cursor.new.rest.now < length cursor.old.rest.now) }
+    ensures end { cursor.new.end ≡ cursor.old.end }
+    ensures read { IfOk result (λ path. read_class cursor.old.end room cursor.old.rest.now ≡ Ok (path, cursor.new.rest.now)) }
+    ensures fault { IfErr result (λ e. e ≢ Memory → read_class cursor.old.end room cursor.old.rest.now ≡ Err e) }
+    ensures less { OnOk result (length cursor.new.rest.now < length cursor.old.rest.now) }
 {
     let inner = cursor.open(b'[', room)?;
     let negated = cursor.take_mark(b'^');
-    let mut members = Vec::new(alloc);
-    while is_at_member(cursor) {
-        members.push(member(alloc, cursor, inner)?)?;
-    }
+    let members = members(alloc, cursor, inner)?;
     cursor.mark(b']')?;
     Ok(PathExpr::Class {
         negated,

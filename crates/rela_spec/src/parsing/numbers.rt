@@ -1,59 +1,51 @@
 //! How often a path is repeated.
 
-ghost use Rattle.std.specs.Prelude.{◌<◌, length, OnOk};
+ghost use Rattle.std.specs.Prelude.{◌≡◌, true, if◌then◌else◌, Some, None};
+ghost use Rattle.std.specs.Str.Parse.{digits_value};
+ghost use Rattle.rela_spec.specs.GrammarWords.{is_number, is_good_number, number_of};
 
-use crate::parsing::cursor::Cursor;
-use rela_lex::{SpecError, TokenKind};
 
 /// The greatest number of repetitions.
 const MAX_TIMES: u32 = 64;
 
-/// The number that has to come next: a bare word of digits. A bad one is noted.
-pub(crate) fn number(cursor: &mut Cursor) -> Result<u32, SpecError>
-    ensures { OnOk result (length cursor.new.rest.now < length cursor.old.rest.now) }
+/// Whether the word is a number.
+pub(crate) fn is_number(word: &[u8]) -> bool
+    ensures { result ≡ is_number word.now }
 {
-    let at = cursor.here();
-    match cursor.next() {
-        Some(TokenKind::Bare(word)) if is_digits(word.as_bytes()) => {
-            cursor.skip();
-            match times_of(word.as_bytes()) {
-                Some(n) => Ok(n),
-                None => {
-                    cursor.note_bad_number(at);
-                    Ok(0)
-                }
-            }
-        }
-        _ => Err(cursor.syntax()),
-    }
-}
-
-fn is_digits(word: &[u8]) -> bool {
     word.iter().all(|byte| byte.is_ascii_digit())
 }
 
-/// The value of digits without a leading zero, where it is at most 64.
-fn times_of(digits: &[u8]) -> Option<u32> {
-    match digits {
-        [units] => Some(digit(*units)),
-        [tens, units] => {
-            let value = digit(*tens) * 10 + digit(*units);
-            if 10 <= value && value <= MAX_TIMES {
-                Some(value)
-            } else {
-                None
-            }
-        }
-        _ => None,
-    }
+/// Whether the number is at most 64, and has no leading zero unless it is `0`.
+pub(crate) fn is_good_number(word: &[u8]) -> bool
+    requires { is_number word.now ≡ true }
+    ensures { result ≡ is_good_number word.now }
+{
+    good_number(word).is_some()
 }
 
-/// The value of a digit, or 0.
-fn digit(byte: u8) -> u32
-    ensures { result < 10 }
+/// The number, or 0 for a bad one.
+#[tactic(auto, unfolding(crate::specs::GrammarWords::number_of))]
+pub(crate) fn number_of(word: &[u8]) -> u32
+    requires { is_number word.now ≡ true }
+    ensures { result ≡ number_of word.now }
 {
-    match byte {
-        b'0'..=b'9' => u32::from(byte - b'0'),
-        _ => 0,
+    good_number(word).unwrap_or(0)
+}
+
+/// The number, where it is at most 64 and has no leading zero unless it is `0`.
+fn good_number(word: &[u8]) -> Option<u32>
+    requires { is_number word.now ≡ true }
+    ensures { result ≡ (if is_good_number word.now then Some (digits_value 10 word.now) else None) }
+{
+    if word.len() > 1 && word[0] == b'0' {
+        return None;
     }
+    let mut value: u32 = 0;
+    for byte in word {
+        value = value * 10 + u32::from(*byte - b'0');
+        if value > MAX_TIMES {
+            return None;
+        }
+    }
+    Some(value)
 }

@@ -4,8 +4,8 @@ ghost use Rattle.std.specs.Prelude.{◌<◌, ◌≤◌, ◌+◌, ◌*◌, length
 ghost use Rattle.rela_flows.specs.Selects.{depth};
 
 use crate::parsing::cursor::Cursor;
-use rela_flows::{Predicate, Prefix};
-use rela_lex::{SpecError, TokenKind};
+use rela_flows::Predicate;
+use rela_lex::SpecError;
 use rela_names::{Boxed, List};
 use std::alloc::Global;
 
@@ -106,10 +106,10 @@ fn destination(cursor: &mut Cursor) -> Result<Predicate, SpecError>
     ensures depth { IfOk result (λ p. depth p ≤ 1) }
 {
     if cursor.take_word(b"in") {
-        return Ok(Predicate::DstIn(prefix(cursor)?));
+        return Ok(Predicate::DstIn(cursor.prefix()?));
     }
     cursor.word(b"overlaps")?;
-    Ok(Predicate::DstOverlaps(prefix(cursor)?))
+    Ok(Predicate::DstOverlaps(cursor.prefix()?))
 }
 
 /// A test of a flow's sources, behind its first word.
@@ -119,31 +119,8 @@ fn source(cursor: &mut Cursor) -> Result<Predicate, SpecError>
     ensures depth { IfOk result (λ p. depth p ≤ 1) }
 {
     if cursor.take_word(b"in") {
-        return Ok(Predicate::SrcIn(prefix(cursor)?));
+        return Ok(Predicate::SrcIn(cursor.prefix()?));
     }
     cursor.word(b"overlaps")?;
-    Ok(Predicate::SrcOverlaps(prefix(cursor)?))
-}
-
-/// The prefix that has to come next.
-fn prefix(cursor: &mut Cursor) -> Result<Prefix, SpecError>
-    ensures { OnOk result (length cursor.new.rest.now < length cursor.old.rest.now) }
-{
-    match next_prefix(cursor) {
-        Some(prefix) => {
-            cursor.skip();
-            Ok(prefix)
-        }
-        None => Err(cursor.syntax()),
-    }
-}
-
-/// The prefix that the next token writes.
-fn next_prefix(cursor: &Cursor) -> Option<Prefix>
-    ensures { IsSome result → 0 < length cursor.now.rest.now }
-{
-    match cursor.next() {
-        Some(TokenKind::Bare(word)) => Prefix::parse(word.as_bytes()),
-        _ => None,
-    }
+    Ok(Predicate::SrcOverlaps(cursor.prefix()?))
 }
