@@ -12,3 +12,12 @@ pub mod Opened
 pub mod PathReadings
 pub mod Loops
 pub mod PrefixReadings
+pub mod TextPieces
+pub mod Sources
+pub mod TokenTexts
+pub mod ChainTexts
+pub mod Levels
+pub mod Braces
+pub mod NumberTexts
+pub mod MemberTexts
+pub mod PathsBack

@@ -15,4 +15,5 @@ pub mod Printed
 pub mod ReadPaths
 pub mod ReadWords
 pub mod Readings
+pub mod SameTree
 pub mod SpecTexts

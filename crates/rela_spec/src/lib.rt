@@ -4,6 +4,7 @@
 mod parsing;
 mod printing;
 mod scratch;
+mod scratch_print;
 mod tree;
 mod words;
 
