@@ -21,3 +21,4 @@ pub mod Braces
 pub mod NumberTexts
 pub mod MemberTexts
 pub mod PathsBack
+pub mod PredicatesBack
