@@ -22,3 +22,4 @@ pub mod NumberTexts
 pub mod MemberTexts
 pub mod PathsBack
 pub mod PredicatesBack
+pub mod SpecsBack

@@ -1,7 +1,7 @@
 //! Scratch.
 ghost use Rattle.std.specs.Prelude.{◌≡◌};
 
-#[tactic(auto, using(crate::proofs::PathsBack::reads_path, crate::proofs::PredicatesBack::reads_predicate))]
+#[tactic(auto, using(crate::proofs::SpecsBack::reads_body))]
 fn scratch_reads(n: u8) -> u8
     ensures { result ≡ n }
 {
