@@ -18,7 +18,7 @@ module _ {A B : Type 0} (m : ℕ) (R : Phrase A) (f : A → B) where
   abbrev pub AllAlike : List A → List A → Type 0
   AllAlike vs ws = map f ws ≡ map f vs
 
-  pub reads_none : Reads Stops (many R) [] (AllAlike []) (Tame m m)
+  pub reads_none : {C : List ℕ → Type 0} → Reads C (many R) [] (AllAlike []) (Tame m m)
   reads_none = record {
     found = λ at rest c. record { pieces = []; spelled = refl; stands = tt; value = []; right = refl; phrase = λ b. refl; tokens = tame_none m }
   }
@@ -27,8 +27,8 @@ module _ {A B : Type 0} (m : ℕ) (R : Phrase A) (f : A → B) where
   more_of w ts ws b = (ys : List A) × many R ts ys b × (ws ≡ w ∷ ys)
 
   -- one part before others
-  pub reads_one_more : (v : A) (vs : List A) (t u : List ℕ) → ((rest : List ℕ) → Stops rest → Stops (u ++ rest))
-      → Reads Stops R t (Alike v) (Tame m m) → Reads Stops (many R) u (AllAlike vs) (Tame m m) → Reads Stops (many R) (t ++ u) (AllAlike (v ∷ vs)) (Tame m m)
+  pub reads_one_more : {C D : List ℕ → Type 0} (v : A) (vs : List A) (t u : List ℕ) → ((rest : List ℕ) → D rest → C (u ++ rest))
+      → Reads C R t (Alike v) (Tame m m) → Reads D (many R) u (AllAlike vs) (Tame m m) → Reads D (many R) (t ++ u) (AllAlike (v ∷ vs)) (Tame m m)
   reads_one_more v vs t u stops first others =
       reads_as (λ (ws : List A). ws) (λ ws h. h) (λ a ws b h. subst (λ (xs : List A). many R a xs b) (sym h.3.2) (h.1, h.2, h.3.1))
         (reads_then {R = R} {S = more_of} {Q = AllAlike (v ∷ vs)} stops tame_join first λ w p.

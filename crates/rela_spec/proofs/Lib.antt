@@ -23,3 +23,4 @@ pub mod MemberTexts
 pub mod PathsBack
 pub mod PredicatesBack
 pub mod SpecsBack
+pub mod ItemsBack

@@ -28,10 +28,10 @@ use Rattle.rela_spec.proofs.TextPieces.{Tame, tame_token, tame_none, tame_join, 
 use Rattle.rela_spec.proofs.TokenTexts.{Whatever, IsNameOf, reads_mark, reads_word, reads_name}
 
 -- a word, and what stands behind it and a blank
-pub reads_word_then : {A : Type 0} {S : Phrase A} {u : List ℕ} {Q : A → Type 0} {m : ℕ} (w : List ℕ) → IsName w → is_lone_mark w ≡ false → Reads Stops S u Q (Tame m m)
-    → Reads Stops (word w >> S) (w ++ (32 ∷ u)) Q (Tame m m)
-reads_word_then {S = S} {u = u} {Q = Q} {m = m} w is alone h =
-    reads_then {C = Stops} {D = Stops} {R = word w} {S = λ _. S} {t = w} {u = 32 ∷ u} {P = Whatever} {Q = Q} (λ rest c. refl) tame_join (reads_word {m = m} w is alone) λ _ _. reads_behind_blank h
+pub reads_word_then : {A : Type 0} {D : List ℕ → Type 0} {S : Phrase A} {u : List ℕ} {Q : A → Type 0} {m : ℕ} (w : List ℕ) → IsName w → is_lone_mark w ≡ false → Reads D S u Q (Tame m m)
+    → Reads D (word w >> S) (w ++ (32 ∷ u)) Q (Tame m m)
+reads_word_then {D = D} {S = S} {u = u} {Q = Q} {m = m} w is alone h =
+    reads_then {C = Stops} {D = D} {R = word w} {S = λ _. S} {t = w} {u = 32 ∷ u} {P = Whatever} {Q = Q} (λ rest c. refl) tame_join (reads_word {m = m} w is alone) λ _ _. reads_behind_blank h
 
 -- what stands in parentheses, where so many more brackets may be opened
 abbrev pub inside : ℕ → Phrase Predicate
@@ -100,7 +100,7 @@ kept_test : (m : ℕ) (t : List ℕ) (p : Predicate) → printed_predicate p ≡
 unfolding single
 kept_test m t p is reads = make m 0 4 t p is (omega arith) (omega arith) λ n le. reads_as (λ (w : Predicate). w) (λ w e. e) (λ a w b h. inr h) (reads n)
 
-kept_all : (m : ℕ) → KeptPredicate 0 m V.All
+pub kept_all : (m : ℕ) → KeptPredicate 0 m V.All
 unfolding test
 kept_all m = kept_test m (codes "all") V.All predicate_all λ n. reads_as (λ _. V.All) (λ _ _. refl) (λ a v b h. inl (tt, b, h, (refl, refl))) (reads_word {m = n} (codes "all") refl refl)
 

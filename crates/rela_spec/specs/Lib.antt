@@ -12,6 +12,7 @@ pub mod Phrases
 pub mod PredicateTexts
 pub mod Print
 pub mod Printed
+pub mod ReadBack
 pub mod ReadPaths
 pub mod ReadWords
 pub mod Readings
