@@ -1,3 +1,4 @@
+pub mod Depth
 pub mod Grammar
 pub mod GrammarPaths
 pub mod GrammarPredicates
@@ -12,7 +13,10 @@ pub mod Phrases
 pub mod PredicateTexts
 pub mod Print
 pub mod Printed
+pub mod ReadFile
 pub mod ReadPaths
+pub mod ReadPredicates
+pub mod ReadSpecs
 pub mod ReadWords
 pub mod Readings
 pub mod SpecTexts

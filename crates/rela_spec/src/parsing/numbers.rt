@@ -1,6 +1,7 @@
 //! How often a path is repeated.
 
-ghost use Rattle.std.specs.Prelude.{◌≡◌, true, if◌then◌else◌, Some, None};
+ghost use Rattle.std.specs.Prelude.{◌≡◌, ◌<◌, true, if◌then◌else◌, Some, None};
+ghost use Rattle.std.specs.Char.{is_ascii_digit, digit_value};
 ghost use Rattle.std.specs.Str.Parse.{digits_value};
 ghost use Rattle.rela_spec.specs.GrammarWords.{is_number, is_good_number, number_of};
 
@@ -42,10 +43,21 @@ fn good_number(word: &[u8]) -> Option<u32>
     }
     let mut value: u32 = 0;
     for byte in word {
-        value = value * 10 + u32::from(*byte - b'0');
+        value = value * 10 + digit(*byte);
         if value > MAX_TIMES {
             return None;
         }
     }
     Some(value)
+}
+
+/// The value of a digit.
+fn digit(byte: u8) -> u32
+    ensures low { result < 10 }
+    ensures value { is_ascii_digit byte ≡ true → result ≡ digit_value byte }
+{
+    match byte {
+        b'0'..=b'9' => u32::from(byte - b'0'),
+        _ => 0,
+    }
 }
