@@ -1,6 +1,7 @@
 pub mod Choose
 pub mod Depths
 pub mod Exact
+pub mod ExactPaths
 pub mod ExactWords
 pub mod JoinedTexts
 pub mod Leading
