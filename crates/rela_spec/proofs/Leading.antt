@@ -133,3 +133,6 @@ led_chain {A} {between} {R} {f} {first_goes_on} {least} {room} {level} {end} {ne
   begins = λ d a v b h. first.begins d a h.0 h.1 h.2;
 }
 
+-- one part is a chain
+pub chain_one : {A : Type 0} (join : List A → A) (between : Phrase ⊤) (part : Phrase A) (a : List Token) (v : A) (b : List Token) → part a v b → chain join between part a v b
+chain_one join between part a v b h = (v, b, h, ([], b, refl, (refl, refl)))

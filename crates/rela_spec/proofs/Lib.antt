@@ -2,6 +2,9 @@ pub mod Choose
 pub mod Depths
 pub mod Exact
 pub mod ExactPaths
+pub mod ExactPredicates
+pub mod ExactPrefixes
+pub mod ExactSpecs
 pub mod ExactWords
 pub mod JoinedTexts
 pub mod Leading

@@ -11,6 +11,7 @@ pub mod Names
 pub mod PathTexts
 pub mod Phrases
 pub mod PredicateTexts
+pub mod PrefixDecisions
 pub mod Print
 pub mod Printed
 pub mod ReadFile

@@ -323,7 +323,6 @@ fn prefix_in(kind: &TokenKind) -> Option<Prefix>
 }
 
 /// The prefix that the word writes.
-#[tactic(auto, using(crate::proofs::PrefixReadings::prefix_read))]
 fn prefix_of(word: &[u8]) -> Option<Prefix>
     ensures { result ≡ prefix_of word.now }
 {
