@@ -30,10 +30,10 @@ use Rattle.rela_spec.proofs.Leading.{Leading, widen, behind_mark, led_mark, led_
 module _ (end : ℕ) where
 
   -- the path expression behind a bracket
-  inside_path : (inner room : ℕ) → room ≡ suc inner → Exact (λ d. path d) path_goes_on 0 inner inner inner end (read_path end (room - 1))
+  inside_path : (inner room : ℕ) → room ≡ suc inner → Exact (λ d. path d) (path_goes_on end) 0 inner inner inner end (read_path end (room - 1))
   inside_path inner room e =
       let same : inner ≡ room - 1 = omega arith in
-      subst (λ (n : ℕ). Exact (λ d. path d) path_goes_on 0 inner inner inner end (read_path end n)) same (led_path end inner).exact
+      subst (λ (n : ℕ). Exact (λ d. path d) (path_goes_on end) 0 inner inner inner end (read_path end n)) same (led_path end inner).exact
 
   argument_inside : (inner room : ℕ) → room ≡ suc inner
       → Exact (λ d. path d >>= λ e. mark 41 >> done e) nothing 0 inner inner room end (λ ts. and_read (read_path end (room - 1) ts) (λ e ts. and_read (read_mark end 41 ts) (λ _. read_done e)))
@@ -55,11 +55,11 @@ module _ (end : ℕ) where
       (λ ts. and_read (read_path end (room - 1) ts) (λ old ts. and_read (read_mark end 44 ts) (λ _ ts. and_read (read_path end (room - 1) ts) (λ new ts. and_read (read_mark end 41 ts) (λ _. read_done (modifier.Replace old new))))))
   unfolding starts_path starts_member is_keyword is_item_word is_member_word is_modifier_word is_joining_word is_predicate_word
   replacement_inside inner room e =
-      exact_then (λ d. path d) (λ old d. mark 44 >> (path d >>= λ new. mark 41 >> done (modifier.Replace old new))) path_goes_on nothing 0 inner inner inner room end (read_path end (room - 1))
+      exact_then (λ d. path d) (λ old d. mark 44 >> (path d >>= λ new. mark 41 >> done (modifier.Replace old new))) (path_goes_on end) nothing 0 inner inner inner room end (read_path end (room - 1))
       (λ old ts. and_read (read_mark end 44 ts) (λ _ ts. and_read (read_path end (room - 1) ts) (λ new ts. and_read (read_mark end 41 ts) (λ _. read_done (modifier.Replace old new))))) (omega arith)
       (inside_path inner room e) (replaced_by inner room e)
-      (follows_begins (λ old d. mark 44 >> (path d >>= λ new. mark 41 >> done (modifier.Replace old new))) (is_mark_of 44) path_goes_on nothing
-        (λ old. begins_then (λ d. mark 44) (λ _ d. path d >>= λ new. mark 41 >> done (modifier.Replace old new)) (is_mark_of 44) (begins_mark 44)) (apart_mark 44 path_goes_on refl))
+      (follows_begins (λ old d. mark 44 >> (path d >>= λ new. mark 41 >> done (modifier.Replace old new))) (is_mark_of 44) (path_goes_on end) nothing
+        (λ old. begins_then (λ d. mark 44) (λ _ d. path d >>= λ new. mark 41 >> done (modifier.Replace old new)) (is_mark_of 44) (begins_mark 44)) (apart_mark 44 (path_goes_on end) refl))
 
   pub led_replacement : (room : ℕ) → Leading (λ d. replacement d) (is_mark_of 40) nothing 1 room room room end (read_replacement end room)
   unfolding replacement read_replacement
@@ -106,10 +106,10 @@ module _ (end : ℕ) where
       (λ ts. and_read (read_path end (room - 1) ts) (λ zone ts. and_read (read_mark end 58 ts) (λ _ ts. and_read (read_change end (room - 1) ts) (λ m ts. and_read (read_mark end 125 ts) (λ _. read_done (spec.Unit zone m))))))
   unfolding starts_path starts_member is_keyword is_item_word is_member_word is_modifier_word is_joining_word is_predicate_word
   unit_inside inner room e =
-      exact_then (λ d. path d) changes path_goes_on nothing 0 inner inner inner room end (read_path end (room - 1))
+      exact_then (λ d. path d) changes (path_goes_on end) nothing 0 inner inner inner room end (read_path end (room - 1))
       (λ zone ts. and_read (read_mark end 58 ts) (λ _ ts. and_read (read_change end (room - 1) ts) (λ m ts. and_read (read_mark end 125 ts) (λ _. read_done (spec.Unit zone m))))) (omega arith)
       (inside_path inner room e) (read_changes inner room e)
-      (follows_begins changes (is_mark_of 58) path_goes_on nothing (λ zone. begins_then (λ d. mark 58) (λ _ d. change d >>= λ m. mark 125 >> done (spec.Unit zone m)) (is_mark_of 58) (begins_mark 58)) (apart_mark 58 path_goes_on refl))
+      (follows_begins changes (is_mark_of 58) (path_goes_on end) nothing (λ zone. begins_then (λ d. mark 58) (λ _ d. change d >>= λ m. mark 125 >> done (spec.Unit zone m)) (is_mark_of 58) (begins_mark 58)) (apart_mark 58 (path_goes_on end) refl))
 
   pub led_unit : (room : ℕ) → Leading (λ d. unit d) (is_mark_of 123) nothing 1 room room room end (read_unit end room)
   unfolding unit read_unit

@@ -1,6 +1,7 @@
 pub mod Choose
 pub mod Depths
 pub mod Exact
+pub mod ExactFile
 pub mod ExactPaths
 pub mod ExactPredicates
 pub mod ExactPrefixes
@@ -21,3 +22,4 @@ pub mod PrintedPredicates
 pub mod PrintedSpecs
 pub mod SpecReadings
 pub mod Then
+pub mod Verdicts

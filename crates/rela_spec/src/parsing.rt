@@ -1,8 +1,10 @@
 //! The tree that a list of tokens spells.
 
-ghost use Rattle.std.specs.Prelude.{◌≡◌, ◌≢◌, ◌≤◌, Ok, Err, [], length, IfOk, IfErr, OnOk};
+ghost use Rattle.std.specs.Prelude.{◌≡◌, ◌≢◌, ◌⊎◌, ℕ, Ok, Err, [], IfOk, IfErr, OnOk, MatchResult};
 ghost use Rattle.std.specs.List.{All};
-ghost use Rattle.rela_lex.specs.declared.error.SpecError.TheVariants.{Memory};
+ghost use Rattle.rela_lex.specs.declared.error.SpecError.TheVariants.{Syntax, TooDeep, BadNumber, Memory};
+ghost use Rattle.rela_spec.specs.declared.tree.SpecFile.{SpecFile};
+ghost use Rattle.rela_spec.specs.Grammar.{Spells, IsSyntax, IsTooDeep, IsBadNumber, IsFault};
 ghost use Rattle.rela_spec.specs.Depth.{IsLow};
 ghost use Rattle.rela_spec.specs.ReadFile.{read_items, read_file};
 
@@ -17,6 +19,7 @@ mod specs;
 use crate::tree::{Item, SpecFile};
 use cursor::Cursor;
 use items::{item, level_line};
+use numbers::bad_number;
 use rela_lex::{SpecError, Token};
 use rela_names::List;
 use std::alloc::Global;
@@ -32,9 +35,31 @@ const MAX_OPEN_BRACKETS: usize = 100;
 /// with it, or at `end` where the tokens only begin such a text; `TooDeep` at the first bracket
 /// after which more than 100 are open. Of the two the one that comes first. Where neither comes,
 /// `BadNumber` at the first number that is above 64 or has a leading zero and is not `0`. `Memory`.
-pub fn parse(alloc: Global, tokens: &[Token], end: u32) -> Result<SpecFile, SpecError> {
-    let file = file(alloc, tokens, end)?;
-    Ok(file)
+pub fn parse(alloc: Global, tokens: &[Token], end: u32) -> Result<SpecFile, SpecError>
+    // What is read is spelled so, and what is refused has its fault there.
+    ensures tree { IfOk result (λ file. Spells tokens.now file) }
+    ensures fault { IfErr result (λ e. IsFault tokens.now end e) }
+
+    // What is spelled is read, and what has a fault is refused there, unless memory runs out.
+    ensures spelled { (tree : SpecFile) → Spells tokens.now tree
+        → MatchResult result (λ file. file ≡ tree) (λ e. e ≡ Memory) }
+    ensures syntax { (at : ℕ) → IsSyntax tokens.now end at
+        → MatchResult result (λ _. ⊥) (λ e. (e ≡ Syntax at) ⊎ (e ≡ Memory)) }
+    ensures too_deep { (at : ℕ) → IsTooDeep tokens.now at
+        → MatchResult result (λ _. ⊥) (λ e. (e ≡ TooDeep at) ⊎ (e ≡ Memory)) }
+    ensures bad_number { (at : ℕ) → IsBadNumber tokens.now at
+        → MatchResult result (λ _. ⊥) (λ e. (e ≡ BadNumber at) ⊎ (e ≡ Memory)) }
+
+    // No predicate is deeper than 1,000.
+    ensures low { IfOk result (λ file. All IsLow file.items) }
+{
+    match file(alloc, tokens, end) {
+        Err(refused) => Err(refused),
+        Ok(file) => match bad_number(tokens) {
+            Some(at) => Err(SpecError::BadNumber { at }),
+            None => Ok(file),
+        },
+    }
 }
 
 /// The tree of the tokens, in which each bad number counts as 0.

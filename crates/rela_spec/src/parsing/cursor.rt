@@ -267,7 +267,8 @@ impl<'a> Cursor<'a> {
     }
 }
 
-fn is_mark(kind: &TokenKind, mark: u8) -> bool
+/// Whether the token is this mark.
+pub(crate) fn is_mark(kind: &TokenKind, mark: u8) -> bool
     ensures { result ≡ is_mark_of mark kind.now }
 {
     match kind {

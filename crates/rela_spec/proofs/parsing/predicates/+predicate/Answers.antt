@@ -1,9 +1,10 @@
 use Rattle.std.proofs.Common.{rules, arith, ◌≡◌, ◌≢◌, ◌+◌, ◌*◌, ◌≤◌, ℕ, Ok, Err, true, false, List, [], ◌∷◌, ◌++◌, length, refl, sym, ap, ◌∙◌, subst}
 use Rattle.rela_lex.specs.declared.error.SpecError.TheVariants.{Memory}
-use Rattle.rela_spec.specs.ReadPredicates.{between, next_at, chain_at, more_at}
+use Rattle.rela_spec.specs.ReadPredicates.{between, next_at, chain_at, more_at, within}
 use Rattle.rela_spec.specs.ReadWords.{is_word_of}
 use Rattle.rela_spec.specs.Readings.{next_is}
 use Rattle.rela_flows.specs.declared.predicate.Predicate.{Predicate}
+use Rattle.rela_spec.proofs.Depths.{greatest_push}
 use Rattle.rela_spec.proofs.Loops.{gathers_start, loop_more, loop_fault}
 use Rattle.rela_spec.proofs.PredicateReadings.{alone_at, first_fault_at, more_fault_at, joined_at}
 use Rattle.rela_spec.proofs.parsing.predicates.+predicate.Goals as goal
@@ -47,5 +48,5 @@ more_parts-loop-alloc-preserved t c =
       left = omega (arith, c.in_ok-next_part.ensures.less);
       read = loop_more (is_word_of (between c.args.joint)) (λ n. next_at c.args.joint n c.args.room) c.args.cursor.now.end c.loop-alloc.cursor.end c.loop-alloc.invariant.end c.args.parts.now.items c.args.cursor.now.rest.now c.loop-alloc.parts.items
       c.loop-alloc.cursor.rest.now c.loop-alloc.invariant.read c.in_ok-next_part.field-0 c.push.new.self.items c.next_part.new.cursor.rest.now next c.in_ok-next_part.ensures.read c.in_ok-next_part.ensures.less c.in_ok-push.ensures.items;
-      shallow = ?;
+      shallow = greatest_push c.loop-alloc.parts.items c.in_ok-next_part.field-0 c.push.new.self.items (3 * c.args.room + within c.args.joint) c.in_ok-push.ensures.items c.loop-alloc.invariant.shallow c.in_ok-next_part.ensures.depth;
     }
