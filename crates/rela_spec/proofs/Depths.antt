@@ -41,3 +41,6 @@ depth_or ps = ap depth (sym (V.rolls-Or ps)) ∙ fold-roll-Predicate ℕ layer_d
 pub greatest_append : (parts : List Predicate) (part : Predicate) → greatest (map depth (parts ++ part ∷ [])) ≡ max (greatest (map depth parts)) (depth part)
 greatest_append [] part = omega arith
 greatest_append (first ∷ parts) part = omega (arith, greatest_append parts part)
+
+pub greatest_push : (parts : List Predicate) (part : Predicate) (pushed : List Predicate) (n : ℕ) → pushed ≡ parts ++ part ∷ [] → greatest (map depth parts) ≤ n → depth part ≤ n → greatest (map depth pushed) ≤ n
+greatest_push parts part pushed n items all last = omega (arith, greatest_append parts part, ap (λ (x : List Predicate). greatest (map depth x)) items)

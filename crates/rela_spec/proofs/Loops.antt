@@ -107,7 +107,7 @@ module _ {A : Type 0} (passes : TokenKind → Bool) (p : Reading A) where
       where
         fault : (found : Result (List A × List Token) SpecError) → and_read found (λ vs. read_done ((first ∷ []) ++ vs)) ≡ Err e → and_read found (λ others. read_done (joined_parts join first others)) ≡ Err e
         fault (Ok found) h = absurd (let clash = h in cc)
-        fault (Err f) h = h
+        fault (Err f) h = let same : f ≡ e = cc in ap Err same
 
     -- more is read where the next token passes
     not_none : (n : ℕ) (rest : List Token) (now : List Token) → next_is passes rest ≡ true → read_many passes p n rest ≡ Ok ([], now) → ⊥
@@ -115,7 +115,10 @@ module _ {A : Type 0} (passes : TokenKind → Bool) (p : Reading A) where
     not_none (suc n) rest now next e = some (p rest) (sym (one_more n rest next) ∙ e)
       where
         behind : (v : A) (found : Result (List A × List Token) SpecError) → and_read found (λ vs. read_done (v ∷ vs)) ≡ Ok ([], now) → ⊥
-        behind v (Ok found) h = absurd (let clash = h in cc)
+        behind v (Ok found) h =
+            let both : ◌≡◌ {A = List A × List Token} (v ∷ found.0, found.1) ([], now) = cc in
+            let clash : v ∷ found.0 ≡ [] = ap (λ (x : List A × List Token). x.0) both in
+            absurd (let apart = clash in cc)
         behind v (Err f) h = absurd (let clash = h in cc)
         some : (found : Result (A × List Token) SpecError) → and_read found (λ v ts. and_read (read_many passes p n ts) (λ vs. read_done (v ∷ vs))) ≡ Ok ([], now) → ⊥
         some (Ok found) h = behind found.0 (read_many passes p n found.1) h
@@ -132,3 +135,16 @@ module _ {A : Type 0} (passes : TokenKind → Bool) (p : Reading A) where
     unfolding chain_of read_all
     chain_joined tokens first rest parts now read next more =
         ap chain_of read ∙ joined_all first parts now (read_many passes p (length rest) rest) (λ b e. not_none (length rest) rest b next e) more
+
+-- The same for a loop whose reading takes the end of the text, which the loop keeps.
+module _ {A : Type 0} (passes : TokenKind → Bool) (p : ℕ → Reading A) (end now_end : ℕ) (kept : now_end ≡ end) (before : List A) (tokens : List Token) (so_far : List A) (rest : List Token)
+    (g : Gathers passes (p end) before tokens so_far rest) where
+
+  pub loop_more : (v : A) (pushed : List A) (now : List Token) → next_is passes rest ≡ true → p now_end rest ≡ Ok (v, now) → length now < length rest → pushed ≡ so_far ++ v ∷ []
+      → Gathers passes (p end) before tokens pushed now
+  loop_more v pushed now next read less items =
+      subst (λ (x : List A). Gathers passes (p end) before tokens x now) (sym items)
+      (gathers_more passes (p end) before tokens so_far rest v now g next (ap (λ (n : ℕ). p n rest) (sym kept) ∙ read) less)
+
+  pub loop_fault : (e : SpecError) → next_is passes rest ≡ true → p now_end rest ≡ Err e → read_onto before (read_all passes (p end)) tokens ≡ Err e
+  loop_fault e next read = gathers_fault passes (p end) before tokens so_far rest e g next (ap (λ (n : ℕ). p n rest) (sym kept) ∙ read)

@@ -46,7 +46,7 @@ number_of w = if is_good_number w then digits_value 10 w else 0
 
 -- a bare word of digits
 abbrev pub number : Phrase ℕ
-number = token λ t n. (w : List ℕ) × (t.kind ≡ Bare w) × IsTrue (is_number w) × (n ≡ number_of w)
+number = token λ t n. (w : List ℕ) × (t.kind ≡ Bare w) × (is_number w ≡ true) × (n ≡ number_of w)
 
 -- a bare word that writes a prefix
 abbrev pub prefix : Phrase Prefix

@@ -1,3 +1,4 @@
+pub mod Depth
 pub mod Grammar
 pub mod GrammarPaths
 pub mod GrammarPredicates
@@ -10,10 +11,14 @@ pub mod Names
 pub mod PathTexts
 pub mod Phrases
 pub mod PredicateTexts
+pub mod PrefixDecisions
 pub mod Print
 pub mod Printed
 pub mod ReadBack
+pub mod ReadFile
 pub mod ReadPaths
+pub mod ReadPredicates
+pub mod ReadSpecs
 pub mod ReadWords
 pub mod Readings
 pub mod SameTree

@@ -6,6 +6,7 @@ use Rattle.rela_lex.specs.declared.token.Token.{Token}
 use Rattle.rela_lex.specs.declared.token.TokenKind.{TokenKind}
 use Rattle.rela_lex.specs.declared.token.TokenKind.TheVariants.{Mark, Bare, Quoted, Reference}
 use Rattle.rela_flows.specs.declared.prefix.Prefix.{Prefix}
+use Rattle.rela_spec.specs.PrefixDecisions.{prefix_held}
 use Rattle.rela_spec.specs.Grammar.{is_mark_of}
 use Rattle.rela_spec.specs.GrammarWords.{Named, is_number, number_of}
 use Rattle.rela_spec.specs.Keywords.{is_keyword}
@@ -51,7 +52,7 @@ number_in _ = None
 
 -- the prefix that a word writes
 unfoldable pub prefix_of : List ℕ → Option Prefix
-prefix_of w = None
+prefix_of w = (prefix_held w).found
 
 abbrev pub prefix_in : TokenKind → Option Prefix
 prefix_in (Bare w) = prefix_of w

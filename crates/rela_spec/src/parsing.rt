@@ -1,9 +1,15 @@
 //! The tree that a list of tokens spells.
 
-ghost use Rattle.std.specs.Prelude.{◌<◌, ◌≤◌, length, IfOk, OnOk};
-ghost use Rattle.rela_flows.specs.Selects.{depth};
+ghost use Rattle.std.specs.Prelude.{◌≡◌, ◌≢◌, ◌⊎◌, ℕ, Ok, Err, [], IfOk, IfErr, OnOk, MatchResult};
+ghost use Rattle.std.specs.List.{All};
+ghost use Rattle.rela_lex.specs.declared.error.SpecError.TheVariants.{Syntax, TooDeep, BadNumber, Memory};
+ghost use Rattle.rela_spec.specs.declared.tree.SpecFile.{SpecFile};
+ghost use Rattle.rela_spec.specs.Grammar.{Spells, IsSyntax, IsTooDeep, IsBadNumber, IsFault};
+ghost use Rattle.rela_spec.specs.Depth.{IsLow};
+ghost use Rattle.rela_spec.specs.ReadFile.{read_items, read_file};
 
 mod cursor;
+mod items;
 mod members;
 mod numbers;
 mod paths;
@@ -12,9 +18,10 @@ mod specs;
 
 use crate::tree::{Item, SpecFile};
 use cursor::Cursor;
-use rela_flows::Predicate;
+use items::{item, level_line};
+use numbers::bad_number;
 use rela_lex::{SpecError, Token};
-use rela_names::{Level, List};
+use rela_names::List;
 use std::alloc::Global;
 
 /// The greatest number of brackets that may be open at once.
@@ -28,108 +35,61 @@ const MAX_OPEN_BRACKETS: usize = 100;
 /// with it, or at `end` where the tokens only begin such a text; `TooDeep` at the first bracket
 /// after which more than 100 are open. Of the two the one that comes first. Where neither comes,
 /// `BadNumber` at the first number that is above 64 or has a leading zero and is not `0`. `Memory`.
-pub fn parse(alloc: Global, tokens: &[Token], end: u32) -> Result<SpecFile, SpecError> {
+pub fn parse(alloc: Global, tokens: &[Token], end: u32) -> Result<SpecFile, SpecError>
+    // What is read is spelled so, and what is refused has its fault there.
+    ensures tree { IfOk result (λ file. Spells tokens.now file) }
+    ensures fault { IfErr result (λ e. IsFault tokens.now end e) }
+
+    // What is spelled is read, and what has a fault is refused there, unless memory runs out.
+    ensures spelled { (tree : SpecFile) → Spells tokens.now tree
+        → MatchResult result (λ file. file ≡ tree) (λ e. e ≡ Memory) }
+    ensures syntax { (at : ℕ) → IsSyntax tokens.now end at
+        → MatchResult result (λ _. ⊥) (λ e. (e ≡ Syntax at) ⊎ (e ≡ Memory)) }
+    ensures too_deep { (at : ℕ) → IsTooDeep tokens.now at
+        → MatchResult result (λ _. ⊥) (λ e. (e ≡ TooDeep at) ⊎ (e ≡ Memory)) }
+    ensures bad_number { (at : ℕ) → IsBadNumber tokens.now at
+        → MatchResult result (λ _. ⊥) (λ e. (e ≡ BadNumber at) ⊎ (e ≡ Memory)) }
+
+    // No predicate is deeper than 1,000.
+    ensures low { IfOk result (λ file. All IsLow file.items) }
+{
+    match file(alloc, tokens, end) {
+        Err(refused) => Err(refused),
+        Ok(file) => match bad_number(tokens) {
+            Some(at) => Err(SpecError::BadNumber { at }),
+            None => Ok(file),
+        },
+    }
+}
+
+/// The tree of the tokens, in which each bad number counts as 0.
+#[tactic(auto, unfolding(crate::specs::ReadFile::read_file))]
+fn file(alloc: Global, tokens: &[Token], end: u32) -> Result<SpecFile, SpecError>
+    ensures read { IfOk result (λ file. read_file end 100 tokens.now ≡ Ok (file, [])) }
+    ensures fault { IfErr result (λ e. e ≢ Memory → read_file end 100 tokens.now ≡ Err e) }
+    ensures low { IfOk result (λ file. All IsLow file.items) }
+{
     let mut cursor = Cursor::new(tokens, end);
     let level = level_line(&mut cursor)?;
-    let mut items = Vec::new(alloc);
-    while cursor.has_next() {
-        items.push(item(alloc, &mut cursor)?)?;
-    }
+    let items = all_items(alloc, &mut cursor)?;
     Ok(SpecFile {
         level,
         items: List::from_vec(items),
     })
 }
 
-/// The level that the text begins with, or interface.
-fn level_line(cursor: &mut Cursor) -> Result<Level, SpecError> {
-    if !cursor.take_word(b"level") {
-        return Ok(Level::Interface);
-    }
-    let level = level_word(cursor)?;
-    cursor.mark(b';')?;
-    Ok(level)
-}
-
-fn level_word(cursor: &mut Cursor) -> Result<Level, SpecError>
-    ensures { OnOk result (length cursor.new.rest.now < length cursor.old.rest.now) }
+/// The items that are left.
+#[tactic(auto, unfolding(crate::specs::ReadFile::read_items))]
+fn all_items(alloc: Global, cursor: &mut Cursor) -> Result<Vec<Item>, SpecError>
+    ensures end { cursor.new.end ≡ cursor.old.end }
+    ensures all { OnOk result (cursor.new.rest.now ≡ []) }
+    ensures read { IfOk result (λ items. read_items cursor.old.end 100 cursor.old.rest.now ≡ Ok (items.items, cursor.new.rest.now)) }
+    ensures fault { IfErr result (λ e. e ≢ Memory → read_items cursor.old.end 100 cursor.old.rest.now ≡ Err e) }
+    ensures low { IfOk result (λ items. All IsLow items.items) }
 {
-    if cursor.take_word(b"interface") {
-        return Ok(Level::Interface);
+    let mut items = Vec::new(alloc);
+    while cursor.has_next() {
+        items.push(item(alloc, cursor, MAX_OPEN_BRACKETS)?)?;
     }
-    if cursor.take_word(b"device") {
-        return Ok(Level::Device);
-    }
-    cursor.word(b"group")?;
-    Ok(Level::Group)
-}
-
-fn item(alloc: Global, cursor: &mut Cursor) -> Result<Item, SpecError>
-    ensures { OnOk result (length cursor.new.rest.now < length cursor.old.rest.now) }
-{
-    if cursor.take_word(b"path") {
-        return path_item(alloc, cursor);
-    }
-    if cursor.take_word(b"spec") {
-        return spec_item(alloc, cursor);
-    }
-    cursor.word(b"check")?;
-    check_item(alloc, cursor)
-}
-
-/// A definition of paths, behind its first word.
-fn path_item(alloc: Global, cursor: &mut Cursor) -> Result<Item, SpecError>
-    ensures { OnOk result (length cursor.new.rest.now < length cursor.old.rest.now) }
-{
-    let at = cursor.here();
-    let name = cursor.name(alloc)?;
-    cursor.mark(b'=')?;
-    let body = paths::path(alloc, cursor, MAX_OPEN_BRACKETS)?;
-    cursor.mark(b';')?;
-    Ok(Item::Path { name, at, body })
-}
-
-/// A definition of a specification, behind its first word.
-fn spec_item(alloc: Global, cursor: &mut Cursor) -> Result<Item, SpecError>
-    ensures { OnOk result (length cursor.new.rest.now < length cursor.old.rest.now) }
-{
-    let at = cursor.here();
-    let name = cursor.name(alloc)?;
-    cursor.mark(b'=')?;
-    let body = specs::alternatives(alloc, cursor, MAX_OPEN_BRACKETS)?;
-    cursor.mark(b';')?;
-    Ok(Item::Spec { name, at, body })
-}
-
-/// A check, behind its first word.
-fn check_item(alloc: Global, cursor: &mut Cursor) -> Result<Item, SpecError>
-    ensures { OnOk result (length cursor.new.rest.now < length cursor.old.rest.now) }
-{
-    let at_most = cursor.take_word(b"atmost");
-    let at = cursor.here();
-    let name = cursor.name(alloc)?;
-    let when = condition(alloc, cursor)?;
-    cursor.mark(b':')?;
-    let body = specs::alternatives(alloc, cursor, MAX_OPEN_BRACKETS)?;
-    cursor.mark(b';')?;
-    Ok(Item::Check {
-        at_most,
-        name,
-        at,
-        when,
-        body,
-    })
-}
-
-/// The flows that a check is for: all where it doesn't say.
-#[tactic(auto, using(crate::proofs::Depths::depth_all))]
-fn condition(alloc: Global, cursor: &mut Cursor) -> Result<Predicate, SpecError>
-    ensures left { OnOk result (length cursor.new.rest.now ≤ length cursor.old.rest.now) }
-    ensures depth { IfOk result (λ when. depth when ≤ 1000) }
-{
-    if cursor.take_word(b"for") {
-        predicates::any_of(alloc, cursor, MAX_OPEN_BRACKETS)
-    } else {
-        Ok(Predicate::All)
-    }
+    Ok(items)
 }

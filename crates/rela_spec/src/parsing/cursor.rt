@@ -267,7 +267,8 @@ impl<'a> Cursor<'a> {
     }
 }
 
-fn is_mark(kind: &TokenKind, mark: u8) -> bool
+/// Whether the token is this mark.
+pub(crate) fn is_mark(kind: &TokenKind, mark: u8) -> bool
     ensures { result ≡ is_mark_of mark kind.now }
 {
     match kind {
@@ -323,7 +324,6 @@ fn prefix_in(kind: &TokenKind) -> Option<Prefix>
 }
 
 /// The prefix that the word writes.
-#[tactic(auto, using(crate::proofs::PrefixReadings::prefix_read))]
 fn prefix_of(word: &[u8]) -> Option<Prefix>
     ensures { result ≡ prefix_of word.now }
 {
