@@ -35,3 +35,4 @@ pub mod PredicatesBack
 pub mod SpecsBack
 pub mod ItemsBack
 pub mod Verdicts
+pub mod PrefixNames

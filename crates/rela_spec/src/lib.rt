@@ -4,7 +4,6 @@
 mod parsing;
 mod printing;
 mod scratch;
-mod scratch_print;
 mod tree;
 mod words;
 
