@@ -36,3 +36,5 @@ pub mod SpecsBack
 pub mod ItemsBack
 pub mod Verdicts
 pub mod PrefixNames
+pub mod Decided
+pub mod PrintedReadsBack
