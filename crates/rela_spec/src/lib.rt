@@ -8,7 +8,7 @@ mod tree;
 mod words;
 
 pub use parsing::parse;
-pub use printing::print;
+pub use printing::{canonical_texts_are_read, print};
 pub use tree::{Item, Member, Modifier, PathExpr, SpecExpr, SpecFile};
 
 #[cfg(test)]

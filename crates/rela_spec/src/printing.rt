@@ -4,6 +4,8 @@ ghost use Rattle.std.specs.Prelude.{◌≡◌, ◌++◌, codes, IfOk, OnOk};
 ghost use Rattle.rela_spec.specs.Names.{name_text};
 ghost use Rattle.rela_spec.specs.PredicateTexts.{condition_text};
 ghost use Rattle.rela_spec.specs.Print.{level_line, check_words, item_line, print_of};
+ghost use Rattle.rela_spec.specs.ReadBack.{IsOfText, ReadsBack};
+ghost use Rattle.rela_spec.specs.declared.tree.SpecFile.{SpecFile};
 
 mod members;
 mod names;
@@ -18,9 +20,11 @@ use rela_flows::Predicate;
 use rela_names::{Level, Name};
 use std::alloc::{AllocError, Global};
 
-/// The canonical text of the tree: a line with the level, then a line for each item.
+/// The canonical text of the tree: a line with the level, then a line for each item. Where some text
+/// spells the tree, this one is read as the same tree, and as no other.
 pub fn print(alloc: Global, file: &SpecFile) -> Result<Vec<u8>, AllocError>
-    ensures { IfOk result (λ text. text.items ≡ print_of file.now) }
+    ensures canonical { IfOk result (λ text. text.items ≡ print_of file.now) }
+    ensures reads_back { IsOfText file.now → IfOk result (λ text. ReadsBack text.items file.now) }
 {
     let mut out = Vec::new(alloc);
     out.extend_from_slice(level_line(file.level))?;
@@ -29,6 +33,11 @@ pub fn print(alloc: Global, file: &SpecFile) -> Result<Vec<u8>, AllocError>
     }
     Ok(out)
 }
+
+/// The canonical text of a tree that some text spells is read as the same tree, and as no other.
+pub fn canonical_texts_are_read()
+    ensures { (file : SpecFile) → IsOfText file → ReadsBack (print_of file) file }
+{}
 
 fn level_line(level: Level) -> &'static [u8]
     ensures { result.now ≡ level_line level }
