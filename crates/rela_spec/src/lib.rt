@@ -3,7 +3,6 @@
 
 mod parsing;
 mod printing;
-mod scratch;
 mod tree;
 mod words;
 

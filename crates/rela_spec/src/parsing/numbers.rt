@@ -68,6 +68,7 @@ fn digit(byte: u8) -> u32
 
 /// Where the first bad number stands. In a text of the grammar a bare word of digits is a number
 /// exactly where it stands between `{` and `}`.
+#[tactic(auto, unfolding(crate::specs::Grammar::bad_number))]
 pub(crate) fn bad_number(tokens: &[Token]) -> Option<u32>
     ensures { result ≡ bad_number tokens.now }
 {
