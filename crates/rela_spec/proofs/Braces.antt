@@ -1,13 +1,10 @@
 -- Tokens between braces: no bad number stands alone in them.
-use Rattle.std.proofs.Common.{◌≡◌, ℕ, zero, suc, ◌+◌, ◌≤◌, Bool, true, false, ◌&&◌, ◌==◌, Option, None, Some, List, [], ◌∷◌, ◌++◌, refl, sym, ap, ◌∙◌, subst, inl, inr, arith, append_assoc}
-use Rattle.std.specs.Prelude.{⊤, if◌then◌else◌}
-use Rattle.std.specs.Option.{option_and_then}
+use Rattle.std.proofs.Common.{◌≡◌, ℕ, suc, ◌+◌, Bool, false, ◌&&◌, None, Some, List, [], ◌∷◌, ◌++◌, refl, sym, ap, ◌∙◌, subst, inl, inr, arith, append_assoc}
 use Rattle.rela_lex.specs.declared.token.Token.{Token}
-use Rattle.rela_lex.specs.declared.token.TokenKind.{TokenKind}
-use Rattle.rela_lex.specs.declared.token.TokenKind.TheVariants.{Mark, Bare, Quoted, Reference}
-use Rattle.rela_spec.specs.Grammar.{opens, closes, room_after, room_behind, is_mark_of, is_bad_number, bad_in_front, bad_number}
+use Rattle.rela_lex.specs.declared.token.TokenKind.TheVariants.{Mark}
+use Rattle.rela_spec.specs.Grammar.{room_after, room_behind, is_mark_of, is_bad_number, bad_in_front, bad_number}
 use Rattle.rela_spec.specs.GrammarWords.{mark}
-use Rattle.rela_spec.proofs.TextPieces.{closes_brace, is_bad_pair, Quiet, Loose, loose_join, loose_token, Tame, Reads, Free, Stops, reads_token, never_bad}
+use Rattle.rela_spec.proofs.TextPieces.{is_bad_pair, Quiet, Loose, loose_join, loose_token, Tame, Reads, Free, Stops, reads_token, never_bad}
 use Rattle.rela_spec.proofs.TokenTexts.{Whatever}
 
 -- an opening brace

@@ -1,16 +1,13 @@
 -- The texts of many parts, and of parts joined by what stands between them.
-use Rattle.std.proofs.Common.{◌≡◌, ℕ, zero, suc, ◌+◌, Bool, true, false, List, [], ◌∷◌, ◌++◌, map, refl, sym, ap, ◌∙◌, subst}
+use Rattle.std.proofs.Common.{◌≡◌, ℕ, List, [], ◌∷◌, ◌++◌, map, refl, sym, ap, ◌∙◌, subst}
 use Rattle.std.specs.Prelude.{⊤}
-use Rattle.rela_names.specs.Name.{is_name_byte}
-use Rattle.rela_lex.specs.declared.token.Token.{Token}
 use Rattle.rela_spec.specs.Joined.{behind, joined}
-use Rattle.rela_spec.specs.Phrases.{Phrase, token, done, many, chain, joined_parts, ◌>>=◌, ◌>>◌}
+use Rattle.rela_spec.specs.Phrases.{Phrase, done, many, chain, joined_parts, ◌>>=◌, ◌>>◌}
 use Rattle.rela_spec.proofs.JoinedTexts.{joined_first}
 use Rattle.rela_spec.proofs.Sources.{Each}
-use Rattle.rela_spec.proofs.TextPieces.{Tame, tame_none, tame_join, Reads, Found, Free, Stops, reads_then, reads_as}
+use Rattle.rela_spec.proofs.TextPieces.{Tame, tame_none, tame_join, Reads, Stops, reads_then, reads_as}
 
 module _ {A B : Type 0} (m : ℕ) (R : Phrase A) (f : A → B) where
-
   -- the value is that one but for what f leaves out
   abbrev pub Alike : A → A → Type 0
   Alike v w = f w ≡ f v
@@ -20,7 +17,7 @@ module _ {A B : Type 0} (m : ℕ) (R : Phrase A) (f : A → B) where
 
   pub reads_none : {C : List ℕ → Type 0} → Reads C (many R) [] (AllAlike []) (Tame m m)
   reads_none = record {
-    found = λ at rest c. record { pieces = []; spelled = refl; stands = tt; value = []; right = refl; phrase = λ b. refl; tokens = tame_none m }
+    found = λ at rest c. record { pieces = []; spelled = refl; stands = tt; value = []; right = refl; phrase = λ b. refl; tokens = tame_none m };
   }
 
   abbrev more_of : A → Phrase (List A)
@@ -31,8 +28,8 @@ module _ {A B : Type 0} (m : ℕ) (R : Phrase A) (f : A → B) where
       → Reads C R t (Alike v) (Tame m m) → Reads D (many R) u (AllAlike vs) (Tame m m) → Reads D (many R) (t ++ u) (AllAlike (v ∷ vs)) (Tame m m)
   reads_one_more v vs t u stops first others =
       reads_as (λ (ws : List A). ws) (λ ws h. h) (λ a ws b h. subst (λ (xs : List A). many R a xs b) (sym h.3.2) (h.1, h.2, h.3.1))
-        (reads_then {R = R} {S = more_of} {Q = AllAlike (v ∷ vs)} stops tame_join first λ w p.
-          reads_as (λ (ws : List A). w ∷ ws) (λ ws q. ap (λ (x : B). x ∷ map f ws) p ∙ ap (λ (xs : List B). f v ∷ xs) q) (λ a ws b h. (ws, h, refl)) others)
+      (reads_then {R = R} {S = more_of} {Q = AllAlike (v ∷ vs)} stops tame_join first λ w p.
+      reads_as (λ (ws : List A). w ∷ ws) (λ ws q. ap (λ (x : B). x ∷ map f ws) p ∙ ap (λ (xs : List B). f v ∷ xs) q) (λ a ws b h. (ws, h, refl)) others)
 
   stops_behind : (sep : List ℕ) (text : A → List ℕ) (vs : List A) (rest : List ℕ) → Stops rest → Stops (behind (32 ∷ sep) text vs ++ rest)
   unfolding behind
@@ -66,7 +63,6 @@ pub record JoinedAlike {A B : Type 0} (join : List A → A) (f : A → B) (vs : 
   pub alike : map f parts ≡ map f vs
 
 module _ {A B : Type 0} (m : ℕ) (join : List A → A) (between : Phrase ⊤) (R : Phrase A) (f : A → B) (sep : List ℕ) (text : A → List ℕ) where
-
   abbrev part_reads : A → Type 0
   part_reads v = Reads Stops R (text v) (λ w. f w ≡ f v) (Tame m m)
 
@@ -89,7 +85,7 @@ module _ {A B : Type 0} (m : ℕ) (join : List A → A) (between : Phrase ⊤) (
       → Reads Stops (chain join between R) (joined (32 ∷ sep) text (first ∷ next ∷ others)) (JoinedAlike join f (first ∷ next ∷ others)) (Tame m m)
   reads_chain more first next others each =
       subst (λ (t : List ℕ). Reads Stops (chain join between R) t (JoinedAlike join f (first ∷ next ∷ others)) (Tame m m)) (sym (joined_first (32 ∷ sep) text first (next ∷ others)))
-        (reads_then {S = λ x. many (between >> R) >>= λ ys. done (joined_parts join x ys)} {Q = JoinedAlike join f (first ∷ next ∷ others)}
-          (stops_behind m (between >> R) f sep text (next ∷ others)) tame_join each.0 λ w p.
-          reads_as (λ (ws : List A). joined_parts join w ws) (λ ws q. is_joined first next w others ws p q) (λ a ws b h. (ws, b, h, (refl, refl)))
-            (reads_behind m (between >> R) f sep text (next ∷ others) (all_next more (next ∷ others) each.1)))
+      (reads_then {S = λ x. many (between >> R) >>= λ ys. done (joined_parts join x ys)} {Q = JoinedAlike join f (first ∷ next ∷ others)}
+      (stops_behind m (between >> R) f sep text (next ∷ others)) tame_join each.0 λ w p.
+      reads_as (λ (ws : List A). joined_parts join w ws) (λ ws q. is_joined first next w others ws p q) (λ a ws b h. (ws, b, h, (refl, refl)))
+      (reads_behind m (between >> R) f sep text (next ∷ others) (all_next more (next ∷ others) each.1)))

@@ -1,8 +1,7 @@
 -- A reading always has an answer of its own: what is read, or a fault that is not want of memory.
-use Rattle.std.proofs.Common.{◌≡◌, ℕ, zero, suc, ◌+◌, ◌-◌, ◌≤◌, ◌<◌, Bool, true, false, Option, None, Some, Result, Ok, Err, List, [], ◌∷◌, ◌++◌, length, refl, sym, ap, ◌∙◌, subst, inl, inr, arith}
-use Rattle.std.specs.Prelude.{⊤, if◌then◌else◌, codes}
+use Rattle.std.proofs.Common.{◌≡◌, ℕ, zero, suc, ◌+◌, ◌-◌, ◌≤◌, Bool, true, false, Option, None, Some, Result, Ok, Err, List, [], ◌∷◌, length, refl, sym, subst, inl, inr, arith}
+use Rattle.std.specs.Prelude.{⊤, codes}
 use Rattle.std.proofs.lemmas.Bool.{cases_Bool, cond-true, cond-false}
-use Rattle.rela_locations.specs.declared.members.By.{By}
 use Rattle.rela_locations.specs.declared.members.By.TheVariants as by
 use Rattle.rela_lex.specs.declared.error.SpecError.{SpecError}
 use Rattle.rela_lex.specs.declared.error.SpecError.TheVariants.{Syntax, Memory}
@@ -15,7 +14,7 @@ use Rattle.rela_flows.specs.declared.predicate.Predicate.TheVariants as flows
 use Rattle.rela_spec.specs.Grammar.{is_mark_of}
 use Rattle.rela_spec.specs.Phrases.{joined_parts}
 use Rattle.rela_spec.specs.Readings.{Reading, next_is, and_read, read_done, choose, token_value, read_token, opened, read_open, read_many, read_all, read_chain}
-use Rattle.rela_spec.specs.ReadWords.{read_mark, read_word, read_name, read_reference, read_number, read_prefix, whether_mark, whether_word, is_word_of, is_reference_kind}
+use Rattle.rela_spec.specs.ReadWords.{read_mark, read_word, read_name, read_reference, read_number, read_prefix}
 use Rattle.rela_spec.specs.ReadPaths as paths
 use Rattle.rela_spec.specs.ReadPredicates as predicates
 use Rattle.rela_spec.specs.ReadSpecs as specs
@@ -27,7 +26,6 @@ use Rattle.rela_spec.specs.declared.tree.PathExpr.{PathExpr}
 use Rattle.rela_spec.specs.declared.tree.PathExpr.TheVariants as expr
 use Rattle.rela_spec.specs.declared.tree.SpecExpr.{SpecExpr}
 use Rattle.rela_spec.specs.declared.tree.SpecExpr.TheVariants as spec
-use Rattle.rela_spec.specs.declared.tree.SpecFile.{SpecFile}
 
 -- of so many tokens k are read, or more, or there is a fault
 abbrev pub Gives : {A : Type 0} → ℕ → ℕ → Result (A × List Token) SpecError → Type 0
@@ -67,7 +65,7 @@ of_choose {k = k} {p = p} {q = q} passes first second = record {
   gives = λ ts. elim (cases_Bool (next_is passes ts)) [
     | inl next ↦ subst (Gives (length ts) k) (sym (cond-true (next_is passes ts) (p ts) (q ts) next)) (first.gives ts)
     | inr other ↦ subst (Gives (length ts) k) (sym (cond-false (next_is passes ts) (p ts) (q ts) other)) (second.gives ts)
-  ]
+  ];
 }
 
 value_gives : {A : Type 0} (at : ℕ) (ts : List Token) (value : Option A) → Gives (suc (length ts)) 1 (token_value at ts value)
@@ -123,7 +121,6 @@ of_open {q = q} end byte room inside = record { gives = go }
     ]
 
 module _ {A : Type 0} (passes : TokenKind → Bool) (p : Reading A) (part : Decided 1 p) where
-
   abbrev onto : A → ℕ → Reading (List A)
   onto v n ts = and_read (read_many passes p n ts) (λ vs. read_done (v ∷ vs))
 
@@ -169,11 +166,10 @@ turned : {A B : Type 0} {p : Reading A} (f : A → B) → Decided 1 p → Decide
 turned f part = begun part (λ v. of_done (f v))
 
 module _ (end : ℕ) where
-
   of_by : Decided 1 (paths.read_picked_by end)
   unfolding paths.read_picked_by
   of_by = of_choose _ (word_alone end (codes "interface") by.Interface)
-    (of_choose _ (word_alone end (codes "device") by.Device) (of_choose _ (word_alone end (codes "group") by.Group) (word_alone end (codes "tag") by.Tag)))
+      (of_choose _ (word_alone end (codes "device") by.Device) (of_choose _ (word_alone end (codes "group") by.Group) (word_alone end (codes "tag") by.Tag)))
 
   of_picked : (room : ℕ) → Decided 1 (paths.read_picked end room)
   unfolding paths.read_picked
@@ -182,12 +178,12 @@ module _ (end : ℕ) where
   of_member : (room : ℕ) → Decided 1 (paths.read_member end room)
   unfolding paths.read_member
   of_member room = of_choose _ (word_alone end (codes "drop") member.Drop)
-    (of_choose _ (word_alone end (codes "loop") member.Loop) (of_choose _ (of_picked room) (turned (λ n. member.Here n.name n.at) (of_name end))))
+      (of_choose _ (word_alone end (codes "loop") member.Loop) (of_choose _ (of_picked room) (turned (λ n. member.Here n.name n.at) (of_name end))))
 
   of_class : (room : ℕ) → Decided 1 (paths.read_class end room)
   unfolding paths.read_class paths.read_members
   of_class room = of_open end 91 room (λ _ _.
-    of_then (of_choose _ (some (begun (of_mark end 94) (λ _. of_done true))) (of_done false)) (λ negated.
+      of_then (of_choose _ (some (begun (of_mark end 94) (λ _. of_done true))) (of_done false)) (λ negated.
       of_then (of_all paths.starts_member (paths.read_member end (room - 1)) (of_member (room - 1))) (λ members. some (begun (of_mark end 93) (λ _. of_done (expr.Class negated members))))))
 
   of_times : (room : ℕ) → Decided 1 (paths.read_times end room)
@@ -196,16 +192,16 @@ module _ (end : ℕ) where
 
   of_atom : (room : ℕ) (inside : Reading PathExpr) → ((inner : ℕ) → room ≡ suc inner → Decided 1 inside) → Decided 1 (paths.read_atom end room (paths.read_group end room inside))
   of_atom room inside within = of_choose _ (begun (of_mark end 46) (λ _. of_done expr.Any))
-    (of_choose _ (of_open end 40 room (λ inner e. of_choose _ (some (begun (of_mark end 41) (λ _. of_done expr.Empty))) (some (marked end 41 (λ w. w) (within inner e)))))
+      (of_choose _ (of_open end 40 room (λ inner e. of_choose _ (some (begun (of_mark end 41) (λ _. of_done expr.Empty))) (some (marked end 41 (λ w. w) (within inner e)))))
       (of_choose _ (of_class room)
-        (of_choose _ (turned (λ n. expr.Reference n.name n.at) (of_reference end)) (turned (λ m. expr.One m) (of_member room)))))
+      (of_choose _ (turned (λ n. expr.Reference n.name n.at) (of_reference end)) (turned (λ m. expr.One m) (of_member room)))))
 
   of_postfix : (room : ℕ) (e : PathExpr) → Decided 0 (paths.read_postfix end room e)
   unfolding paths.read_postfix
   of_postfix room e = of_choose _ (some (begun (of_mark end 42) (λ _. of_done (expr.Star e))))
-    (of_choose _ (some (begun (of_mark end 43) (λ _. of_done (expr.Plus e))))
+      (of_choose _ (some (begun (of_mark end 43) (λ _. of_done (expr.Plus e))))
       (of_choose _ (some (begun (of_mark end 63) (λ _. of_done (expr.Maybe e))))
-        (of_choose _ (some (turned (λ n. expr.Times e n) (of_times room))) (of_done e))))
+      (of_choose _ (some (turned (λ n. expr.Times e n) (of_times room))) (of_done e))))
 
   of_expression : (room : ℕ) (inside : Reading PathExpr) → ((inner : ℕ) → room ≡ suc inner → Decided 1 inside) → Decided 1 (paths.read_expression end room inside)
   of_expression room inside within =
@@ -213,10 +209,13 @@ module _ (end : ℕ) where
     where
       postfixed : Decided 1 (paths.read_postfixed end room (paths.read_atom end room (paths.read_group end room inside)))
       postfixed = begun (of_atom room inside within) (of_postfix room)
+
       negation : Decided 1 (paths.read_negation end (paths.read_postfixed end room (paths.read_atom end room (paths.read_group end room inside))))
       negation = of_choose _ (begun (of_mark end 33) (λ _. some (turned (λ e. expr.Not e) postfixed))) postfixed
+
       sequence : Decided 1 (paths.read_sequence (paths.read_negation end (paths.read_postfixed end room (paths.read_atom end room (paths.read_group end room inside)))))
       sequence = of_chain expr.Seq _ _ _ negation negation
+
       conjunction : Decided 1 (paths.read_conjunction end (paths.read_sequence (paths.read_negation end (paths.read_postfixed end room (paths.read_atom end room (paths.read_group end room inside))))))
       conjunction = of_chain expr.And _ _ _ (begun (of_mark end 38) (λ _. some sequence)) sequence
 
@@ -231,9 +230,9 @@ module _ (end : ℕ) where
   of_test : Decided 1 (predicates.read_test end)
   unfolding predicates.read_test predicates.read_destination predicates.read_source
   of_test = of_choose _ (word_alone end (codes "all") flows.All)
-    (of_choose _ (word_before end (codes "dst") (of_placed flows.DstIn flows.DstOverlaps))
+      (of_choose _ (word_before end (codes "dst") (of_placed flows.DstIn flows.DstOverlaps))
       (of_choose _ (word_before end (codes "src") (of_placed flows.SrcIn flows.SrcOverlaps))
-        (of_choose _ (word_before end (codes "flow") (turned (λ n. flows.Flow n.name) (of_name end))) (word_before end (codes "class") (turned (λ n. flows.Class n.name) (of_name end))))))
+      (of_choose _ (word_before end (codes "flow") (turned (λ n. flows.Flow n.name) (of_name end))) (word_before end (codes "class") (turned (λ n. flows.Class n.name) (of_name end))))))
 
   of_disjunction : (room : ℕ) (inside : Reading Predicate) → ((inner : ℕ) → room ≡ suc inner → Decided 1 inside) → Decided 1 (predicates.read_over end room inside)
   of_disjunction room inside within =
@@ -241,8 +240,10 @@ module _ (end : ℕ) where
     where
       single : Decided 1 (predicates.read_single end (predicates.read_group end room inside))
       single = of_choose _ (of_open end 40 room (λ inner e. some (marked end 41 (λ p. p) (within inner e)))) of_test
+
       denial : Decided 1 (predicates.read_denial end (predicates.read_single end (predicates.read_group end room inside)))
       denial = of_choose _ (word_before end (codes "not") (turned (λ p. flows.Not p) single)) single
+
       conjunction : Decided 1 (predicates.read_conjunction end (predicates.read_denial end (predicates.read_single end (predicates.read_group end room inside))))
       conjunction = of_chain flows.And _ _ _ (word_before end (codes "and") denial) denial
 
@@ -262,11 +263,11 @@ module _ (end : ℕ) where
   of_change : (room : ℕ) → Decided 1 (specs.read_change end room)
   unfolding specs.read_change
   of_change room = of_choose _ (word_alone end (codes "preserve") modifier.Preserve)
-    (of_choose _ (word_alone end (codes "drop") modifier.Drop)
+      (of_choose _ (word_alone end (codes "drop") modifier.Drop)
       (of_choose _ (word_before end (codes "add") (turned (λ e. modifier.Add e) (of_argument room)))
-        (of_choose _ (word_before end (codes "remove") (turned (λ e. modifier.Remove e) (of_argument room)))
-          (of_choose _ (word_before end (codes "replace") (of_replacement room))
-            (of_choose _ (word_before end (codes "any") (turned (λ e. modifier.AnyOf e) (of_argument room))) (word_before end (codes "ignore") (turned (λ e. modifier.Ignore e) (of_argument room))))))))
+      (of_choose _ (word_before end (codes "remove") (turned (λ e. modifier.Remove e) (of_argument room)))
+      (of_choose _ (word_before end (codes "replace") (of_replacement room))
+      (of_choose _ (word_before end (codes "any") (turned (λ e. modifier.AnyOf e) (of_argument room))) (word_before end (codes "ignore") (turned (λ e. modifier.Ignore e) (of_argument room))))))))
 
   of_unit : (room : ℕ) → Decided 1 (specs.read_unit end room)
   unfolding specs.read_unit
@@ -278,6 +279,7 @@ module _ (end : ℕ) where
     where
       single : Decided 1 (specs.read_single end room (specs.read_group end room inside))
       single = of_choose _ (turned (λ n. spec.Reference n.name n.at) (of_reference end)) (of_choose _ (of_open end 40 room (λ inner e. some (marked end 41 (λ s. s) (within inner e)))) (of_unit room))
+
       steps : Decided 1 (specs.read_steps end (specs.read_single end room (specs.read_group end room inside)))
       steps = of_chain spec.Then _ _ _ (word_before end (codes "then") single) single
 
@@ -289,9 +291,9 @@ module _ (end : ℕ) where
   of_level : Decided 0 (files.read_level_line end)
   unfolding files.read_level_line files.read_level_word
   of_level = of_choose _
-    (some (word_before end (codes "level") (marked end 59 (λ l. l) (of_choose _ (word_alone end (codes "interface") level.Interface)
+      (some (word_before end (codes "level") (marked end 59 (λ l. l) (of_choose _ (word_alone end (codes "interface") level.Interface)
       (of_choose _ (word_alone end (codes "device") level.Device) (word_alone end (codes "group") level.Group))))))
-    (of_done level.Interface)
+      (of_done level.Interface)
 
   of_condition : (room : ℕ) → Decided 0 (files.read_condition end room)
   unfolding files.read_condition
@@ -300,9 +302,9 @@ module _ (end : ℕ) where
   of_item : (room : ℕ) → Decided 1 (files.read_item end room)
   unfolding files.read_item files.read_path_item files.read_spec_item files.read_check_item
   of_item room = of_choose _ (word_before end (codes "path") (begun (of_name end) (λ n. some (begun (of_mark end 61) (λ _. some (marked end 59 (λ e. item.Path n.name n.at e) (of_path room)))))))
-    (of_choose _ (word_before end (codes "spec") (begun (of_name end) (λ n. some (begun (of_mark end 61) (λ _. some (marked end 59 (λ s. item.Spec n.name n.at s) (of_body room)))))))
+      (of_choose _ (word_before end (codes "spec") (begun (of_name end) (λ n. some (begun (of_mark end 61) (λ _. some (marked end 59 (λ s. item.Spec n.name n.at s) (of_body room)))))))
       (begun (of_word end (codes "check")) (λ _. of_then (of_choose _ (some (begun (of_word end (codes "atmost")) (λ _. of_done true))) (of_done false)) (λ at_most.
-        some (begun (of_name end) (λ n. of_then (of_condition room) (λ when. some (begun (of_mark end 58) (λ _. some (marked end 59 (λ s. item.Check at_most n.name n.at when s) (of_body room)))))))))))
+      some (begun (of_name end) (λ n. of_then (of_condition room) (λ when. some (begun (of_mark end 58) (λ _. some (marked end 59 (λ s. item.Check at_most n.name n.at when s) (of_body room)))))))))))
 
   pub of_file : (room : ℕ) → Decided 0 (files.read_file end room)
   unfolding files.read_file files.read_items

@@ -1,19 +1,18 @@
 -- Trees of several levels: what is spelled at one level is written so that it is read at that level again, in parentheses where it binds no more tightly.
-use Rattle.std.proofs.Common.{◌≡◌, ◌⊎◌, ℕ, zero, suc, ◌+◌, ◌≤◌, ◌<◌, Bool, true, false, List, [], ◌∷◌, ◌++◌, map, refl, sym, ap, ◌∙◌, subst, inl, inr, arith}
+use Rattle.std.proofs.Common.{◌≡◌, ◌⊎◌, ℕ, zero, suc, ◌+◌, ◌≤◌, ◌<◌, List, [], ◌∷◌, ◌++◌, map, sym, ap, ◌∙◌, subst, inl, inr, arith}
 use Rattle.std.specs.Prelude.{⊤, nat_lt}
 use Rattle.std.proofs.lemmas.Bool.{cases_lt, cond-true, cond-false, lt-ltb, le-ltb}
 use Rattle.rela_lex.specs.declared.token.Token.{Token}
 use Rattle.rela_spec.specs.Joined.{joined}
-use Rattle.rela_spec.specs.Phrases.{Phrase, chain, joined_parts, ◌>>=◌, ◌>>◌}
+use Rattle.rela_spec.specs.Phrases.{Phrase, chain, joined_parts, ◌>>◌}
 use Rattle.rela_spec.specs.Printed.{Printed, within}
-use Rattle.rela_spec.proofs.ChainTexts.{JoinedAlike, reads_chain}
+use Rattle.rela_spec.proofs.ChainTexts.{reads_chain}
 use Rattle.rela_spec.proofs.Sources.{Each, Parts}
 use Rattle.rela_spec.proofs.TextPieces.{Tame, Reads, Stops, reads_as}
 
 module _ {A : Type 0} (last : ℕ) (level : ℕ → ℕ → Phrase A) (zeroed : A → A) (printed : A → Printed)
-  (lift : (d n : ℕ) (a : List Token) (e : A) (b : List Token) → level d n a e b → level (suc d) n a e b)
-  (grouped : (n : ℕ) (t : List ℕ) (P : A → Type 0) → Reads Stops (level last n) t P (Tame n n) → Reads Stops (level 0 (suc n)) (40 ∷ (t ++ 41 ∷ [])) P (Tame (suc n) (suc n))) where
-
+    (lift : (d n : ℕ) (a : List Token) (e : A) (b : List Token) → level d n a e b → level (suc d) n a e b)
+    (grouped : (n : ℕ) (t : List ℕ) (P : A → Type 0) → Reads Stops (level last n) t P (Tame n n) → Reads Stops (level 0 (suc n)) (40 ∷ (t ++ 41 ∷ [])) P (Tame (suc n) (suc n))) where
   abbrev pub ReadsAt : ℕ → ℕ → List ℕ → A → Type 0
   ReadsAt d n t e = Reads Stops (level d n) t (λ w. zeroed w ≡ zeroed e) (Tame n n)
 
@@ -69,8 +68,8 @@ module _ {A : Type 0} (last : ℕ) (level : ℕ → ℕ → Phrase A) (zeroed : 
   enclosed d zero above k e g lt le = absurd (omega arith)
   enclosed d (suc n) above k e g lt le =
       subst (λ (t : List ℕ). ReadsAt d (suc n) t e) (in_parentheses above (printed e) le)
-        (reads_lower 0 d (suc n) (40 ∷ ((printed e).text ++ 41 ∷ [])) e (omega arith)
-          (grouped n (printed e).text (λ w. zeroed w ≡ zeroed e) (reads_lower g.depth last n (printed e).text e g.low (g.reads n (omega arith)))))
+      (reads_lower 0 d (suc n) (40 ∷ ((printed e).text ++ 41 ∷ [])) e (omega arith)
+      (grouped n (printed e).text (λ w. zeroed w ≡ zeroed e) (reads_lower g.depth last n (printed e).text e g.low (g.reads n (omega arith)))))
 
   -- a part as it stands within what binds so tightly
   pub reads_part : (d m n above : ℕ) (e : A) → m ≤ n → above + suc d ≡ suc last → Kept d m e → ReadsAt d n (within above (printed e)) e
@@ -106,12 +105,13 @@ module _ {A : Type 0} (last : ℕ) (level : ℕ → ℕ → Phrase A) (zeroed : 
     where
       whole : (first next : A) (others : List A) → Each (Kept d m) (first ∷ next ∷ others) → Kept (suc d) m (join (first ∷ next ∷ others))
       whole first next others each = inl (make_good m (suc d) above (joined (32 ∷ sep) (λ e. within above (printed e)) (first ∷ next ∷ others)) (join (first ∷ next ∷ others))
-        (prints (first ∷ next ∷ others)) (omega arith) level_is
-        λ n room. reads_as (λ (v : A). v)
+          (prints (first ∷ next ∷ others)) (omega arith) level_is
+          λ n room. reads_as (λ (v : A). v)
           (λ v alike. ap zeroed alike.joined ∙ zeroes alike.parts ∙ ap join alike.alike ∙ sym (zeroes (first ∷ next ∷ others)))
           (on n)
           (reads_chain n join between (level d n) zeroed sep (λ e. within above (printed e)) (λ e. more n (within above (printed e)) (λ v. zeroed v ≡ zeroed e))
-            first next others (parts_read d m n above (first ∷ next ∷ others) room level_is each)))
+          first next others (parts_read d m n above (first ∷ next ∷ others) room level_is each)))
+
       go : (first : A) (others : List A) → w ≡ joined_parts join first others → Each (Kept d m) (first ∷ others) → Kept (suc d) m w
       go first [] is each = subst (Kept (suc d) m) (sym is) (kept_more d (suc d) m first (omega arith) each.0)
       go first (next ∷ others) is each = subst (Kept (suc d) m) (sym is) (whole first next others each)

@@ -1,12 +1,10 @@
 -- The texts of members are read as these members.
-use Rattle.std.proofs.Common.{◌≡◌, ℕ, zero, suc, ◌+◌, ◌≤◌, ◌<◌, Bool, true, false, Option, None, Some, List, [], ◌∷◌, ◌++◌, refl, sym, ap, ◌∙◌, subst, inl, inr, arith, codes}
+use Rattle.std.proofs.Common.{◌≡◌, ℕ, zero, suc, ◌+◌, ◌≤◌, ◌<◌, Some, List, [], ◌∷◌, ◌++◌, refl, sym, ap, ◌∙◌, subst, inl, inr, arith, codes}
 use Rattle.std.specs.Prelude.{⊤}
 use Rattle.rela_names.specs.Name.{IsName}
 use Rattle.rela_lex.specs.declared.token.Token.{Token}
-use Rattle.rela_lex.specs.declared.token.TokenKind.TheVariants.{Mark, Bare}
 use Rattle.rela_locations.specs.declared.members.By.{By}
 use Rattle.rela_locations.specs.declared.members.By.TheVariants as by
-use Rattle.rela_spec.specs.Grammar.{room_after}
 use Rattle.rela_spec.specs.GrammarWords.{Named, mark, word, name}
 use Rattle.rela_spec.specs.GrammarPaths.{picked_by, picked, a_member}
 use Rattle.rela_spec.specs.Members.{by_opening, member_text}
@@ -15,7 +13,7 @@ use Rattle.rela_spec.specs.Phrases.{Phrase, done, ◌>>=◌, ◌>>◌, bracketed
 use Rattle.rela_spec.specs.SameTree.{member_at_zero}
 use Rattle.rela_spec.specs.declared.tree.Member.{Member}
 use Rattle.rela_spec.specs.declared.tree.Member.TheVariants as member
-use Rattle.rela_spec.proofs.Sources.{Sourced, sourced_then, sourced_or, sourced_done, sourced_weaker, sourced_bracketed, sourced_mark, sourced_word, sourced_name}
+use Rattle.rela_spec.proofs.Sources.{Sourced, sourced_then, sourced_or, sourced_done, sourced_bracketed, sourced_mark, sourced_word, sourced_name}
 use Rattle.rela_spec.proofs.TextPieces.{Tame, tame_join, Reads, Free, Stops, reads_then, reads_as}
 use Rattle.rela_spec.proofs.TokenTexts.{Whatever, IsNameOf, reads_mark, reads_word, reads_name}
 
@@ -55,8 +53,8 @@ name_inside n = bracketed n (mark 40) λ _. name >>= λ n. mark 41 >> done n
 reads_name_inside : (k : ℕ) (text : List ℕ) → IsName text → Reads Free (name_inside (suc k)) (40 ∷ (name_text text ++ 41 ∷ [])) (IsNameOf text) (Tame (suc k) (suc k))
 reads_name_inside k text is =
     reads_then {C = Free} {D = Free} {R = mark 40} {S = λ _. name >>= λ n. mark 41 >> done n} {P = Whatever} {Q = IsNameOf text} (λ rest c. tt) tame_join (reads_mark {m = suc k} {n = k} 40 refl refl refl refl) λ _ _.
-      reads_then {C = Stops} {D = Free} {R = name} {S = λ n. mark 41 >> done n} {P = IsNameOf text} {Q = IsNameOf text} (λ rest c. refl) tame_join (reads_name {m = k} text is) λ n p.
-        reads_as (λ _. n) (λ _ _. p) (λ a v b h. (tt, b, h, (refl, refl))) (reads_mark {m = k} {n = suc k} 41 refl (closing k) refl refl)
+    reads_then {C = Stops} {D = Free} {R = name} {S = λ n. mark 41 >> done n} {P = IsNameOf text} {Q = IsNameOf text} (λ rest c. refl) tame_join (reads_name {m = k} text is) λ n p.
+    reads_as (λ _. n) (λ _ _. p) (λ a v b h. (tt, b, h, (refl, refl))) (reads_mark {m = k} {n = suc k} 41 refl (closing k) refl refl)
 
 reads_picked : (n : ℕ) → 0 < n → (b : By) (text : List ℕ) (at : ℕ) → IsName text
     → Reads Free (picked n) (by_opening b ++ (name_text text ++ 41 ∷ [])) (λ w. member_at_zero w ≡ member.Within b text 0) (Tame n n)
@@ -64,10 +62,10 @@ unfolding picked
 reads_picked zero some b text at is = absurd (omega arith)
 reads_picked (suc k) some b text at is =
     subst (λ (t : List ℕ). Reads Free (picked (suc k)) t (λ w. member_at_zero w ≡ member.Within b text 0) (Tame (suc k) (suc k))) (opening_is b (name_text text ++ 41 ∷ []))
-      (reads_then {C = Stops} {D = Free} {R = picked_by} {S = λ c. name_inside (suc k) >>= λ n. done (member.Within c n.name n.at)} {P = λ c. c ≡ b} {Q = λ w. member_at_zero w ≡ member.Within b text 0}
-        (λ rest c. refl) tame_join (reads_by {m = suc k} b) λ c same.
-        reads_as (λ (n : Named). member.Within c n.name n.at) (λ n p. ap (λ (x : By). member.Within x n.name 0) same ∙ ap (λ (x : List ℕ). member.Within b x 0) p)
-          (λ a n b h. (n, b, h, (refl, refl))) (reads_name_inside k text is))
+    (reads_then {C = Stops} {D = Free} {R = picked_by} {S = λ c. name_inside (suc k) >>= λ n. done (member.Within c n.name n.at)} {P = λ c. c ≡ b} {Q = λ w. member_at_zero w ≡ member.Within b text 0}
+    (λ rest c. refl) tame_join (reads_by {m = suc k} b) λ c same.
+    reads_as (λ (n : Named). member.Within c n.name n.at) (λ n p. ap (λ (x : By). member.Within x n.name 0) same ∙ ap (λ (x : List ℕ). member.Within b x 0) p)
+    (λ a n b h. (n, b, h, (refl, refl))) (reads_name_inside k text is))
 
 pub good_drop : (m : ℕ) → GoodMember m member.Drop
 unfolding member_text a_member
@@ -80,13 +78,13 @@ good_loop m = record { reads = λ n le. reads_as (λ _. member.Loop) (λ _ _. re
 pub good_here : (m : ℕ) (text : List ℕ) (at : ℕ) → IsName text → GoodMember m (member.Here text at)
 unfolding member_text a_member
 good_here m text at is = record {
-  reads = λ n le. reads_as (λ (x : Named). member.Here x.name x.at) (λ x p. ap (λ (y : List ℕ). member.Here y 0) p) (λ a x b h. inr (inr (inr (x, b, h, (refl, refl))))) (reads_name text is)
+  reads = λ n le. reads_as (λ (x : Named). member.Here x.name x.at) (λ x p. ap (λ (y : List ℕ). member.Here y 0) p) (λ a x b h. inr (inr (inr (x, b, h, (refl, refl))))) (reads_name text is);
 }
 
 pub good_within : (m : ℕ) (b : By) (text : List ℕ) (at : ℕ) → 0 < m → IsName text → GoodMember m (member.Within b text at)
 unfolding member_text a_member
 good_within m b text at some is = record {
-  reads = λ n le. reads_as (λ (w : Member). w) (λ w p. p) (λ a w b h. inr (inr (inl h))) (reads_before (reads_picked n (omega arith) b text at is))
+  reads = λ n le. reads_as (λ (w : Member). w) (λ w p. p) (λ a w b h. inr (inr (inl h))) (reads_before (reads_picked n (omega arith) b text at is));
 }
 
 sourced_by : {m : ℕ} → Sourced m m picked_by (λ _. ⊤)
@@ -104,13 +102,13 @@ sourced_picked : (r m : ℕ) → Sourced m m (picked r) (GoodMember m)
 unfolding picked
 sourced_picked r m =
     sourced_then sourced_by λ b _. sourced_then
-      (sourced_bracketed {P = PickedName m} r 40 (λ _. name >>= λ n. mark 41 >> done n) refl λ s k _ e.
-        sourced_then sourced_name λ n is. sourced_then (sourced_mark 41 (closing k ∙ ap Some (sym e))) λ _ _. sourced_done n (record { some = omega (arith, e); is = is }))
-      λ n p. sourced_done (member.Within b n.name n.at) (good_within m b n.name n.at p.some p.is)
+    (sourced_bracketed {P = PickedName m} r 40 (λ _. name >>= λ n. mark 41 >> done n) refl λ s k _ e.
+    sourced_then sourced_name λ n is. sourced_then (sourced_mark 41 (closing k ∙ ap Some (sym e))) λ _ _. sourced_done n (record { some = omega (arith, e); is = is }))
+    λ n p. sourced_done (member.Within b n.name n.at) (good_within m b n.name n.at p.some p.is)
 
 pub sourced_member : (r m : ℕ) → Sourced m m (a_member r) (GoodMember m)
 unfolding a_member
 sourced_member r m =
     sourced_or (sourced_then (sourced_word (codes "drop")) λ _ _. sourced_done member.Drop (good_drop m))
-      (sourced_or (sourced_then (sourced_word (codes "loop")) λ _ _. sourced_done member.Loop (good_loop m))
-        (sourced_or (sourced_picked r m) (sourced_then sourced_name λ n is. sourced_done (member.Here n.name n.at) (good_here m n.name n.at is))))
+    (sourced_or (sourced_then (sourced_word (codes "loop")) λ _ _. sourced_done member.Loop (good_loop m))
+    (sourced_or (sourced_picked r m) (sourced_then sourced_name λ n is. sourced_done (member.Here n.name n.at) (good_here m n.name n.at is))))

@@ -1,15 +1,13 @@
 -- The decimal text of a number of at most 64 is read as that number.
-use Rattle.std.proofs.Common.{◌≡◌, ℕ, zero, suc, ◌+◌, ◌≤◌, ◌<◌, Bool, true, false, ◌&&◌, ◌==◌, not, Option, None, Some, IsTrue, List, [], ◌∷◌, ◌++◌, refl, sym, ap, ◌∙◌, subst, inl, inr, arith}
-use Rattle.std.specs.Prelude.{⊤, if◌then◌else◌}
+use Rattle.std.proofs.Common.{◌≡◌, ℕ, zero, suc, ◌≤◌, Bool, true, false, ◌&&◌, ◌==◌, not, List, refl, sym, ap, ◌∙◌, subst, inl, inr, arith}
 use Rattle.std.specs.Fmt.{decimal, digits}
 use Rattle.std.specs.Str.Parse.{digits_value}
 use Rattle.std.proofs.lemmas.Bool.{cases_Bool, and_parts, cond-true, cond-false, eqb-true, leb-true, not-true, cases_lt}
 use Rattle.rela_names.specs.Name.{is_name, IsName}
-use Rattle.rela_lex.specs.declared.token.Token.{Token}
-use Rattle.rela_lex.specs.declared.token.TokenKind.TheVariants.{Mark, Bare, Quoted, Reference}
+use Rattle.rela_lex.specs.declared.token.TokenKind.TheVariants.{Bare}
 use Rattle.rela_lex.specs.Spells.{is_lone_mark}
 use Rattle.rela_spec.specs.Grammar.{is_bad_number}
-use Rattle.rela_spec.specs.GrammarWords.{number, is_number, has_leading_zero, is_good_number, number_of}
+use Rattle.rela_spec.specs.GrammarWords.{number, is_number, is_good_number, number_of}
 use Rattle.rela_spec.proofs.Sources.{Sourced, sourced_token, same_room}
 use Rattle.rela_spec.proofs.TextPieces.{Reads, Stops, reads_token}
 use Rattle.rela_spec.proofs.Braces.{Inner, inner_token}
@@ -56,7 +54,7 @@ reads_number {k} n le =
     let value : n ≡ number_of (decimal n) = sym (cond-true (is_good_number (decimal n)) (digits_value 10 (decimal n)) 0 t.good ∙ t.value) in
     let none : is_bad_number (Bare (decimal n)) ≡ false = ap (λ (x : Bool). is_number (decimal n) && not x) t.good ∙ ap (λ (x : Bool). x && false) t.digits_are in
     reads_token (Bare (decimal n)) (λ at. n) (λ rest c. (t.is, t.alone, c)) (λ at. (decimal n, refl, t.digits_are, value)) (λ at. refl)
-      (λ at. inner_token k (record { at = at; kind = Bare (decimal n) }) refl refl none)
+    (λ at. inner_token k (record { at = at; kind = Bare (decimal n) }) refl refl none)
 
 number_small : (w : List ℕ) → number_of w ≤ 64
 number_small w = elim (cases_Bool (is_good_number w)) [

@@ -1,13 +1,13 @@
 -- Each text of a prefix is a name of two bytes or more.
-use Rattle.std.proofs.Common.{◌≡◌, ◌⊎◌, ℕ, zero, suc, ◌+◌, ◌*◌, ◌≤◌, ◌<◌, ◌^◌, Bool, true, false, ◌&&◌, ◌||◌, not, List, [], ◌∷◌, ◌++◌, length, refl, sym, ap, ◌∙◌, subst, inl, inr, arith, lit<, lit≤, length-append}
-use Rattle.std.specs.Prelude.{⊤, nat_lt, nat_le, cond}
+use Rattle.std.proofs.Common.{◌≡◌, ℕ, zero, suc, ◌+◌, ◌*◌, ◌≤◌, ◌<◌, Bool, true, false, ◌&&◌, ◌||◌, not, List, [], ◌∷◌, ◌++◌, length, refl, sym, ap, ◌∙◌, subst, inl, inr, arith, length-append}
+use Rattle.std.specs.Prelude.{nat_lt, nat_le}
 use Rattle.std.specs.Char.{digit_value}
 use Rattle.std.specs.Fmt.{decimal}
 use Rattle.std.specs.List.{list_all, AllZip, join_with_byte}
 use Rattle.std.specs.Str.Parse.{AllDigits}
-use Rattle.std.proofs.lemmas.Bool.{and_parts, cases_lt, cond-false, lt-ltb, le-ltb, le-leb, not-true, false≢true}
+use Rattle.std.proofs.lemmas.Bool.{and_parts, cases_lt, lt-ltb, le-ltb, le-leb, false≢true}
 use Rattle.std.proofs.lemmas.Fmt.{decimal_is_IsNumeral, length-decimal-le, decimal_nonempty}
-use Rattle.rela_names.specs.Name.{is_name_byte, is_name, IsName}
+use Rattle.rela_names.specs.Name.{is_name_byte, IsName}
 use Rattle.rela_flows.specs.Notation.{IsOctet, IsGroup, IsFields, IsIpv4Address, IsIpv6Address, IsTextOf, text_of}
 use Rattle.rela_flows.specs.declared.prefix.Prefix.{Prefix}
 use Rattle.rela_flows.specs.declared.prefix.Prefix.TheVariants.{V4, V6}
@@ -98,8 +98,8 @@ short_row separator IsField (f ∷ []) (n ∷ numbers) is short each = short_mor
 short_row separator IsField (f ∷ g ∷ fields) (n ∷ numbers) is short each =
     let others = short_row separator IsField (g ∷ fields) numbers is short each.1 in
     short_more (4 + suc (5 * length numbers)) (5 * length (n ∷ numbers)) (f ++ (separator ∷ join_with_byte separator (g ∷ fields))) (omega arith)
-      (short_joined 4 (suc (5 * length numbers)) f (separator ∷ join_with_byte separator (g ∷ fields)) (short f n each.0)
-        (short_behind (5 * length numbers) separator (join_with_byte separator (g ∷ fields)) is others))
+    (short_joined 4 (suc (5 * length numbers)) f (separator ∷ join_with_byte separator (g ∷ fields)) (short f n each.0)
+    (short_behind (5 * length numbers) separator (join_with_byte separator (g ∷ fields)) is others))
 
 short_fields : (separator : ℕ) (IsField : List ℕ → ℕ → Type 0) (text numbers : List ℕ) → is_name_byte separator ≡ true
     → ((text : List ℕ) (n : ℕ) → IsField text n → Short 4 text) → IsFields separator IsField text numbers → Short (5 * length numbers) text
@@ -116,14 +116,14 @@ short_v6 text a (inr is) =
     let eight = is.eight in
     let some = is.some in
     subst (Short 40) (sym is.joined)
-      (short_more (5 * length is.left + suc (suc (5 * length is.right))) 40 (is.left_text ++ 58 ∷ 58 ∷ is.right_text) (omega (arith, eight, some))
-        (short_joined (5 * length is.left) (suc (suc (5 * length is.right))) is.left_text (58 ∷ 58 ∷ is.right_text) left
-          (short_behind (suc (5 * length is.right)) 58 (58 ∷ is.right_text) refl (short_behind (5 * length is.right) 58 is.right_text refl right))))
+    (short_more (5 * length is.left + suc (suc (5 * length is.right))) 40 (is.left_text ++ 58 ∷ 58 ∷ is.right_text) (omega (arith, eight, some))
+    (short_joined (5 * length is.left) (suc (suc (5 * length is.right))) is.left_text (58 ∷ 58 ∷ is.right_text) left
+    (short_behind (suc (5 * length is.right)) 58 (58 ∷ is.right_text) refl (short_behind (5 * length is.right) 58 is.right_text refl right))))
 
 name_from : (text : List ℕ) → Short 64 text → 1 ≤ length text → IsName text
 name_from text short some =
     both_hold (nat_le 1 (length text) && nat_le (length text) 64) (list_all is_name_byte text)
-      (both_hold (nat_le 1 (length text)) (nat_le (length text) 64) (le-leb 1 (length text) some) (le-leb (length text) 64 short.length_is)) short.bytes
+    (both_hold (nat_le 1 (length text)) (nat_le (length text) 64) (le-leb 1 (length text) some) (le-leb (length text) 64 short.length_is)) short.bytes
 
 slashed : (text address : List ℕ) (n : ℕ) → n < 256 → Short 40 address → text ≡ address ++ 47 ∷ decimal n → IsName text × (2 ≤ length text)
 slashed text address n lt short is =

@@ -1,5 +1,5 @@
 -- What is known of values that tokens spell, where their brackets fit and their names are names.
-use Rattle.std.proofs.Common.{◌≡◌, ◌⊎◌, ℕ, zero, suc, ◌+◌, ◌≤◌, Bool, true, false, Option, None, Some, List, [], ◌∷◌, ◌++◌, refl, sym, ap, ◌∙◌, subst, inl, inr, arith}
+use Rattle.std.proofs.Common.{◌≡◌, ℕ, zero, suc, ◌+◌, true, Option, Some, List, [], ◌∷◌, refl, sym, ap, ◌∙◌, subst, inl, inr}
 use Rattle.std.specs.Prelude.{⊤, IsSome, if◌then◌else◌}
 use Rattle.std.specs.Option.{option_and_then}
 use Rattle.std.proofs.lemmas.Bool.{cond-true, false≢true}
@@ -8,8 +8,8 @@ use Rattle.rela_lex.specs.declared.token.Token.{Token}
 use Rattle.rela_lex.specs.declared.token.TokenKind.{TokenKind}
 use Rattle.rela_lex.specs.declared.token.TokenKind.TheVariants.{Mark, Bare, Quoted, Reference}
 use Rattle.rela_spec.specs.Grammar.{opens, closes, one_less, room_after, room_behind}
-use Rattle.rela_spec.specs.GrammarWords.{Named, mark, word, name, reference}
-use Rattle.rela_spec.specs.Phrases.{Phrase, token, done, none, ◌>>=◌, ◌>>◌, ◌or◌, many, chain, joined_parts, bracketed}
+use Rattle.rela_spec.specs.GrammarWords.{mark, word, name, reference}
+use Rattle.rela_spec.specs.Phrases.{Phrase, token, done, none, ◌>>=◌, ◌or◌, many, chain, joined_parts, bracketed}
 
 abbrev pub Each : {A : Type 0} → (A → Type 0) → List A → Type 0
 Each P [] = ⊤
@@ -51,7 +51,7 @@ sourced_token {m = m} {n = n} tells = record {
   given = λ a v b h fit.
       let fits : Fit m (h.0 ∷ b) = subst (Fit m) h.1 fit in
       let told = tells h.0 v h.2 fits.named.0 in
-      (fit_after m n h.0 b told.0 fits, told.1)
+      (fit_after m n h.0 b told.0 fits, told.1);
 }
 
 pub sourced_then : {A B : Type 0} {m n k : ℕ} {R : Phrase A} {S : A → Phrase B} {P : A → Type 0} {Q : B → Type 0}
@@ -59,12 +59,12 @@ pub sourced_then : {A B : Type 0} {m n k : ℕ} {R : Phrase A} {S : A → Phrase
 sourced_then first second = record {
   given = λ a w c h fit.
       let one = first.given a h.0 h.1 h.2 fit in
-      (second h.0 one.1).given h.1 w c h.3 one.0
+      (second h.0 one.1).given h.1 w c h.3 one.0;
 }
 
 pub sourced_or : {A : Type 0} {m n : ℕ} {R S : Phrase A} {P : A → Type 0} → Sourced m n R P → Sourced m n S P → Sourced m n (R or S) P
 sourced_or first second = record {
-  given = λ a v b h fit. elim h [ | inl one ↦ first.given a v b one fit | inr other ↦ second.given a v b other fit ]
+  given = λ a v b h fit. elim h [ inl one ↦ first.given a v b one fit | inr other ↦ second.given a v b other fit ];
 }
 
 pub sourced_done : {A : Type 0} {m : ℕ} {P : A → Type 0} (v : A) → P v → Sourced m m (done v) P
@@ -83,13 +83,15 @@ sourced_bracketed {m = m} {P = P} (suc s) byte inside opening tells = record { g
   where
     is_opening : (t : Token) → t.kind ≡ Mark byte → opens t.kind ≡ true
     is_opening t e = ap opens e ∙ opening
+
     less : (k : ℕ) (t : Token) → opens t.kind ≡ true → room_after t.kind (suc k) ≡ Some k
     less k t e = cond-true (opens t.kind) (one_less (suc k)) (if closes t.kind then Some (suc k + 1) else Some (suc k)) e
+
     go : (k : ℕ) → m ≡ k → (a : List Token) (v : _) (b : List Token) → bracketed (suc s) (mark byte) inside a v b → Fit m a → Fit m b × P v
     go zero e a v b h fit = absurd (full h.2.0 h.1 (is_opening h.2.0 h.2.2) (subst (λ (x : List Token). Fit 0 x) h.2.1 (subst (λ (n : ℕ). Fit n a) e fit)))
     go (suc k) e a v b h fit =
         (tells s k refl e).given h.1 v b h.3
-          (fit_after (suc k) k h.2.0 h.1 (less k h.2.0 (is_opening h.2.0 h.2.2)) (subst (λ (x : List Token). Fit (suc k) x) h.2.1 (subst (λ (n : ℕ). Fit n a) e fit)))
+        (fit_after (suc k) k h.2.0 h.1 (less k h.2.0 (is_opening h.2.0 h.2.2)) (subst (λ (x : List Token). Fit (suc k) x) h.2.1 (subst (λ (n : ℕ). Fit n a) e fit)))
 
 pub sourced_many : {A : Type 0} {m : ℕ} {R : Phrase A} {P : A → Type 0} → Sourced m m R P → Sourced m m (many R) (Each P)
 sourced_many {A = A} {m = m} {R = R} {P = P} part = record { given = go }
@@ -112,7 +114,7 @@ pub sourced_chain : {A : Type 0} {m : ℕ} {join : List A → A} {between : Phra
     → Sourced m m between (λ _. ⊤) → Sourced m m R P → Sourced m m (chain join between R) (Parts join P)
 sourced_chain between part =
     sourced_then part λ first p. sourced_then (sourced_many (sourced_then between λ _ _. part)) λ others ps.
-      sourced_done _ (record { first = first; others = others; joined = refl; each = (p, ps) })
+    sourced_done _ (record { first = first; others = others; joined = refl; each = (p, ps) })
 
 -- the phrase is only so where another is
 pub sourced_as : {A : Type 0} {m n : ℕ} {R S : Phrase A} {P : A → Type 0} → ((a : List Token) (v : A) (b : List Token) → S a v b → R a v b) → Sourced m n R P → Sourced m n S P

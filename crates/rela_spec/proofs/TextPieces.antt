@@ -1,16 +1,15 @@
 -- Texts that are cut into tokens of a phrase, whatever stands before them, and joined texts.
-use Rattle.std.proofs.Common.{◌≡◌, ◌⊎◌, ℕ, zero, suc, ◌+◌, ◌≤◌, Bool, true, false, ◌&&◌, ◌==◌, if◌then◌else◌, Option, None, Some, IsTrue, List, [], ◌∷◌, ◌++◌, length, map, refl, sym, ap, ◌∙◌, subst, inl, inr, arith, append_assoc, append-nil, length-append, add-zero}
+use Rattle.std.proofs.Common.{◌≡◌, ℕ, ◌+◌, Bool, true, false, ◌&&◌, None, Some, List, [], ◌∷◌, ◌++◌, length, refl, sym, ap, ◌∙◌, subst, arith, append_assoc, append-nil, length-append, add-zero}
 use Rattle.std.specs.Prelude.{⊤}
 use Rattle.std.specs.List.{flat_map}
 use Rattle.std.specs.Option.{option_and_then}
 use Rattle.std.proofs.lemmas.Grind.{flat_map-append}
-use Rattle.rela_names.specs.Name.{is_name_byte, IsName}
+use Rattle.rela_names.specs.Name.{is_name_byte}
 use Rattle.rela_lex.specs.declared.token.Token.{Token}
 use Rattle.rela_lex.specs.declared.token.TokenKind.{TokenKind}
-use Rattle.rela_lex.specs.declared.token.TokenKind.TheVariants.{Mark, Bare, Quoted, Reference}
 use Rattle.rela_lex.specs.Spells.{Piece, spelling, token_spelling, StopsBefore, TokenStands, Stands, EachStands, token_of, tokens_at, tokens_from}
-use Rattle.rela_spec.specs.Grammar.{opens, closes, room_after, room_behind, is_mark_of, is_bad_number, bad_in_front, bad_number}
-use Rattle.rela_spec.specs.Phrases.{Phrase, token, done, ◌>>=◌, ◌>>◌}
+use Rattle.rela_spec.specs.Grammar.{room_after, room_behind, is_mark_of, is_bad_number, bad_in_front, bad_number}
+use Rattle.rela_spec.specs.Phrases.{Phrase, token, ◌>>=◌}
 
 -- a closing brace is not next, nor next but one behind a bad number
 abbrev pub closes_brace : List Token → Bool
@@ -133,9 +132,12 @@ found_then {R = R} {S = S} {t = t} {u = u} {M = M} at rest join first second =
       stands = stands_join first.pieces second.pieces rest (subst (λ (x : List ℕ). EachStands first.pieces (x ++ rest)) (sym second.spelled) first.stands) second.stands;
       value = second.value;
       right = second.right;
-      phrase = λ b. (first.value, us ++ b,
+      phrase = λ b. (
+        first.value,
+        us ++ b,
         subst (λ (x : List Token). R x first.value (us ++ b)) (sym (ap (λ (x : List Token). x ++ b) same ∙ append_assoc ts us b)) (first.phrase (us ++ b)),
-        second.phrase b);
+        second.phrase b,
+      );
       tokens = subst M (sym same) (join ts us first.tokens second.tokens);
     }
 
@@ -146,7 +148,7 @@ pub reads_then : {A B : Type 0} {C D : List ℕ → Type 0} {R : Phrase A} {S : 
 reads_then {u = u} stops join first second = record {
   found = λ at rest d.
       let one = first.found at (u ++ rest) (stops rest d) in
-      found_then at rest join one ((second one.value one.right).found (at + length (flat_map spelling one.pieces)) rest d)
+      found_then at rest join one ((second one.value one.right).found (at + length (flat_map spelling one.pieces)) rest d);
 }
 
 -- the same tokens as another phrase, with another value
@@ -163,7 +165,7 @@ reads_as f right on first = record {
         right = right one.value one.right;
         phrase = λ b. on _ one.value b (one.phrase b);
         tokens = one.tokens;
-      }
+      };
 }
 
 -- a blank before the text
@@ -179,7 +181,7 @@ reads_behind_blank first = record {
         right = one.right;
         phrase = λ b. one.phrase b;
         tokens = one.tokens;
-      }
+      };
 }
 
 -- one token
@@ -195,5 +197,5 @@ reads_token kind value stands has right tokens = record {
     right = right at;
     phrase = λ b. (record { at = at; kind = kind }, refl, has at);
     tokens = tokens at;
-  }
+  };
 }

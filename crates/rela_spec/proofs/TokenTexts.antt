@@ -1,19 +1,16 @@
 -- The texts of single tokens are read as they are meant.
-use Rattle.std.proofs.Common.{◌≡◌, ◌≢◌, ◌⊎◌, ℕ, zero, suc, ◌+◌, ◌≤◌, ◌<◌, Bool, true, false, ◌&&◌, ◌||◌, ◌==◌, Option, None, Some, IsTrue, List, [], ◌∷◌, ◌++◌, length, refl, sym, ap, ◌∙◌, subst, inl, inr, arith, codes}
-use Rattle.std.specs.Prelude.{⊤, if◌then◌else◌}
+use Rattle.std.proofs.Common.{◌≡◌, ℕ, Bool, true, false, ◌||◌, ◌==◌, Some, IsTrue, List, [], ◌∷◌, ◌++◌, refl, sym, subst, inl, inr, codes}
+use Rattle.std.specs.Prelude.{⊤}
 use Rattle.std.specs.Str.{bytes_eq}
 use Rattle.std.proofs.lemmas.Bool.{cases_Bool, cond-true, cond-false}
-use Rattle.rela_names.specs.Name.{is_name_byte, IsName}
-use Rattle.rela_lex.specs.declared.token.Token.{Token}
-use Rattle.rela_lex.specs.declared.token.TokenKind.{TokenKind}
+use Rattle.rela_names.specs.Name.{IsName}
 use Rattle.rela_lex.specs.declared.token.TokenKind.TheVariants.{Mark, Bare, Quoted, Reference}
-use Rattle.rela_lex.specs.Spells.{token_spelling, is_mark, is_lone_mark, StopsBefore, TokenStands}
-use Rattle.rela_spec.specs.Grammar.{opens, closes, room_after, is_mark_of}
+use Rattle.rela_lex.specs.Spells.{is_mark, is_lone_mark}
+use Rattle.rela_spec.specs.Grammar.{room_after}
 use Rattle.rela_spec.specs.GrammarWords.{Named, mark, word, name, reference}
 use Rattle.rela_spec.specs.Keywords.{is_keyword}
 use Rattle.rela_spec.specs.Names.{needs_quotes, name_text, reference_text}
-use Rattle.rela_spec.specs.Phrases.{Phrase, token}
-use Rattle.rela_spec.proofs.TextPieces.{Tame, tame_token, Loose, loose_token, Reads, Free, Stops, reads_token}
+use Rattle.rela_spec.proofs.TextPieces.{Tame, tame_token, Reads, Free, Stops, reads_token}
 
 abbrev pub Whatever : ⊤ → Type 0
 Whatever v = ⊤
@@ -51,12 +48,12 @@ reads_bare {m} bytes is bare =
     let keyword : is_keyword bytes ≡ false = first_fails (is_keyword bytes) (bytes_eq bytes (codes ".")) (bytes_eq bytes (codes ":")) bare in
     let alone : is_lone_mark bytes ≡ false = others_fail (is_keyword bytes) (bytes_eq bytes (codes ".")) (bytes_eq bytes (codes ":")) bare in
     reads_token (Bare bytes) (λ at. record { name = bytes; at = at }) (λ rest c. (is, alone, c)) (λ at. (refl, inr (refl, keyword))) (λ at. refl)
-      (λ at. tame_token m m (record { at = at; kind = Bare bytes }) refl refl refl)
+    (λ at. tame_token m m (record { at = at; kind = Bare bytes }) refl refl refl)
 
 reads_quoted : {m : ℕ} (bytes : List ℕ) → IsName bytes → Reads Stops name (34 ∷ (bytes ++ 34 ∷ [])) (IsNameOf bytes) (Tame m m)
 reads_quoted {m} bytes is =
     reads_token (Quoted bytes) (λ at. record { name = bytes; at = at }) (λ rest c. is) (λ at. (refl, inl refl)) (λ at. refl)
-      (λ at. tame_token m m (record { at = at; kind = Quoted bytes }) refl refl refl)
+    (λ at. tame_token m m (record { at = at; kind = Quoted bytes }) refl refl refl)
 
 pub reads_name : {m : ℕ} (bytes : List ℕ) → IsName bytes → Reads Stops name (name_text bytes) (IsNameOf bytes) (Tame m m)
 unfolding name_text
@@ -69,4 +66,4 @@ pub reads_reference : {m : ℕ} (bytes : List ℕ) → IsName bytes → Reads St
 unfolding reference_text
 reads_reference {m} bytes is =
     reads_token (Reference bytes) (λ at. record { name = bytes; at = at }) (λ rest c. (is, c)) (λ at. (refl, refl)) (λ at. refl)
-      (λ at. tame_token m m (record { at = at; kind = Reference bytes }) refl refl refl)
+    (λ at. tame_token m m (record { at = at; kind = Reference bytes }) refl refl refl)

@@ -1,5 +1,5 @@
 -- Trees that are the same but for where their names stand in a text.
-use Rattle.std.specs.Prelude.{◌≡◌, ℕ, List, map}
+use Rattle.std.specs.Prelude.{◌≡◌, map}
 use Rattle.rela_spec.specs.declared.tree.Item.{Item}
 use Rattle.rela_spec.specs.declared.tree.Item.TheVariants as item
 use Rattle.rela_spec.specs.declared.tree.Member.{Member}
