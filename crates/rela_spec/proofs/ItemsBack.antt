@@ -9,8 +9,6 @@ use Rattle.rela_names.specs.declared.level.Level.TheVariants as level
 use Rattle.rela_lex.specs.declared.token.Token.{Token}
 use Rattle.rela_lex.specs.declared.token.TokenKind.TheVariants.{Mark, Bare, Quoted, Reference}
 use Rattle.rela_lex.specs.Spells as lex
-use Rattle.rela_flows.specs.Notation.{IsTextOf, text_of}
-use Rattle.rela_flows.specs.declared.prefix.Prefix.{Prefix}
 use Rattle.rela_flows.specs.declared.predicate.Predicate.{Predicate}
 use Rattle.rela_flows.specs.declared.predicate.Predicate.TheVariants as flows
 use Rattle.rela_flows.specs.declared.predicate.Predicate.TheOpen as layer
@@ -241,82 +239,81 @@ named_tokens at (lex.Piece.Lexeme (Bare text) ∷ pieces) rest each = (each.0.0,
 named_tokens at (lex.Piece.Lexeme (Quoted text) ∷ pieces) rest each = (each.0, named_tokens (at + length (34 ∷ (text ++ 34 ∷ []))) pieces rest each.1)
 named_tokens at (lex.Piece.Lexeme (Reference text) ∷ pieces) rest each = (each.0.0, named_tokens (at + length (36 ∷ text)) pieces rest each.1)
 
-module _ (own : (q : Prefix) → IsTextOf (text_of q) q × IsName (text_of q) × (2 ≤ length (text_of q))) where
-  sourced_condition : (r m : ℕ) → Sourced m m (condition r) (predicates.GoodPredicate m)
-  unfolding condition
-  sourced_condition r m =
-      sourced_or (sourced_then (sourced_word (codes "for")) λ _ _. predicates.sourced_predicate own r m)
-      (sourced_done flows.All (levels.good_from 3 predicates.level predicates.as_it_is printed_predicate predicates.lift predicates.grouped 0 m flows.All (predicates.kept_all m)))
+sourced_condition : (r m : ℕ) → Sourced m m (condition r) (predicates.GoodPredicate m)
+unfolding condition
+sourced_condition r m =
+    sourced_or (sourced_then (sourced_word (codes "for")) λ _ _. predicates.sourced_predicate r m)
+    (sourced_done flows.All (levels.good_from 3 predicates.level predicates.as_it_is printed_predicate predicates.lift predicates.grouped 0 m flows.All (predicates.kept_all m)))
 
-  sourced_path_item : (r m : ℕ) → Sourced m m (path_item r) (GoodItem m)
-  unfolding path_item
-  sourced_path_item r m =
-      sourced_then sourced_name λ x is. sourced_then (sourced_mark {m = m} {n = m} 61 refl) λ _ _. sourced_then (sourced_path r m) λ e good.
-      sourced_then (sourced_mark {m = m} {n = m} 59 refl) λ _ _. sourced_done (item.Path x.name x.at e) (good_path m x.name x.at e is good)
+sourced_path_item : (r m : ℕ) → Sourced m m (path_item r) (GoodItem m)
+unfolding path_item
+sourced_path_item r m =
+    sourced_then sourced_name λ x is. sourced_then (sourced_mark {m = m} {n = m} 61 refl) λ _ _. sourced_then (sourced_path r m) λ e good.
+    sourced_then (sourced_mark {m = m} {n = m} 59 refl) λ _ _. sourced_done (item.Path x.name x.at e) (good_path m x.name x.at e is good)
 
-  sourced_spec_item : (r m : ℕ) → Sourced m m (spec_item r) (GoodItem m)
-  unfolding spec_item
-  sourced_spec_item r m =
-      sourced_then sourced_name λ x is. sourced_then (sourced_mark {m = m} {n = m} 61 refl) λ _ _. sourced_then (sourced_body r m) λ s good.
-      sourced_then (sourced_mark {m = m} {n = m} 59 refl) λ _ _. sourced_done (item.Spec x.name x.at s) (good_spec m x.name x.at s is good)
+sourced_spec_item : (r m : ℕ) → Sourced m m (spec_item r) (GoodItem m)
+unfolding spec_item
+sourced_spec_item r m =
+    sourced_then sourced_name λ x is. sourced_then (sourced_mark {m = m} {n = m} 61 refl) λ _ _. sourced_then (sourced_body r m) λ s good.
+    sourced_then (sourced_mark {m = m} {n = m} 59 refl) λ _ _. sourced_done (item.Spec x.name x.at s) (good_spec m x.name x.at s is good)
 
-  sourced_check_item : (r m : ℕ) → Sourced m m (check_item r) (GoodItem m)
-  unfolding check_item
-  sourced_check_item r m =
-      sourced_then (sourced_or (sourced_then (sourced_word (codes "atmost")) λ _ _. sourced_done {P = λ _. ⊤} true tt) (sourced_done {P = λ _. ⊤} false tt)) λ at_most _.
-      sourced_then sourced_name λ x is. sourced_then (sourced_condition r m) λ p flows_good. sourced_then (sourced_mark {m = m} {n = m} 58 refl) λ _ _.
-      sourced_then (sourced_body r m) λ s good. sourced_then (sourced_mark {m = m} {n = m} 59 refl) λ _ _.
-      sourced_done (item.Check at_most x.name x.at p s) (good_check m at_most x.name x.at p s (record { is = is; flows_good = flows_good; good = good }))
+sourced_check_item : (r m : ℕ) → Sourced m m (check_item r) (GoodItem m)
+unfolding check_item
+sourced_check_item r m =
+    sourced_then (sourced_or (sourced_then (sourced_word (codes "atmost")) λ _ _. sourced_done {P = λ _. ⊤} true tt) (sourced_done {P = λ _. ⊤} false tt)) λ at_most _.
+    sourced_then sourced_name λ x is. sourced_then (sourced_condition r m) λ p flows_good. sourced_then (sourced_mark {m = m} {n = m} 58 refl) λ _ _.
+    sourced_then (sourced_body r m) λ s good. sourced_then (sourced_mark {m = m} {n = m} 59 refl) λ _ _.
+    sourced_done (item.Check at_most x.name x.at p s) (good_check m at_most x.name x.at p s (record { is = is; flows_good = flows_good; good = good }))
 
-  sourced_item : (r m : ℕ) → Sourced m m (an_item r) (GoodItem m)
-  unfolding an_item
-  sourced_item r m =
-      sourced_or (sourced_then (sourced_word (codes "path")) λ _ _. sourced_path_item r m)
-      (sourced_or (sourced_then (sourced_word (codes "spec")) λ _ _. sourced_spec_item r m) (sourced_then (sourced_word (codes "check")) λ _ _. sourced_check_item r m))
+sourced_item : (r m : ℕ) → Sourced m m (an_item r) (GoodItem m)
+unfolding an_item
+sourced_item r m =
+    sourced_or (sourced_then (sourced_word (codes "path")) λ _ _. sourced_path_item r m)
+    (sourced_or (sourced_then (sourced_word (codes "spec")) λ _ _. sourced_spec_item r m) (sourced_then (sourced_word (codes "check")) λ _ _. sourced_check_item r m))
 
-  sourced_level : (m : ℕ) → Sourced m m level_line (λ _. ⊤)
-  unfolding level_line level_word
-  sourced_level m =
-      sourced_or (sourced_then (sourced_word (codes "level")) λ _ _. sourced_then
-      (sourced_or (one (codes "interface") level.Interface) (sourced_or (one (codes "device") level.Device) (one (codes "group") level.Group)))
-      λ l _. sourced_then (sourced_mark {m = m} {n = m} 59 refl) λ _ _. sourced_done l tt)
-      (sourced_done level.Interface tt)
-    where
-      one : (w : List ℕ) (l : Level) → Sourced m m (word w >> done l) (λ _. ⊤)
-      one w l = sourced_then (sourced_word w) λ _ _. sourced_done l tt
+sourced_level : (m : ℕ) → Sourced m m level_line (λ _. ⊤)
+unfolding level_line level_word
+sourced_level m =
+    sourced_or (sourced_then (sourced_word (codes "level")) λ _ _. sourced_then
+    (sourced_or (one (codes "interface") level.Interface) (sourced_or (one (codes "device") level.Device) (one (codes "group") level.Group)))
+    λ l _. sourced_then (sourced_mark {m = m} {n = m} 59 refl) λ _ _. sourced_done l tt)
+    (sourced_done level.Interface tt)
+  where
+    one : (w : List ℕ) (l : Level) → Sourced m m (word w >> done l) (λ _. ⊤)
+    one w l = sourced_then (sourced_word w) λ _ _. sourced_done l tt
 
-  sourced_file : (r m : ℕ) → Sourced m m (file r) (λ f. Each (GoodItem m) f.items)
-  unfolding file
-  sourced_file r m = sourced_then (sourced_level m) λ l _. sourced_then (sourced_many (sourced_item r m)) λ items good. sourced_done (record { level = l; items = items }) good
+sourced_file : (r m : ℕ) → Sourced m m (file r) (λ f. Each (GoodItem m) f.items)
+unfolding file
+sourced_file r m = sourced_then (sourced_level m) λ l _. sourced_then (sourced_many (sourced_item r m)) λ items good. sourced_done (record { level = l; items = items }) good
 
-  -- the tokens of the canonical text, and the tree that they spell
-  pub record Again (text : List ℕ) (f : SpecFile) : Type 0 where
-    pub tokens : List Token
-    pub cut : lex.Spells text tokens
-    pub tree : SpecFile
-    pub spelled : Spells tokens tree
-    pub same : SameButOffsets tree f
+-- the tokens of the canonical text, and the tree that they spell
+pub record Again (text : List ℕ) (f : SpecFile) : Type 0 where
+  pub tokens : List Token
+  pub cut : lex.Spells text tokens
+  pub tree : SpecFile
+  pub spelled : Spells tokens tree
+  pub same : SameButOffsets tree f
 
-  spelled_again : (text : List ℕ) (f : SpecFile) → Reads Free (file 100) text (λ w. SameButOffsets w f) (Tame 100 100) → Again text f
-  unfolding room_behind bad_number
-  spelled_again text f reads =
-      let one = reads.found 0 [] tt in
-      let ts : List Token = lex.tokens_from 0 one.pieces in
-      record {
-        tokens = ts;
-        cut = record { pieces = one.pieces; cut = record { joined = sym one.spelled ∙ sym (append-nil (flat_map lex.spelling one.pieces)); stands = one.stands }; read = refl };
-        tree = one.value;
-        spelled = record {
-          grammar = record { nested = 100; spelled = subst (λ (x : List Token). file 100 x one.value []) (append-nil ts) (one.phrase []) };
-          shallow = subst (λ (x : List Token). IsSome (room_behind 100 x)) (append-nil ts) (subst IsSome (sym (one.tokens.loose.room [])) refl);
-          numbers = ap bad_number (sym (append-nil ts)) ∙ one.tokens.loose.numbers [];
-        };
-        same = one.right;
-      }
+spelled_again : (text : List ℕ) (f : SpecFile) → Reads Free (file 100) text (λ w. SameButOffsets w f) (Tame 100 100) → Again text f
+unfolding room_behind bad_number
+spelled_again text f reads =
+    let one = reads.found 0 [] tt in
+    let ts : List Token = lex.tokens_from 0 one.pieces in
+    record {
+      tokens = ts;
+      cut = record { pieces = one.pieces; cut = record { joined = sym one.spelled ∙ sym (append-nil (flat_map lex.spelling one.pieces)); stands = one.stands }; read = refl };
+      tree = one.value;
+      spelled = record {
+        grammar = record { nested = 100; spelled = subst (λ (x : List Token). file 100 x one.value []) (append-nil ts) (one.phrase []) };
+        shallow = subst (λ (x : List Token). IsSome (room_behind 100 x)) (append-nil ts) (subst IsSome (sym (one.tokens.loose.room [])) refl);
+        numbers = ap bad_number (sym (append-nil ts)) ∙ one.tokens.loose.numbers [];
+      };
+      same = one.right;
+    }
 
-  -- a tree that a text's tokens spell is what its canonical text's tokens spell
-  pub read_again : (text : List ℕ) (tokens : List Token) (f : SpecFile) → lex.Spells text tokens → Spells tokens f → Again (print.print_of f) f
-  read_again text tokens f cut spelled =
-      let named : AreNamed tokens = subst AreNamed (sym cut.read) (named_tokens 0 cut.pieces [] cut.cut.stands) in
-      let told = (sourced_file spelled.grammar.nested 100).given tokens f [] spelled.grammar.spelled (record { shallow = spelled.shallow; named = named }) in
-      spelled_again (print.print_of f) f (reads_file 100 100 f (omega arith) told.1)
+-- a tree that a text's tokens spell is what its canonical text's tokens spell
+pub read_again : (text : List ℕ) (tokens : List Token) (f : SpecFile) → lex.Spells text tokens → Spells tokens f → Again (print.print_of f) f
+read_again text tokens f cut spelled =
+    let named : AreNamed tokens = subst AreNamed (sym cut.read) (named_tokens 0 cut.pieces [] cut.cut.stands) in
+    let told = (sourced_file spelled.grammar.nested 100).given tokens f [] spelled.grammar.spelled (record { shallow = spelled.shallow; named = named }) in
+    spelled_again (print.print_of f) f (reads_file 100 100 f (omega arith) told.1)

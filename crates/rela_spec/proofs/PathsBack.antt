@@ -292,10 +292,6 @@ kept_alt m w parts =
     levels.kept_chain 5 level path_at_zero printed_path lift grouped V.Alt (mark 124) (124 ∷ 32 ∷ []) 4 m 1 (omega arith) (omega arith) printed_alt zero_alt (λ n a e b h. h)
     (λ n t P h. mark_between 124 4 n t P (reads_mark {m = n} {n = n} 124 refl refl refl refl) h) w parts
 
--- what is spelled inside parentheses, with room for so many brackets
-abbrev Inside : ℕ → Type 0
-Inside r = (m : ℕ) → Sourced m m (inside r) (GoodPath m)
-
 sourced_group : (r m : ℕ) → ((s k : ℕ) → r ≡ suc s → Sourced k k (path s) (GoodPath k)) → Sourced m m (group r (inside r)) (KeptPath 0 m)
 unfolding group
 sourced_group zero m within_it = sourced_bracketed 0 40 (λ _. (mark 41 >> done V.Empty) or (inside 0 >>= λ e. mark 41 >> done e)) refl λ s k none e. absurd (omega (arith, none))

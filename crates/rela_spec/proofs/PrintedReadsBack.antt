@@ -12,7 +12,6 @@ use Rattle.rela_spec.proofs.Decided.{Gives, of_file}
 use Rattle.rela_spec.proofs.Exact.{Outcome}
 use Rattle.rela_spec.proofs.ExactFile.{anything, exact_file}
 use Rattle.rela_spec.proofs.ItemsBack.{read_again}
-use Rattle.rela_spec.proofs.PrefixNames.{own_text}
 use Rattle.rela_spec.proofs.Verdicts.{parsed_fault, fault_not_spelled}
 
 same_next : (ts : List Token) → SameNext ts ts
@@ -37,7 +36,7 @@ one_tree tokens a b first second =
 
 pub reads_back : (f : SpecFile) → IsOfText f → ReadsBack (print_of f) f
 reads_back f of_text =
-    let again = read_again own_text of_text.text of_text.tokens f of_text.cut of_text.spelled in
+    let again = read_again of_text.text of_text.tokens f of_text.cut of_text.spelled in
     record {
       tokens = again.tokens;
       cut = again.cut;

@@ -9,7 +9,7 @@ use Rattle.rela_lex.specs.declared.token.TokenKind.{TokenKind}
 use Rattle.rela_lex.specs.declared.token.TokenKind.TheVariants.{Mark, Bare, Quoted, Reference}
 use Rattle.rela_spec.specs.Grammar.{opens, closes, one_less, room_after, room_behind}
 use Rattle.rela_spec.specs.GrammarWords.{mark, word, name, reference}
-use Rattle.rela_spec.specs.Phrases.{Phrase, token, done, none, ◌>>=◌, ◌or◌, many, chain, joined_parts, bracketed}
+use Rattle.rela_spec.specs.Phrases.{Phrase, token, done, ◌>>=◌, ◌or◌, many, chain, joined_parts, bracketed}
 
 abbrev pub Each : {A : Type 0} → (A → Type 0) → List A → Type 0
 Each P [] = ⊤
@@ -69,9 +69,6 @@ sourced_or first second = record {
 
 pub sourced_done : {A : Type 0} {m : ℕ} {P : A → Type 0} (v : A) → P v → Sourced m m (done v) P
 sourced_done {m = m} {P = P} v p = record { given = λ a w b h fit. (subst (Fit m) h.1 fit, subst P (sym h.0) p) }
-
-pub sourced_none : {A : Type 0} {m n : ℕ} {P : A → Type 0} → Sourced {A = A} m n none P
-sourced_none = record { given = λ a v b h fit. absurd h }
 
 pub sourced_weaker : {A : Type 0} {m n : ℕ} {R : Phrase A} {P Q : A → Type 0} → ((v : A) → P v → Q v) → Sourced m n R P → Sourced m n R Q
 sourced_weaker weaker first = record { given = λ a v b h fit. let one = first.given a v b h fit in (one.0, weaker v one.1) }

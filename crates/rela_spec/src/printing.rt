@@ -5,7 +5,6 @@ ghost use Rattle.rela_spec.specs.Names.{name_text};
 ghost use Rattle.rela_spec.specs.PredicateTexts.{condition_text};
 ghost use Rattle.rela_spec.specs.Print.{level_line, check_words, item_line, print_of};
 ghost use Rattle.rela_spec.specs.ReadBack.{IsOfText, ReadsBack};
-ghost use Rattle.rela_spec.specs.declared.tree.SpecFile.{SpecFile};
 
 mod members;
 mod names;
@@ -33,11 +32,6 @@ pub fn print(alloc: Global, file: &SpecFile) -> Result<Vec<u8>, AllocError>
     }
     Ok(out)
 }
-
-/// The canonical text of a tree that some text spells is read as the same tree, and as no other.
-pub fn canonical_texts_are_read()
-    ensures { (file : SpecFile) → IsOfText file → ReadsBack (print_of file) file }
-{}
 
 fn level_line(level: Level) -> &'static [u8]
     ensures { result.now ≡ level_line level }
