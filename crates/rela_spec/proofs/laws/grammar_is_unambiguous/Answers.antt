@@ -1,0 +1,5 @@
+use Rattle.rela_spec.proofs.PrintedReadsBack.{one_tree}
+use Rattle.rela_spec.proofs.laws.grammar_is_unambiguous.Goals as goal
+
+pub returns : goal.returns
+returns c = one_tree

@@ -1,0 +1,95 @@
+//! The tree that a list of tokens spells.
+
+ghost use Rattle.std.specs.Prelude.{◌≡◌, ◌≢◌, ◌⊎◌, ℕ, Ok, Err, [], IfOk, IfErr, OnOk, MatchResult};
+ghost use Rattle.std.specs.List.{All};
+ghost use Rattle.rela_lex.specs.declared.error.SpecError.TheVariants.{Syntax, TooDeep, BadNumber, Memory};
+ghost use Rattle.rela_spec.specs.declared.tree.SpecFile.{SpecFile};
+ghost use Rattle.rela_spec.specs.Grammar.{Spells, IsSyntax, IsTooDeep, IsBadNumber, IsFault};
+ghost use Rattle.rela_spec.specs.Depth.{IsLow};
+ghost use Rattle.rela_spec.specs.ReadFile.{read_items, read_file};
+
+mod cursor;
+mod items;
+mod members;
+mod numbers;
+mod paths;
+mod predicates;
+mod specs;
+
+use crate::tree::{Item, SpecFile};
+use cursor::Cursor;
+use items::{item, level_line};
+use numbers::bad_number;
+use rela_lex::{SpecError, Token};
+use rela_names::List;
+use std::alloc::Global;
+
+/// The greatest number of brackets that may be open at once.
+const MAX_OPEN_BRACKETS: usize = 100;
+
+/// The tree that the tokens spell. `end` is the number of bytes in the text.
+///
+/// # Errors
+///
+/// `Syntax` at the first token such that no text of the grammar begins with the tokens up to and
+/// with it, or at `end` where the tokens only begin such a text; `TooDeep` at the first bracket
+/// after which more than 100 are open. Of the two the one that comes first. Where neither comes,
+/// `BadNumber` at the first number that is above 64 or has a leading zero and is not `0`. `Memory`.
+pub fn parse(alloc: Global, tokens: &[Token], end: u32) -> Result<SpecFile, SpecError>
+    // What is read is spelled so, and what is refused has its fault there.
+    ensures tree { IfOk result (λ file. Spells tokens.now file) }
+    ensures fault { IfErr result (λ e. IsFault tokens.now end e) }
+
+    // What is spelled is read, and what has a fault is refused there, unless memory runs out.
+    ensures spelled { (tree : SpecFile) → Spells tokens.now tree
+        → MatchResult result (λ file. file ≡ tree) (λ e. e ≡ Memory) }
+    ensures syntax { (at : ℕ) → IsSyntax tokens.now end at
+        → MatchResult result (λ _. ⊥) (λ e. (e ≡ Syntax at) ⊎ (e ≡ Memory)) }
+    ensures too_deep { (at : ℕ) → IsTooDeep tokens.now at
+        → MatchResult result (λ _. ⊥) (λ e. (e ≡ TooDeep at) ⊎ (e ≡ Memory)) }
+    ensures bad_number { (at : ℕ) → IsBadNumber tokens.now at
+        → MatchResult result (λ _. ⊥) (λ e. (e ≡ BadNumber at) ⊎ (e ≡ Memory)) }
+
+    // No predicate is deeper than 1,000.
+    ensures low { IfOk result (λ file. All IsLow file.items) }
+{
+    match file(alloc, tokens, end) {
+        Err(refused) => Err(refused),
+        Ok(file) => match bad_number(tokens) {
+            Some(at) => Err(SpecError::BadNumber { at }),
+            None => Ok(file),
+        },
+    }
+}
+
+/// The tree of the tokens, in which each bad number counts as 0.
+#[tactic(auto, unfolding(crate::specs::ReadFile::read_file))]
+fn file(alloc: Global, tokens: &[Token], end: u32) -> Result<SpecFile, SpecError>
+    ensures read { IfOk result (λ file. read_file end 100 tokens.now ≡ Ok (file, [])) }
+    ensures fault { IfErr result (λ e. e ≢ Memory → read_file end 100 tokens.now ≡ Err e) }
+    ensures low { IfOk result (λ file. All IsLow file.items) }
+{
+    let mut cursor = Cursor::new(tokens, end);
+    let level = level_line(&mut cursor)?;
+    let items = all_items(alloc, &mut cursor)?;
+    Ok(SpecFile {
+        level,
+        items: List::from_vec(items),
+    })
+}
+
+/// The items that are left.
+#[tactic(auto, unfolding(crate::specs::ReadFile::read_items))]
+fn all_items(alloc: Global, cursor: &mut Cursor) -> Result<Vec<Item>, SpecError>
+    ensures end { cursor.new.end ≡ cursor.old.end }
+    ensures all { OnOk result (cursor.new.rest.now ≡ []) }
+    ensures read { IfOk result (λ items. read_items cursor.old.end 100 cursor.old.rest.now ≡ Ok (items.items, cursor.new.rest.now)) }
+    ensures fault { IfErr result (λ e. e ≢ Memory → read_items cursor.old.end 100 cursor.old.rest.now ≡ Err e) }
+    ensures low { IfOk result (λ items. All IsLow items.items) }
+{
+    let mut items = Vec::new(alloc);
+    while cursor.has_next() {
+        items.push(item(alloc, cursor, MAX_OPEN_BRACKETS)?)?;
+    }
+    Ok(items)
+}
