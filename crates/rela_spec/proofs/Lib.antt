@@ -7,6 +7,7 @@ pub mod ExactPredicates
 pub mod ExactPrefixes
 pub mod ExactSpecs
 pub mod ExactWords
+pub mod FullTrees
 pub mod JoinedTexts
 pub mod Leading
 pub mod Loops
