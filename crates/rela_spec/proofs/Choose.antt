@@ -113,7 +113,6 @@ passes_too : (passes : TokenKind → Bool) (r before now y : List Token) → r �
 passes_too passes r before now y joined same = sym (same_passes passes r (before ++ y) (same_after r before now y joined same))
 
 module _ {A : Type 0} (R S : ℕ → Phrase A) (passes goes_on : TokenKind → Bool) (room from to end : ℕ) where
-
   first_of_two : Avoids S passes goes_on → (r : List Token) → next_is passes r ≡ true → (found : Result (A × List Token) SpecError)
       → Outcome R goes_on room from to end r found → Outcome (λ d. R d or S d) goes_on room from to end r found
   first_of_two avoids r next (Ok found) h = record {
@@ -231,7 +230,6 @@ pub record Valued {A : Type 0} (Has : Token → A → Type 0) (value : Token →
   pub has : Has sample sampled
 
 module _ {A : Type 0} (Has : Token → A → Type 0) (value : Token → Option A) (goes_on : TokenKind → Bool) (least room from to end : ℕ) (valued : Valued Has value from to) where
-
   same_some : (v w : A) → Some v ≡ Some w → v ≡ w
   same_some v w e = cc
 
@@ -257,11 +255,11 @@ module _ {A : Type 0} (Has : Token → A → Type 0) (value : Token → Option A
     joined = refl;
     spelled = λ d le k. (t, refl, valued.sound t v e);
     only = λ d y same w b h stops.
-      let both : t ∷ y ≡ h.0 ∷ b = h.1 in
-      let one : h.0 ≡ t = cc in
-      let rest : b ≡ y = cc in
-      let some : Some w ≡ Some v = sym (valued.complete h.0 w h.2) ∙ ap value one ∙ e in
-      (same_some w v some, rest);
+        let both : t ∷ y ≡ h.0 ∷ b = h.1 in
+        let one : h.0 ≡ t = cc in
+        let rest : b ≡ y = cc in
+        let some : Some w ≡ Some v = sym (valued.complete h.0 w h.2) ∙ ap value one ∙ e in
+        (same_some w v some, rest);
     level = level_of t v (valued.sound t v e);
   }
   token_found t ts None e = record {

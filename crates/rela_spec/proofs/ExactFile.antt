@@ -39,7 +39,6 @@ abbrev pub anything : TokenKind → Bool
 anything kind = true
 
 module _ (end : ℕ) where
-
   abbrev starts_level : TokenKind → Bool
   starts_level kind = is_word_of (codes "interface") kind || (is_word_of (codes "device") kind || is_word_of (codes "group") kind)
 
@@ -102,7 +101,7 @@ module _ (end : ℕ) where
   exact_when_of room at_most n =
       exact_then (λ d. condition d) (body_of at_most n) condition_goes_on nothing 0 room room room room end (read_condition end room) (read_body_of room at_most n) (omega arith) (exact_condition room) (exact_body_of room at_most n)
       (follows_begins (body_of at_most n) (is_mark_of 58) condition_goes_on nothing
-        (λ when. begins_then (λ d. mark 58) (λ _ d. body d >>= λ s. mark 59 >> done (item.Check at_most n.name n.at when s)) (is_mark_of 58) (begins_mark 58)) (apart_mark 58 condition_goes_on refl))
+      (λ when. begins_then (λ d. mark 58) (λ _ d. body d >>= λ s. mark 59 >> done (item.Check at_most n.name n.at when s)) (is_mark_of 58) (begins_mark 58)) (apart_mark 58 condition_goes_on refl))
 
   abbrev name_of : Bool → ℕ → Phrase Item
   name_of at_most d = name >>= λ n. when_of at_most n d

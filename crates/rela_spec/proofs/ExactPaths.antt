@@ -27,16 +27,15 @@ use Rattle.rela_spec.proofs.ExactWords.{nothing, stops_nothing, stops_first, sto
 use Rattle.rela_spec.proofs.Leading.{Leading, widen, behind_mark, led_mark, led_word, led_or, or_mark, or_word, mark_or_else, make_of, led_make, led_then, closed_by, led_open, closes_to, led_chain}
 
 module _ (end : ℕ) where
-
   pub led_picked_by : (room level : ℕ) → Leading (λ d. picked_by) is_picking nothing 0 room level level end (read_picked_by end)
   unfolding picked_by read_picked_by
   led_picked_by room level =
       or_word (codes "interface") (omega arith) (exact_done by.Interface nothing 0 room level end)
       (or_word (codes "device") (omega arith) (exact_done by.Device nothing 0 room level end)
-        (or_word (codes "group") (omega arith) (exact_done by.Group nothing 0 room level end)
-          (led_word (codes "tag") (omega arith) (exact_done by.Tag nothing 0 room level end))
-          refl)
-        refl)
+      (or_word (codes "group") (omega arith) (exact_done by.Group nothing 0 room level end)
+      (led_word (codes "tag") (omega arith) (exact_done by.Tag nothing 0 room level end))
+      refl)
+      refl)
       refl
 
   pub named_inside : (inner room : ℕ) → room ≡ suc inner → Exact (λ d. name >>= λ n. mark 41 >> done n) nothing 0 inner inner room end (λ ts. and_read (read_name end ts) (λ n ts. and_read (read_mark end 41 ts) (λ _. read_done n)))
@@ -55,7 +54,7 @@ module _ (end : ℕ) where
   picking_apart =
       apart_or (is_word_of (codes "interface")) (λ kind. is_word_of (codes "device") kind || (is_word_of (codes "group") kind || is_word_of (codes "tag") kind)) is_name_kind (apart_word (codes "interface") is_name_kind refl)
       (apart_or (is_word_of (codes "device")) (λ kind. is_word_of (codes "group") kind || is_word_of (codes "tag") kind) is_name_kind (apart_word (codes "device") is_name_kind refl)
-        (apart_or (is_word_of (codes "group")) (is_word_of (codes "tag")) is_name_kind (apart_word (codes "group") is_name_kind refl) (apart_word (codes "tag") is_name_kind refl)))
+      (apart_or (is_word_of (codes "group")) (is_word_of (codes "tag")) is_name_kind (apart_word (codes "group") is_name_kind refl) (apart_word (codes "tag") is_name_kind refl)))
 
   led_here : (room level : ℕ) → Leading (λ d. name >>= λ n. done (member.Here n.name n.at)) is_name_kind nothing 0 room level level end (λ ts. and_read (read_name end ts) (λ n. read_done (member.Here n.name n.at)))
   led_here room level = led_make (λ n. member.Here n.name n.at) (omega arith) (record { exact = exact_name nothing 0 room level end; begins = begins_name })
@@ -66,8 +65,8 @@ module _ (end : ℕ) where
       let here = led_here room room in
       or_word (codes "drop") (omega arith) (exact_done member.Drop nothing 0 room room end)
       (or_word (codes "loop") (omega arith) (exact_done member.Loop nothing 0 room room end)
-        (led_or {least = 0} (led_picked room) here picking_apart (second_completes (λ d. picked d) (λ d. name >>= λ n. done (member.Here n.name n.at)) 0 here.exact.completed))
-        refl)
+      (led_or {least = 0} (led_picked room) here picking_apart (second_completes (λ d. picked d) (λ d. name >>= λ n. done (member.Here n.name n.at)) 0 here.exact.completed))
+      refl)
       refl
 
   exact_whether : (byte room level : ℕ) → room_after (Mark byte) level ≡ Some level → Exact (λ d. whether (mark byte)) (is_mark_of byte) 0 room level level end (whether_mark end byte)
@@ -161,13 +160,13 @@ module _ (end : ℕ) where
   exact_postfix room e =
       mark_or_else 42 room (omega arith) refl (exact_done (expr.Star e) is_postfix 0 room room end)
       (mark_or_else 43 room (omega arith) refl (exact_done (expr.Plus e) is_postfix 0 room room end)
-        (mark_or_else 63 room (omega arith) refl (exact_done (expr.Maybe e) is_postfix 0 room room end) (several_or_done room e)
-          (avoids_last e (is_mark_of 63) (apart_mark 63 (is_mark_of 123) refl) stops_maybe))
-        (avoids_or (marked 63 (expr.Maybe e)) (λ d. several e d or done e) (is_mark_of 43) is_postfix (avoids_marked 63 (expr.Maybe e) (is_mark_of 43) (apart_mark 43 (is_mark_of 63) refl))
-          (avoids_last e (is_mark_of 43) (apart_mark 43 (is_mark_of 123) refl) stops_plus)))
+      (mark_or_else 63 room (omega arith) refl (exact_done (expr.Maybe e) is_postfix 0 room room end) (several_or_done room e)
+      (avoids_last e (is_mark_of 63) (apart_mark 63 (is_mark_of 123) refl) stops_maybe))
+      (avoids_or (marked 63 (expr.Maybe e)) (λ d. several e d or done e) (is_mark_of 43) is_postfix (avoids_marked 63 (expr.Maybe e) (is_mark_of 43) (apart_mark 43 (is_mark_of 63) refl))
+      (avoids_last e (is_mark_of 43) (apart_mark 43 (is_mark_of 123) refl) stops_plus)))
       (avoids_or (marked 43 (expr.Plus e)) (λ d. marked 63 (expr.Maybe e) d or (several e d or done e)) (is_mark_of 42) is_postfix (avoids_marked 43 (expr.Plus e) (is_mark_of 42) (apart_mark 42 (is_mark_of 43) refl))
-        (avoids_or (marked 63 (expr.Maybe e)) (λ d. several e d or done e) (is_mark_of 42) is_postfix (avoids_marked 63 (expr.Maybe e) (is_mark_of 42) (apart_mark 42 (is_mark_of 63) refl))
-          (avoids_last e (is_mark_of 42) (apart_mark 42 (is_mark_of 123) refl) stops_star)))
+      (avoids_or (marked 63 (expr.Maybe e)) (λ d. several e d or done e) (is_mark_of 42) is_postfix (avoids_marked 63 (expr.Maybe e) (is_mark_of 42) (apart_mark 42 (is_mark_of 63) refl))
+      (avoids_last e (is_mark_of 42) (apart_mark 42 (is_mark_of 123) refl) stops_star)))
 
   -- what stands in the brackets, where so many may be nested
   abbrev pub inner_path : ℕ → Phrase PathExpr
@@ -283,20 +282,20 @@ module _ (end : ℕ) where
   members_apart =
       apart_or (is_word_of (codes "drop")) (λ kind. is_word_of (codes "loop") kind || (is_picking kind || is_name_kind kind)) is_postfix (words_apart (codes "drop"))
       (apart_or (is_word_of (codes "loop")) (λ kind. is_picking kind || is_name_kind kind) is_postfix (words_apart (codes "loop"))
-        (apart_or is_picking is_name_kind is_postfix
-          (apart_or (is_word_of (codes "interface")) (λ kind. is_word_of (codes "device") kind || (is_word_of (codes "group") kind || is_word_of (codes "tag") kind)) is_postfix (words_apart (codes "interface"))
-            (apart_or (is_word_of (codes "device")) (λ kind. is_word_of (codes "group") kind || is_word_of (codes "tag") kind) is_postfix (words_apart (codes "device"))
-              (apart_or (is_word_of (codes "group")) (is_word_of (codes "tag")) is_postfix (words_apart (codes "group")) (words_apart (codes "tag")))))
-          names_apart))
+      (apart_or is_picking is_name_kind is_postfix
+      (apart_or (is_word_of (codes "interface")) (λ kind. is_word_of (codes "device") kind || (is_word_of (codes "group") kind || is_word_of (codes "tag") kind)) is_postfix (words_apart (codes "interface"))
+      (apart_or (is_word_of (codes "device")) (λ kind. is_word_of (codes "group") kind || is_word_of (codes "tag") kind) is_postfix (words_apart (codes "device"))
+      (apart_or (is_word_of (codes "group")) (is_word_of (codes "tag")) is_postfix (words_apart (codes "group")) (words_apart (codes "tag")))))
+      names_apart))
 
   starts_apart : Apart starts_path is_postfix
   unfolding starts_path
   starts_apart =
       apart_or (is_mark_of 33) starts_atom is_postfix (apart_mark 33 is_postfix refl)
       (apart_or (is_mark_of 46) (λ kind. is_mark_of 40 kind || (is_mark_of 91 kind || (is_reference_kind kind || starts_member kind))) is_postfix (apart_mark 46 is_postfix refl)
-        (apart_or (is_mark_of 40) (λ kind. is_mark_of 91 kind || (is_reference_kind kind || starts_member kind)) is_postfix (apart_mark 40 is_postfix refl)
-          (apart_or (is_mark_of 91) (λ kind. is_reference_kind kind || starts_member kind) is_postfix (apart_mark 91 is_postfix refl)
-            (apart_or is_reference_kind starts_member is_postfix references_apart members_apart))))
+      (apart_or (is_mark_of 40) (λ kind. is_mark_of 91 kind || (is_reference_kind kind || starts_member kind)) is_postfix (apart_mark 40 is_postfix refl)
+      (apart_or (is_mark_of 91) (λ kind. is_reference_kind kind || starts_member kind) is_postfix (apart_mark 91 is_postfix refl)
+      (apart_or is_reference_kind starts_member is_postfix references_apart members_apart))))
 
   to_next : (d : ℕ) (a : List Token) (v : PathExpr) (b : List Token) → one_negation d a v b → (done tt >> one_negation d) a v b
   to_next d a v b h = (tt, a, (refl, refl), h)

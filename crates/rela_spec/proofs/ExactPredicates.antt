@@ -22,7 +22,6 @@ use Rattle.rela_spec.proofs.ExactWords.{nothing, Apart, apart_mark, apart_word, 
 use Rattle.rela_spec.proofs.Leading.{Leading, led_mark, led_word, led_or, or_mark, or_word, make_of, closed_by, led_open, closes_to, led_chain, chain_one}
 
 module _ (end : ℕ) where
-
   abbrev starts_placed : TokenKind → Bool
   starts_placed kind = is_word_of (codes "in") kind || is_word_of (codes "overlaps") kind
 
@@ -42,12 +41,12 @@ module _ (end : ℕ) where
   led_test room level =
       or_word (codes "all") (omega arith) (exact_done flows.All nothing 0 room level end)
       (or_word (codes "dst") (omega arith) (led_placed flows.DstIn flows.DstOverlaps room level).exact
-        (or_word (codes "src") (omega arith) (led_placed flows.SrcIn flows.SrcOverlaps room level).exact
-          (or_word (codes "flow") (omega arith) (make_of (λ n. flows.Flow n.name) (omega arith) (exact_name nothing 0 room level end))
-            (led_word (codes "class") (omega arith) (make_of (λ n. flows.Class n.name) (omega arith) (exact_name nothing 0 room level end)))
-            refl)
-          refl)
-        refl)
+      (or_word (codes "src") (omega arith) (led_placed flows.SrcIn flows.SrcOverlaps room level).exact
+      (or_word (codes "flow") (omega arith) (make_of (λ n. flows.Flow n.name) (omega arith) (exact_name nothing 0 room level end))
+      (led_word (codes "class") (omega arith) (make_of (λ n. flows.Class n.name) (omega arith) (exact_name nothing 0 room level end)))
+      refl)
+      refl)
+      refl)
       refl
 
   -- what stands in the brackets, where so many may be nested

@@ -28,7 +28,6 @@ use Rattle.rela_spec.proofs.ExactPaths.{path_goes_on, led_path}
 use Rattle.rela_spec.proofs.Leading.{Leading, widen, behind_mark, led_mark, led_word, led_or, or_mark, or_word, make_of, led_make, led_then, closed_by, led_open, closes_to, led_chain, chain_one}
 
 module _ (end : ℕ) where
-
   -- the path expression behind a bracket
   inside_path : (inner room : ℕ) → room ≡ suc inner → Exact (λ d. path d) (path_goes_on end) 0 inner inner inner end (read_path end (room - 1))
   inside_path inner room e =
@@ -59,7 +58,7 @@ module _ (end : ℕ) where
       (λ old ts. and_read (read_mark end 44 ts) (λ _ ts. and_read (read_path end (room - 1) ts) (λ new ts. and_read (read_mark end 41 ts) (λ _. read_done (modifier.Replace old new))))) (omega arith)
       (inside_path inner room e) (replaced_by inner room e)
       (follows_begins (λ old d. mark 44 >> (path d >>= λ new. mark 41 >> done (modifier.Replace old new))) (is_mark_of 44) (path_goes_on end) nothing
-        (λ old. begins_then (λ d. mark 44) (λ _ d. path d >>= λ new. mark 41 >> done (modifier.Replace old new)) (is_mark_of 44) (begins_mark 44)) (apart_mark 44 (path_goes_on end) refl))
+      (λ old. begins_then (λ d. mark 44) (λ _ d. path d >>= λ new. mark 41 >> done (modifier.Replace old new)) (is_mark_of 44) (begins_mark 44)) (apart_mark 44 (path_goes_on end) refl))
 
   pub led_replacement : (room : ℕ) → Leading (λ d. replacement d) (is_mark_of 40) nothing 1 room room room end (read_replacement end room)
   unfolding replacement read_replacement
@@ -69,7 +68,7 @@ module _ (end : ℕ) where
   starts_change kind =
       is_word_of (codes "preserve") kind
       || (is_word_of (codes "drop") kind
-        || (is_word_of (codes "add") kind || (is_word_of (codes "remove") kind || (is_word_of (codes "replace") kind || (is_word_of (codes "any") kind || is_word_of (codes "ignore") kind)))))
+      || (is_word_of (codes "add") kind || (is_word_of (codes "remove") kind || (is_word_of (codes "replace") kind || (is_word_of (codes "any") kind || is_word_of (codes "ignore") kind)))))
 
   pub led_change : (room : ℕ) → Leading (λ d. change d) starts_change nothing 0 room room room end (read_change end room)
   unfolding change read_change
@@ -78,16 +77,16 @@ module _ (end : ℕ) where
       let an_argument = (led_argument room).exact in
       or_word (codes "preserve") (omega arith) (exact_done modifier.Preserve nothing 0 room room end)
       (or_word (codes "drop") (omega arith) (exact_done modifier.Drop nothing 0 room room end)
-        (or_word (codes "add") few (make_of (λ e. modifier.Add e) few an_argument)
-          (or_word (codes "remove") few (make_of (λ e. modifier.Remove e) few an_argument)
-            (or_word (codes "replace") few (led_replacement room).exact
-              (or_word (codes "any") few (make_of (λ e. modifier.AnyOf e) few an_argument)
-                (led_word (codes "ignore") few (make_of (λ e. modifier.Ignore e) few an_argument))
-                refl)
-              refl)
-            refl)
-          refl)
-        refl)
+      (or_word (codes "add") few (make_of (λ e. modifier.Add e) few an_argument)
+      (or_word (codes "remove") few (make_of (λ e. modifier.Remove e) few an_argument)
+      (or_word (codes "replace") few (led_replacement room).exact
+      (or_word (codes "any") few (make_of (λ e. modifier.AnyOf e) few an_argument)
+      (led_word (codes "ignore") few (make_of (λ e. modifier.Ignore e) few an_argument))
+      refl)
+      refl)
+      refl)
+      refl)
+      refl)
       refl
 
   abbrev changes : PathExpr → ℕ → Phrase SpecExpr
@@ -154,7 +153,7 @@ module _ (end : ℕ) where
   one_reference d inside b =
       chain_one spec.Else (word (codes "else")) (chain spec.Then (word (codes "then")) (single d inside)) (a_reference ∷ b) (spec.Reference (codes "a") 0) b
       (chain_one spec.Then (word (codes "then")) (single d inside) (a_reference ∷ b) (spec.Reference (codes "a") 0) b
-        (inl (record { name = codes "a"; at = 0 }, b, (a_reference, refl, (refl, refl)), (refl, refl))))
+      (inl (record { name = codes "a"; at = 0 }, b, (a_reference, refl, (refl, refl)), (refl, refl))))
 
   one_body : (d : ℕ) (b : List Token) → body d (a_reference ∷ b) (spec.Reference (codes "a") 0) b
   unfolding body

@@ -92,6 +92,7 @@ begins_or R S f g first second d a v b (inr h) = passes_right f g a (second d a 
     or_true : (x : Bool) → (x || true) ≡ true
     or_true true = refl
     or_true false = refl
+
     passes_right : (f g : TokenKind → Bool) (ts : List Token) → next_is g ts ≡ true → next_is (λ kind. f kind || g kind) ts ≡ true
     passes_right f g [] e = e
     passes_right f g (t ∷ ts) e = ap (λ (x : Bool). f t.kind || x) e ∙ or_true (f t.kind)

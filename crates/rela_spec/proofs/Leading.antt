@@ -22,7 +22,6 @@ pub record Leading {A : Type 0} (R : ℕ → Phrase A) (passes goes_on : TokenKi
   pub begins : Begins R passes
 
 module _ {A : Type 0} {c : TokenKind → Bool} {least room from to end : ℕ} where
-
   -- what goes on with nothing may go on with anything
   pub widen : {R : ℕ → Phrase A} {p : Reading A} → (few : ℕ) → few ≤ least → Exact R nothing few room from to end p → Exact R c least room from to end p
   widen {R} {p} few le exact = weaken R p nothing c few least room from to end le (λ b _. stops_nothing b) exact

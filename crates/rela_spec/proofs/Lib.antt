@@ -11,6 +11,7 @@ pub mod ExactPrefixes
 pub mod ExactSpecs
 pub mod ExactWords
 pub mod ItemsBack
+pub mod FullTrees
 pub mod JoinedTexts
 pub mod Leading
 pub mod Levels

@@ -15,7 +15,6 @@ pub record Gathers {A : Type 0} (passes : TokenKind → Bool) (p : Reading A) (b
   pub same : read_onto so_far (read_many passes p left) rest ≡ read_onto before (read_all passes p) tokens
 
 module _ {A : Type 0} (passes : TokenKind → Bool) (p : Reading A) where
-
   pub gathers_start : (before : List A) (tokens : List Token) → Gathers passes p before tokens before tokens
   unfolding read_all
   gathers_start before tokens = record { left = length tokens; enough = omega arith; same = refl }
@@ -88,7 +87,6 @@ module _ {A : Type 0} (passes : TokenKind → Bool) (p : Reading A) where
       onto_none (Err e) = refl
 
   module _ (join : List A → A) (part : Reading A) where
-
     chain_of : Result (A × List Token) SpecError → Result (A × List Token) SpecError
     chain_of found = and_read found (λ first ts. and_read (read_all passes p ts) (λ others. read_done (joined_parts join first others)))
 
@@ -120,6 +118,7 @@ module _ {A : Type 0} (passes : TokenKind → Bool) (p : Reading A) where
             let clash : v ∷ found.0 ≡ [] = ap (λ (x : List A × List Token). x.0) both in
             absurd (let apart = clash in cc)
         behind v (Err f) h = absurd (let clash = h in cc)
+
         some : (found : Result (A × List Token) SpecError) → and_read found (λ v ts. and_read (read_many passes p n ts) (λ vs. read_done (v ∷ vs))) ≡ Ok ([], now) → ⊥
         some (Ok found) h = behind found.0 (read_many passes p n found.1) h
         some (Err f) h = absurd (let clash = h in cc)
@@ -139,7 +138,6 @@ module _ {A : Type 0} (passes : TokenKind → Bool) (p : Reading A) where
 -- The same for a loop whose reading takes the end of the text, which the loop keeps.
 module _ {A : Type 0} (passes : TokenKind → Bool) (p : ℕ → Reading A) (end now_end : ℕ) (kept : now_end ≡ end) (before : List A) (tokens : List Token) (so_far : List A) (rest : List Token)
     (g : Gathers passes (p end) before tokens so_far rest) where
-
   pub loop_more : (v : A) (pushed : List A) (now : List Token) → next_is passes rest ≡ true → p now_end rest ≡ Ok (v, now) → length now < length rest → pushed ≡ so_far ++ v ∷ []
       → Gathers passes (p end) before tokens pushed now
   loop_more v pushed now next read less items =

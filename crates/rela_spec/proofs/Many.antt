@@ -19,7 +19,6 @@ not_both : (b : Bool) → b ≡ true → b ≡ false → ⊥
 not_both b yes_it no_it = let never : true ≡ false = sym yes_it ∙ no_it in absurd (let clash = never in cc)
 
 module _ {A : Type 0} (R : ℕ → Phrase A) (passes first_goes_on goes_on : TokenKind → Bool) (least room level end : ℕ) (p : Reading A) where
-
   abbrev some_of : ℕ → Phrase (List A)
   some_of d = R d >>= λ v. many (R d) >>= λ vs. done (v ∷ vs)
 
@@ -70,15 +69,15 @@ module _ {A : Type 0} (R : ℕ → Phrase A) (passes first_goes_on goes_on : Tok
   many_exact parts zero =
       exact_as (λ d. some_of d or done []) (λ d. many (R d)) (read_many passes p zero) goes_on 0 room level level end to_many from_many
       (exact_choose some_of (λ d. done []) passes goes_on room level level end 0 least 0 (λ _. Err Memory) (read_done []) (some_begins parts) (none_avoids parts)
-        (record { outcome = λ r. tt; completed = some_completes parts })
-        (exact_done [] goes_on 0 room level end) nothing_completes)
+      (record { outcome = λ r. tt; completed = some_completes parts })
+      (exact_done [] goes_on 0 room level end) nothing_completes)
   many_exact parts (suc n) =
       exact_as (λ d. some_of d or done []) (λ d. many (R d)) (read_many passes p (suc n)) goes_on 0 room level level end to_many from_many
       (exact_choose some_of (λ d. done []) passes goes_on room level level end 0 least 0
-        (λ ts. and_read (p ts) (λ v ts. and_read (read_many passes p n ts) (λ vs. read_done (v ∷ vs)))) (read_done []) (some_begins parts) (none_avoids parts)
-        (exact_then R (λ v d. many (R d) >>= λ vs. done (v ∷ vs)) first_goes_on goes_on least room level level level end p
-          (λ v ts. and_read (read_many passes p n ts) (λ vs. read_done (v ∷ vs))) parts.few parts.part (λ v. more_exact parts n (many_exact parts n) v) (some_follows parts))
-        (exact_done [] goes_on 0 room level end) nothing_completes)
+      (λ ts. and_read (p ts) (λ v ts. and_read (read_many passes p n ts) (λ vs. read_done (v ∷ vs)))) (read_done []) (some_begins parts) (none_avoids parts)
+      (exact_then R (λ v d. many (R d) >>= λ vs. done (v ∷ vs)) first_goes_on goes_on least room level level level end p
+      (λ v ts. and_read (read_many passes p n ts) (λ vs. read_done (v ∷ vs))) parts.few parts.part (λ v. more_exact parts n (many_exact parts n) v) (some_follows parts))
+      (exact_done [] goes_on 0 room level end) nothing_completes)
 
   pub all_exact : Parts → Exact (λ d. many (R d)) goes_on 0 room level level end (read_all passes p)
   unfolding read_all
@@ -94,15 +93,16 @@ exact_chain join between R passes first_goes_on goes_on least room level end nex
     exact_then R (λ first d. many (between >> R d) >>= λ others. done (joined_parts join first others)) first_goes_on goes_on least room level level level end part
     (λ first ts. and_read (read_all passes next ts) (λ others. read_done (joined_parts join first others))) few first
     (λ first. exact_then (λ d. many (between >> R d)) (λ others d. done (joined_parts join first others)) goes_on goes_on least room level level level end (read_all passes next)
-      (λ others. read_done (joined_parts join first others)) few
-      (weaken (λ d. many (between >> R d)) (read_all passes next) goes_on goes_on 0 least room level level end (omega arith) (λ b h. h)
-        (all_exact (λ d. between >> R d) passes first_goes_on goes_on least room level end next parts))
-      (λ others. exact_done (joined_parts join first others) goes_on least room level end)
-      (λ vs d m w b h stop. subst (Stops goes_on) (sym h.1) stop))
+    (λ others. read_done (joined_parts join first others)) few
+    (weaken (λ d. many (between >> R d)) (read_all passes next) goes_on goes_on 0 least room level level end (omega arith) (λ b h. h)
+    (all_exact (λ d. between >> R d) passes first_goes_on goes_on least room level end next parts))
+    (λ others. exact_done (joined_parts join first others) goes_on least room level end)
+    (λ vs d m w b h stop. subst (Stops goes_on) (sym h.1) stop))
     (λ v d m w b h stop. follows d m h.0 h.1 b h.2 h.3.1 stop)
   where
     parts : Parts (λ d. between >> R d) passes first_goes_on goes_on least room level end next
     parts = record { few = few; part = more; begins = begins; ends_part = ends_part; ends = ends; stops = stops }
+
     follows : (d : ℕ) (m : List Token) (others : List _) (n b : List Token) → many (between >> R d) m others n → n ≡ b → Stops goes_on b → Stops first_goes_on m
     follows d m [] n b spelled last stop = ends m (subst (Stops goes_on) (sym (spelled ∙ last)) stop)
     follows d m (x ∷ xs) n b spelled last stop = ends_part m (begins d m x spelled.0 spelled.1)

@@ -31,7 +31,6 @@ unfolding room_behind
 room_behind_opened t ts room e = ap (option_and_then (λ left. room_behind left ts)) (room_opened t.kind (suc room) e)
 
 module _ {A : Type 0} (S : ℕ → Phrase A) (byte : ℕ) (is_opening : opens (Mark byte) ≡ true) (goes_on : TokenKind → Bool) (to end : ℕ) (completed : Completed S 0) where
-
   abbrev whole_of : ℕ → Phrase A
   whole_of d = bracketed d (mark byte) S
 

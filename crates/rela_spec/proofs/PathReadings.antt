@@ -33,7 +33,6 @@ chain_is joint.Seq end room ts = refl
 
 -- what the exits of a chain's reading need
 module _ (j : Joint) (end room : ℕ) (tokens : List Token) where
-
   pub alone_at : (first : PathExpr) (rest : List Token) → part_at j end room tokens ≡ Ok (first, rest) → next_is (goes_on j) rest ≡ false → chain_at j end room tokens ≡ Ok (first, rest)
   alone_at first rest read next = chain_is j end room tokens ∙ chain_alone (goes_on j) (next_at j end room) (form j) (part_at j end room) tokens first rest read next
 

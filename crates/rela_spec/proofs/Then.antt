@@ -14,7 +14,6 @@ abbrev pub Follows : {A B : Type 0} → (A → ℕ → Phrase B) → (first_goes
 Follows {A} {B} S first_goes_on goes_on = (v : A) (d : ℕ) (m : List Token) (w : B) (b : List Token) → S v d m w b → Stops goes_on b → Stops first_goes_on m
 
 module _ {A B : Type 0} (R : ℕ → Phrase A) (S : A → ℕ → Phrase B) (first_goes_on goes_on : TokenKind → Bool) (least room from mid to end : ℕ) where
-
   regroup : (v : A) (d : ℕ) (m xs ys zs : List Token) → R d (xs ++ (ys ++ zs)) v m → R d ((xs ++ ys) ++ zs) v m
   regroup v d m xs ys zs h = subst (λ (x : List Token). R d x v m) (sym (append_assoc xs ys zs)) h
 

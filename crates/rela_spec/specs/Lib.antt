@@ -1,4 +1,5 @@
 pub mod Depth
+pub mod Full
 pub mod Grammar
 pub mod GrammarPaths
 pub mod GrammarPredicates

@@ -159,9 +159,9 @@ short_by : (notation : _) (text : List ℕ) (i : ℕ) → IsFirstGap text i → 
     → (((fields : _) → (None ≡ Some fields) ↔ Write notation (drop (i + 2) text) fields) → (a : ℕ) → IsIpv6Address text a → ⊥)
     → ((l r : _) → ((fields : _) → (Some l ≡ Some fields) ↔ Write notation (take i text) fields) → ((fields : _) → (Some r ≡ Some fields) ↔ Write notation (drop (i + 2) text) fields) → 7 < l.count + r.count → (a : ℕ) → IsIpv6Address text a → ⊥)
     → ((l r : _) → ((fields : _) → (Some l ≡ Some fields) ↔ Write notation (take i text) fields) → ((fields : _) → (Some r ≡ Some fields) ↔ Write notation (drop (i + 2) text) fields) → l.count + r.count ≤ 7
-      → IsIpv6Address text (l.number * 2 ^ (16 * (8 - l.count)) + r.number))
+    → IsIpv6Address text (l.number * 2 ^ (16 * (8 - l.count)) + r.number))
     → ((l r : _) → ((fields : _) → (Some l ≡ Some fields) ↔ Write notation (take i text) fields) → ((fields : _) → (Some r ≡ Some fields) ↔ Write notation (drop (i + 2) text) fields) → l.count + r.count ≤ 7
-      → (a : ℕ) → IsIpv6Address text a → a ≡ l.number * 2 ^ (16 * (8 - l.count)) + r.number)
+    → (a : ℕ) → IsIpv6Address text a → a ≡ l.number * 2 ^ (16 * (8 - l.count)) + r.number)
     → Held (IsIpv6Address text)
 short_by notation text i first None p left right no_left no_right many reads only = not_held (IsIpv6Address text) (no_left left)
 short_by notation text i first (Some l) None left right no_left no_right many reads only = not_held (IsIpv6Address text) (no_right right)

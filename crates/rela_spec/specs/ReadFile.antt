@@ -17,7 +17,7 @@ unfoldable pub read_level_word : ℕ → Reading Level
 read_level_word end =
     choose (is_word_of (codes "interface")) (read_word end (codes "interface") >> read_done level.Interface)
     (choose (is_word_of (codes "device")) (read_word end (codes "device") >> read_done level.Device)
-      (read_word end (codes "group") >> read_done level.Group))
+    (read_word end (codes "group") >> read_done level.Group))
 
 unfoldable pub read_level_line : ℕ → Reading Level
 read_level_line end =
@@ -46,7 +46,7 @@ unfoldable pub read_item : ℕ → ℕ → Reading Item
 read_item end room =
     choose (is_word_of (codes "path")) (read_word end (codes "path") >> read_path_item end room)
     (choose (is_word_of (codes "spec")) (read_word end (codes "spec") >> read_spec_item end room)
-      (read_word end (codes "check") >> read_check_item end room))
+    (read_word end (codes "check") >> read_check_item end room))
 
 unfoldable pub read_items : ℕ → ℕ → Reading (List Item)
 read_items end room = read_all (λ _. true) (read_item end room)

@@ -18,8 +18,8 @@ unfoldable pub read_picked_by : ℕ → Reading By
 read_picked_by end =
     choose (is_word_of (codes "interface")) (read_word end (codes "interface") >> read_done by.Interface)
     (choose (is_word_of (codes "device")) (read_word end (codes "device") >> read_done by.Device)
-      (choose (is_word_of (codes "group")) (read_word end (codes "group") >> read_done by.Group)
-        (read_word end (codes "tag") >> read_done by.Tag)))
+    (choose (is_word_of (codes "group")) (read_word end (codes "group") >> read_done by.Group)
+    (read_word end (codes "tag") >> read_done by.Tag)))
 
 abbrev pub is_picking : TokenKind → Bool
 is_picking kind = is_word_of (codes "interface") kind || (is_word_of (codes "device") kind || (is_word_of (codes "group") kind || is_word_of (codes "tag") kind))
@@ -32,7 +32,7 @@ unfoldable pub read_member : ℕ → ℕ → Reading Member
 read_member end room =
     choose (is_word_of (codes "drop")) (read_word end (codes "drop") >> read_done member.Drop)
     (choose (is_word_of (codes "loop")) (read_word end (codes "loop") >> read_done member.Loop)
-      (choose is_picking (read_picked end room) (read_name end >>= λ n. read_done (member.Here n.name n.at))))
+    (choose is_picking (read_picked end room) (read_name end >>= λ n. read_done (member.Here n.name n.at))))
 
 unfoldable pub starts_member : TokenKind → Bool
 starts_member kind = is_word_of (codes "drop") kind || (is_word_of (codes "loop") kind || (is_picking kind || is_name_kind kind))
@@ -55,15 +55,15 @@ abbrev pub read_atom : ℕ → ℕ → Reading PathExpr → Reading PathExpr
 read_atom end room group =
     choose (is_mark_of 46) (read_mark end 46 >> read_done expr.Any)
     (choose (is_mark_of 40) group
-      (choose (is_mark_of 91) (read_class end room)
-        (choose is_reference_kind (read_reference end >>= λ n. read_done (expr.Reference n.name n.at)) (read_member end room >>= λ m. read_done (expr.One m)))))
+    (choose (is_mark_of 91) (read_class end room)
+    (choose is_reference_kind (read_reference end >>= λ n. read_done (expr.Reference n.name n.at)) (read_member end room >>= λ m. read_done (expr.One m)))))
 
 unfoldable pub read_postfix : ℕ → ℕ → PathExpr → Reading PathExpr
 read_postfix end room e =
     choose (is_mark_of 42) (read_mark end 42 >> read_done (expr.Star e))
     (choose (is_mark_of 43) (read_mark end 43 >> read_done (expr.Plus e))
-      (choose (is_mark_of 63) (read_mark end 63 >> read_done (expr.Maybe e))
-        (choose (is_mark_of 123) (read_times end room >>= λ n. read_done (expr.Times e n)) (read_done e))))
+    (choose (is_mark_of 63) (read_mark end 63 >> read_done (expr.Maybe e))
+    (choose (is_mark_of 123) (read_times end room >>= λ n. read_done (expr.Times e n)) (read_done e))))
 
 abbrev pub read_postfixed : ℕ → ℕ → Reading PathExpr → Reading PathExpr
 read_postfixed end room atom = atom >>= read_postfix end room

@@ -25,9 +25,9 @@ unfoldable pub read_test : ℕ → Reading Predicate
 read_test end =
     choose (is_word_of (codes "all")) (read_word end (codes "all") >> read_done flows.All)
     (choose (is_word_of (codes "dst")) (read_word end (codes "dst") >> read_destination end)
-      (choose (is_word_of (codes "src")) (read_word end (codes "src") >> read_source end)
-        (choose (is_word_of (codes "flow")) (read_word end (codes "flow") >> (read_name end >>= λ n. read_done (flows.Flow n.name)))
-          (read_word end (codes "class") >> (read_name end >>= λ n. read_done (flows.Class n.name))))))
+    (choose (is_word_of (codes "src")) (read_word end (codes "src") >> read_source end)
+    (choose (is_word_of (codes "flow")) (read_word end (codes "flow") >> (read_name end >>= λ n. read_done (flows.Flow n.name)))
+    (read_word end (codes "class") >> (read_name end >>= λ n. read_done (flows.Class n.name))))))
 
 abbrev pub read_group : ℕ → ℕ → Reading Predicate → Reading Predicate
 read_group end room inside = read_open end 40 room >> (inside >>= λ p. read_mark end 41 >> read_done p)

@@ -26,11 +26,11 @@ unfoldable pub read_change : ℕ → ℕ → Reading (Modifier PathExpr)
 read_change end room =
     choose (is_word_of (codes "preserve")) (read_word end (codes "preserve") >> read_done modifier.Preserve)
     (choose (is_word_of (codes "drop")) (read_word end (codes "drop") >> read_done modifier.Drop)
-      (choose (is_word_of (codes "add")) (read_word end (codes "add") >> (read_argument end room >>= λ e. read_done (modifier.Add e)))
-        (choose (is_word_of (codes "remove")) (read_word end (codes "remove") >> (read_argument end room >>= λ e. read_done (modifier.Remove e)))
-          (choose (is_word_of (codes "replace")) (read_word end (codes "replace") >> read_replacement end room)
-            (choose (is_word_of (codes "any")) (read_word end (codes "any") >> (read_argument end room >>= λ e. read_done (modifier.AnyOf e)))
-              (read_word end (codes "ignore") >> (read_argument end room >>= λ e. read_done (modifier.Ignore e))))))))
+    (choose (is_word_of (codes "add")) (read_word end (codes "add") >> (read_argument end room >>= λ e. read_done (modifier.Add e)))
+    (choose (is_word_of (codes "remove")) (read_word end (codes "remove") >> (read_argument end room >>= λ e. read_done (modifier.Remove e)))
+    (choose (is_word_of (codes "replace")) (read_word end (codes "replace") >> read_replacement end room)
+    (choose (is_word_of (codes "any")) (read_word end (codes "any") >> (read_argument end room >>= λ e. read_done (modifier.AnyOf e)))
+    (read_word end (codes "ignore") >> (read_argument end room >>= λ e. read_done (modifier.Ignore e))))))))
 
 unfoldable pub read_unit : ℕ → ℕ → Reading SpecExpr
 read_unit end room =

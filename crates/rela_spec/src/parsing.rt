@@ -6,6 +6,7 @@ ghost use Rattle.rela_lex.specs.declared.error.SpecError.TheVariants.{Syntax, To
 ghost use Rattle.rela_spec.specs.declared.tree.SpecFile.{SpecFile};
 ghost use Rattle.rela_spec.specs.Grammar.{Spells, IsSyntax, IsTooDeep, IsBadNumber, IsFault};
 ghost use Rattle.rela_spec.specs.Depth.{IsLow};
+ghost use Rattle.rela_spec.specs.Full.{IsFull};
 ghost use Rattle.rela_spec.specs.ReadFile.{read_items, read_file};
 
 mod cursor;
@@ -50,8 +51,9 @@ pub fn parse(alloc: Global, tokens: &[Token], end: u32) -> Result<SpecFile, Spec
     ensures bad_number { (at : ℕ) → IsBadNumber tokens.now at
         → MatchResult result (λ _. ⊥) (λ e. (e ≡ BadNumber at) ⊎ (e ≡ Memory)) }
 
-    // No predicate is deeper than 1,000.
+    // No predicate is deeper than 1,000, and each list of the tree has two parts or more.
     ensures low { IfOk result (λ file. All IsLow file.items) }
+    ensures full { IfOk result (λ file. IsFull file) }
 {
     match file(alloc, tokens, end) {
         Err(refused) => Err(refused),

@@ -6,7 +6,6 @@ ghost use Rattle.std.specs.Str.Parse.{digits_value};
 ghost use Rattle.rela_spec.specs.Grammar.{bad_in_front, bad_number, is_bad_number};
 ghost use Rattle.rela_spec.specs.GrammarWords.{is_number, is_good_number, number_of};
 
-
 use crate::parsing::cursor::is_mark;
 use rela_lex::{Token, TokenKind};
 

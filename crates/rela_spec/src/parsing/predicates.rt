@@ -23,7 +23,11 @@ enum Joint {
 /// The predicate that has to come next, where `room` more brackets may be opened.
 #[tactic(auto, using(crate::proofs::PredicateReadings::predicate_is_chain))]
 #[cycle(predicate)]
-pub(crate) fn predicate(alloc: Global, cursor: &mut Cursor, room: usize) -> Result<Predicate, SpecError>
+pub(crate) fn predicate(
+    alloc: Global,
+    cursor: &mut Cursor,
+    room: usize,
+) -> Result<Predicate, SpecError>
     ensures end { cursor.new.end ≡ cursor.old.end }
     ensures read { IfOk result (λ p. read_predicate cursor.old.end room cursor.old.rest.now ≡ Ok (p, cursor.new.rest.now)) }
     ensures fault { IfErr result (λ e. e ≢ Memory → read_predicate cursor.old.end room cursor.old.rest.now ≡ Err e) }
@@ -36,7 +40,12 @@ pub(crate) fn predicate(alloc: Global, cursor: &mut Cursor, room: usize) -> Resu
 /// A part, or two or more parts that are joined.
 #[tactic(auto, using(crate::proofs::Depths::greatest_append))]
 #[cycle(predicate)]
-fn chain(alloc: Global, cursor: &mut Cursor, joint: Joint, room: usize) -> Result<Predicate, SpecError>
+fn chain(
+    alloc: Global,
+    cursor: &mut Cursor,
+    joint: Joint,
+    room: usize,
+) -> Result<Predicate, SpecError>
     ensures end { cursor.new.end ≡ cursor.old.end }
     ensures read { IfOk result (λ p. chain_at joint cursor.old.end room cursor.old.rest.now ≡ Ok (p, cursor.new.rest.now)) }
     ensures fault { IfErr result (λ e. e ≢ Memory → chain_at joint cursor.old.end room cursor.old.rest.now ≡ Err e) }
@@ -56,7 +65,12 @@ fn chain(alloc: Global, cursor: &mut Cursor, joint: Joint, room: usize) -> Resul
 /// A part of a chain.
 #[tactic(auto, unfolding(crate::specs::ReadPredicates::part_at, crate::specs::ReadPredicates::chain_at))]
 #[cycle(predicate)]
-fn part(alloc: Global, cursor: &mut Cursor, joint: Joint, room: usize) -> Result<Predicate, SpecError>
+fn part(
+    alloc: Global,
+    cursor: &mut Cursor,
+    joint: Joint,
+    room: usize,
+) -> Result<Predicate, SpecError>
     ensures end { cursor.new.end ≡ cursor.old.end }
     ensures read { IfOk result (λ p. part_at joint cursor.old.end room cursor.old.rest.now ≡ Ok (p, cursor.new.rest.now)) }
     ensures fault { IfErr result (λ e. e ≢ Memory → part_at joint cursor.old.end room cursor.old.rest.now ≡ Err e) }
@@ -72,7 +86,12 @@ fn part(alloc: Global, cursor: &mut Cursor, joint: Joint, room: usize) -> Result
 /// A further part of a chain, behind what joins it.
 #[tactic(auto, unfolding(crate::specs::ReadPredicates::next_at))]
 #[cycle(predicate)]
-fn next_part(alloc: Global, cursor: &mut Cursor, joint: Joint, room: usize) -> Result<Predicate, SpecError>
+fn next_part(
+    alloc: Global,
+    cursor: &mut Cursor,
+    joint: Joint,
+    room: usize,
+) -> Result<Predicate, SpecError>
     ensures end { cursor.new.end ≡ cursor.old.end }
     ensures read { IfOk result (λ p. next_at joint cursor.old.end room cursor.old.rest.now ≡ Ok (p, cursor.new.rest.now)) }
     ensures fault { IfErr result (λ e. e ≢ Memory → next_at joint cursor.old.end room cursor.old.rest.now ≡ Err e) }

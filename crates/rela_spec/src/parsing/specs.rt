@@ -34,7 +34,12 @@ pub(crate) fn body(alloc: Global, cursor: &mut Cursor, room: usize) -> Result<Sp
 
 /// A part, or two or more parts that are joined.
 #[cycle(spec)]
-fn chain(alloc: Global, cursor: &mut Cursor, joint: Joint, room: usize) -> Result<SpecExpr, SpecError>
+fn chain(
+    alloc: Global,
+    cursor: &mut Cursor,
+    joint: Joint,
+    room: usize,
+) -> Result<SpecExpr, SpecError>
     ensures end { cursor.new.end ≡ cursor.old.end }
     ensures read { IfOk result (λ spec. chain_at joint cursor.old.end room cursor.old.rest.now ≡ Ok (spec, cursor.new.rest.now)) }
     ensures fault { IfErr result (λ e. e ≢ Memory → chain_at joint cursor.old.end room cursor.old.rest.now ≡ Err e) }
@@ -53,7 +58,12 @@ fn chain(alloc: Global, cursor: &mut Cursor, joint: Joint, room: usize) -> Resul
 /// A part of a chain.
 #[tactic(auto, unfolding(crate::specs::ReadSpecs::part_at, crate::specs::ReadSpecs::chain_at))]
 #[cycle(spec)]
-fn part(alloc: Global, cursor: &mut Cursor, joint: Joint, room: usize) -> Result<SpecExpr, SpecError>
+fn part(
+    alloc: Global,
+    cursor: &mut Cursor,
+    joint: Joint,
+    room: usize,
+) -> Result<SpecExpr, SpecError>
     ensures end { cursor.new.end ≡ cursor.old.end }
     ensures read { IfOk result (λ spec. part_at joint cursor.old.end room cursor.old.rest.now ≡ Ok (spec, cursor.new.rest.now)) }
     ensures fault { IfErr result (λ e. e ≢ Memory → part_at joint cursor.old.end room cursor.old.rest.now ≡ Err e) }
@@ -68,7 +78,12 @@ fn part(alloc: Global, cursor: &mut Cursor, joint: Joint, room: usize) -> Result
 /// A further part of a chain, behind what joins it.
 #[tactic(auto, unfolding(crate::specs::ReadSpecs::next_at))]
 #[cycle(spec)]
-fn next_part(alloc: Global, cursor: &mut Cursor, joint: Joint, room: usize) -> Result<SpecExpr, SpecError>
+fn next_part(
+    alloc: Global,
+    cursor: &mut Cursor,
+    joint: Joint,
+    room: usize,
+) -> Result<SpecExpr, SpecError>
     ensures end { cursor.new.end ≡ cursor.old.end }
     ensures read { IfOk result (λ spec. next_at joint cursor.old.end room cursor.old.rest.now ≡ Ok (spec, cursor.new.rest.now)) }
     ensures fault { IfErr result (λ e. e ≢ Memory → next_at joint cursor.old.end room cursor.old.rest.now ≡ Err e) }
@@ -227,7 +242,11 @@ fn argument(alloc: Global, cursor: &mut Cursor, room: usize) -> Result<PathExpr,
 
 /// The two path expressions of `replace`, in brackets.
 #[tactic(auto, unfolding(crate::specs::ReadSpecs::read_replacement))]
-fn replacement(alloc: Global, cursor: &mut Cursor, room: usize) -> Result<Modifier<PathExpr>, SpecError>
+fn replacement(
+    alloc: Global,
+    cursor: &mut Cursor,
+    room: usize,
+) -> Result<Modifier<PathExpr>, SpecError>
     ensures end { cursor.new.end ≡ cursor.old.end }
     ensures read { IfOk result (λ modifier. read_replacement cursor.old.end room cursor.old.rest.now ≡ Ok (modifier, cursor.new.rest.now)) }
     ensures fault { IfErr result (λ e. e ≢ Memory → read_replacement cursor.old.end room cursor.old.rest.now ≡ Err e) }

@@ -1,6 +1,7 @@
 use Rattle.std.proofs.Common.{◌≡◌, ◌⊎◌, ℕ, Option, None, Some, sym, ◌∙◌}
 use Rattle.rela_lex.specs.declared.error.SpecError.TheVariants.{BadNumber}
 use Rattle.rela_spec.specs.Grammar.{bad_number, IsBadNumber, IsFault}
+use Rattle.rela_spec.proofs.FullTrees.{tree_full}
 use Rattle.rela_spec.proofs.Verdicts.{Parsed, parsed_tree, fault_of, fault_not_spelled, fault_is_syntax, fault_is_deep, fault_is_bad, bad_of, spells_of, syntax_not_text, deep_not_shallow}
 use Rattle.rela_spec.proofs.parsing.parse.Goals as goal
 
@@ -39,3 +40,6 @@ returns-in-None-clause-syntax c at s = syntax_not_text c.args.tokens.now c.args.
 
 pub returns-in-None-clause-too_deep : goal.returns-in-None-clause-too_deep
 returns-in-None-clause-too_deep c at d = deep_not_shallow c.args.tokens.now at d (parsed_tree c.args.end c.args.tokens.now c.in-Ok.file c.in-Ok.ensures.read).shallow
+
+pub returns-in-None-clause-full : goal.returns-in-None-clause-full
+returns-in-None-clause-full c = tree_full c.args.tokens.now c.in-Ok.file (parsed_tree c.args.end c.args.tokens.now c.in-Ok.file c.in-Ok.ensures.read).grammar

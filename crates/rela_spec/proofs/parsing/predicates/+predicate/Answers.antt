@@ -47,6 +47,6 @@ more_parts-loop-alloc-preserved t c =
       end = c.next_part.ensures.end ∙ c.loop-alloc.invariant.end;
       left = omega (arith, c.in_ok-next_part.ensures.less);
       read = loop_more (is_word_of (between c.args.joint)) (λ n. next_at c.args.joint n c.args.room) c.args.cursor.now.end c.loop-alloc.cursor.end c.loop-alloc.invariant.end c.args.parts.now.items c.args.cursor.now.rest.now c.loop-alloc.parts.items
-      c.loop-alloc.cursor.rest.now c.loop-alloc.invariant.read c.in_ok-next_part.field-0 c.push.new.self.items c.next_part.new.cursor.rest.now next c.in_ok-next_part.ensures.read c.in_ok-next_part.ensures.less c.in_ok-push.ensures.items;
+          c.loop-alloc.cursor.rest.now c.loop-alloc.invariant.read c.in_ok-next_part.field-0 c.push.new.self.items c.next_part.new.cursor.rest.now next c.in_ok-next_part.ensures.read c.in_ok-next_part.ensures.less c.in_ok-push.ensures.items;
       shallow = greatest_push c.loop-alloc.parts.items c.in_ok-next_part.field-0 c.push.new.self.items (3 * c.args.room + within c.args.joint) c.in_ok-push.ensures.items c.loop-alloc.invariant.shallow c.in_ok-next_part.ensures.depth;
     }
