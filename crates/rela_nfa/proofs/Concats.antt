@@ -1,12 +1,11 @@
 -- What an automaton followed by another reaches and accepts.
-use Rattle.std.proofs.Common.{◌≡◌, ℕ, ◌+◌, ◌<◌, ◌≤◌, ◌⊎◌, ◌↔◌, Bool, true, false, List, [], ◌∷◌, ◌++◌, length, get_or, map, Option, None, Some, refl, sym, ap, ◌∙◌, subst, inl, inr, arith, append_assoc, length-append, zero-add}
+use Rattle.std.proofs.Common.{◌≡◌, ℕ, ◌+◌, ◌<◌, ◌⊎◌, ◌↔◌, false, List, [], ◌++◌, length, get_or, Option, None, Some, refl, sym, ap, ◌∙◌, subst, inl, inr, arith, append_assoc, length-append, zero-add}
 use Rattle.std.specs.List.{All}
 use Rattle.std.specs.Option.{option_to_list}
 use Rattle.std.specs.Prelude.{replicate}
-use Rattle.std.proofs.lemmas.Bool.{cases_lt}
-use Rattle.std.proofs.lemmas.List.{append-nil, get_or_append_left, get_or-replicate, length-replicate}
+use Rattle.std.proofs.lemmas.List.{get_or_append_left, get_or-replicate, length-replicate}
 use Rattle.std.proofs.lemmas.List.Elements.{All-append}
-use Rattle.rela_nfa.specs.Automaton.{Automaton, Move, IsMove, IsAutomaton, IsFinal, moves_of, states}
+use Rattle.rela_nfa.specs.Automaton.{Automaton, Move, IsMove, IsAutomaton, IsFinal, states}
 use Rattle.rela_nfa.specs.Runs.{HasStep, Reach, Accepts}
 use Rattle.rela_nfa.specs.Construction.{copied}
 use Rattle.rela_nfa.specs.Languages.{Joins}

@@ -1,12 +1,12 @@
 -- Lists of states that grow at the end.
-use Rattle.std.proofs.Common.{◌≡◌, ℕ, Bool, true, false, ◌+◌, ◌<◌, ◌≤◌, ◌⊎◌, ◌↔◌, List, [], ◌∷◌, ◌++◌, length, get_or, take, map, Option, None, Some, inl, inr, arith, refl, sym, ap, ◌∙◌, subst, append_assoc, length-append}
+use Rattle.std.proofs.Common.{◌≡◌, ℕ, Bool, true, false, ◌+◌, ◌<◌, ◌≤◌, ◌⊎◌, ◌↔◌, List, [], ◌∷◌, ◌++◌, length, get_or, take, Option, None, Some, inl, inr, arith, refl, sym, ap, ◌∙◌, subst, append_assoc, length-append}
 use Rattle.std.specs.List.{Contains}
 use Rattle.std.specs.Option.{option_to_list}
 use Rattle.std.proofs.lemmas.Bool.{cases_lt, false≢true}
-use Rattle.std.proofs.lemmas.List.{append-nil, get_or_append_left, get_or_default, take_more, take_all, map-append, same_from_push}
+use Rattle.std.proofs.lemmas.List.{append-nil, get_or_append_left, get_or_default, take_more, same_from_push}
 use Rattle.std.proofs.lemmas.List.Elements.{Contains-append_left, Contains-push, Contains-push_cases}
-use Rattle.rela_nfa.specs.Automaton.{Automaton, Move, states}
-use Rattle.rela_nfa.specs.Reading.{takes, AreReached, IsClosed, Closes}
+use Rattle.rela_nfa.specs.Automaton.{Automaton, Move}
+use Rattle.rela_nfa.specs.Reading.{takes, AreReached, Closes}
 use Rattle.rela_nfa.specs.Runs.{StepIn, HasStep, Reach}
 use Rattle.rela_nfa.specs.StateSet.{Inserts, Adds}
 use Rattle.rela_nfa.proofs.Moves.{Contains-nil, Contains-cons_cases, no_step, step_left, step_right, step_cases}

@@ -1,23 +1,22 @@
 -- What two automata reach and accept together.
-use Rattle.std.proofs.Common.{◌≡◌, ℕ, zero, suc, ◌+◌, ◌<◌, ◌≤◌, ◌⊎◌, ◌↔◌, ◌&&◌, Bool, true, false, List, [], ◌∷◌, ◌++◌, length, get_or, map, Option, None, Some, refl, sym, ap, ◌∙◌, subst, inl, inr, arith, length-append}
-use Rattle.std.specs.List.{All, Contains, slice_get, range_with_len}
-use Rattle.std.specs.Option.{ForSome, option_to_list}
-use Rattle.std.proofs.lemmas.Bool.{cases_lt, false≢true, and_parts, and_from}
+use Rattle.std.proofs.Common.{◌≡◌, ℕ, suc, ◌<◌, ◌↔◌, false, List, [], ◌∷◌, ◌++◌, length, get_or, map, Option, Some, refl, sym, ap, ◌∙◌, subst, inl, inr, arith}
+use Rattle.std.specs.List.{All, Contains, slice_get}
+use Rattle.std.specs.Option.{option_to_list}
+use Rattle.std.proofs.lemmas.Bool.{cases_lt, and_parts, and_from}
 use Rattle.std.proofs.lemmas.List.{get_or-map, get_or_default, length-map}
 use Rattle.std.proofs.lemmas.List.Elements.{Contains-get_or}
 use Rattle.std.proofs.lemmas.List.FromFn.{get_or-map-range_with_len, length-map-range_with_len}
 use Rattle.std.proofs.lemmas.Option.{slice_get_within, slice_get-get_or, get_or_from_slice_get, same_Some}
-use Rattle.rela_labels.specs.Letters.{has}
 use Rattle.rela_pairs.specs.Exploration.{Exploration, NumbersNext}
 use Rattle.rela_pairs.specs.Finding.{AreNumbers}
 use Rattle.rela_pairs.specs.Reachable.{Leads, Reachable, AreDistinct, MoreThan}
 use Rattle.rela_pairs.specs.declared.pair.Pair.{Pair}
 use Rattle.rela_pairs.proofs.Steps.{reachable_start, reachable_next}
-use Rattle.rela_nfa.specs.Automaton.{Automaton, Move, IsAutomaton, IsMove, IsFinal, moves_of, states}
+use Rattle.rela_nfa.specs.Automaton.{Automaton, Move, IsAutomaton, IsMove, moves_of, states}
 use Rattle.rela_nfa.specs.Meeting.{ReachBoth, AreReachedTogether, IsMeet, IsProduct, JointMove, pair_of, joint_moves, next_pairs, numbered, final_both, product_moves_at}
 use Rattle.rela_nfa.specs.Reading.{takes}
 use Rattle.rela_nfa.specs.Runs.{StepIn, HasStep, Reach, Accepts}
-use Rattle.rela_nfa.proofs.Moves.{Contains-nil, Contains-cons_cases, Contains-map, Contains-map_back, no_step}
+use Rattle.rela_nfa.proofs.Moves.{Contains-nil, Contains-cons_cases, Contains-map, Contains-map_back}
 use Rattle.rela_nfa.proofs.Joint.{JointStep, step_edge, edge_step, joint_in, joint_some, joint_sized, joint_out, both_start, both_step, both_each}
 use Rattle.rela_nfa.proofs.Parts.{state_of_reach}
 use Rattle.rela_nfa.proofs.Reaching.{reach_start, reach_step, reach_each}
@@ -112,17 +111,17 @@ module _ (a b r : Automaton) (explored : Exploration) (built : IsProduct a b exp
     starts = omega (arith, product_states, built.start, slice_get_within explored.pairs 0 (pair_of a.start b.start) first);
     moves = λ k d below.
         let within : k < length explored.pairs =
-            omega (arith, below, ap length built.edges, length-map-range_with_len edges_at 0 (length explored.pairs)) in
+        omega (arith, below, ap length built.edges, length-map-range_with_len edges_at 0 (length explored.pairs)) in
         let none : Pair = pair_of 0 0 in
         let at = slice_get-get_or explored.pairs k none within in
         let x : Pair = get_or explored.pairs k none in
         subst (λ l. All (IsMove r.letters (states r)) l) (sym (product_moves k x at) ∙ get_or_default r.edges k [] d below)
         (All-from_contains (IsMove r.letters (states r)) (numbered (joint_moves a b x) (get_or explored.targets k [])) (λ m among.
-          let found = numbered_back explored.pairs (joint_moves a b x) (get_or explored.targets k []) (targets k x at) m among in
-          record {
-            sized = λ set is. joint_sized a b x ok found.0 found.1 set (sym found.2 ∙ is) ∙ sym built.letters;
-            leads = omega (arith, product_states, slice_get_within explored.pairs m.to found.0.to found.3);
-          }));
+        let found = numbered_back explored.pairs (joint_moves a b x) (get_or explored.targets k []) (targets k x at) m among in
+        record {
+          sized = λ set is. joint_sized a b x ok found.0 found.1 set (sym found.2 ∙ is) ∙ sym built.letters;
+          leads = omega (arith, product_states, slice_get_within explored.pairs m.to found.0.to found.3);
+        }));
   }
 
   step_back : (k t : ℕ) (x : Pair) (letter : Option ℕ) → slice_get explored.pairs k ≡ Some x → HasStep r k letter t
@@ -135,10 +134,12 @@ module _ (a b r : Automaton) (explored : Exploration) (built : IsProduct a b exp
   step_on : (k : ℕ) (x y : Pair) (letter : Option ℕ) → slice_get explored.pairs k ≡ Some x → JointStep a b x letter y → (t : ℕ) × (slice_get explored.pairs t ≡ Some y) × HasStep r k letter t
   step_on k x y letter at step =
       let found = joint_out a b x letter y step in
-      let edge = numbered_each explored.pairs (joint_moves a b x) (get_or explored.targets k []) (targets k x at) found.0 found.1 in
-      (edge.0, edge.2 ∙ ap Some found.2,
+      let edge = numbered_each explored.pairs (joint_moves a b x) (get_or explored.targets k []) (targets k x at) found.0 found.1 in (
+        edge.0,
+        edge.2 ∙ ap Some found.2,
         subst (λ l. StepIn l letter edge.0) (sym (product_moves k x at))
-        (edge_step (numbered (joint_moves a b x) (get_or explored.targets k [])) letter (record { label = found.0.label; to = edge.0 }) edge.1 found.3))
+            (edge_step (numbered (joint_moves a b x) (get_or explored.targets k [])) letter (record { label = found.0.label; to = edge.0 }) edge.1 found.3),
+      )
 
   abbrev Stands : ℕ → List ℕ → Type 0
   Stands k w = (x : Pair) × (slice_get explored.pairs k ≡ Some x) × ReachBoth a b x w
@@ -147,8 +148,8 @@ module _ (a b r : Automaton) (explored : Exploration) (built : IsProduct a b exp
   stands =
       reach_each r Stands
       (λ p q letter w reach here step.
-        let next = step_back p q here.0 letter here.1 step in
-        (next.0, next.1, both_step a b here.0 next.0 letter w here.2 next.2))
+      let next = step_back p q here.0 letter here.1 step in
+      (next.0, next.1, both_step a b here.0 next.0 letter w here.2 next.2))
       (subst (λ n. Stands n []) (sym built.start) (pair_of a.start b.start, first, both_start a b))
 
   abbrev Numbered : Pair → List ℕ → Type 0
@@ -158,16 +159,16 @@ module _ (a b r : Automaton) (explored : Exploration) (built : IsProduct a b exp
   numbers =
       both_each a b Numbered (0, first, subst (λ n. Reach r n []) built.start (reach_start r))
       (λ x y letter w here step.
-        let next = step_on here.0 x y letter here.1 step in
-        (next.0, next.1, reach_step r here.0 next.0 letter w here.2 next.2))
+      let next = step_on here.0 x y letter here.1 step in
+      (next.0, next.1, reach_step r here.0 next.0 letter w here.2 next.2))
 
   one_place : (i j : ℕ) (x : Pair) → slice_get explored.pairs i ≡ Some x → slice_get explored.pairs j ≡ Some x → i ≡ j
   one_place i j x at_i at_j = elim (cases_lt i j) [
     | inl less ↦ absurd (distinct i j x less (slice_get_within explored.pairs j x at_j) (get_or_from_slice_get explored.pairs i x x at_i ∙ sym (get_or_from_slice_get explored.pairs j x x at_j)))
     | inr more ↦ elim (cases_lt j i) [
-        | inl less ↦ absurd (distinct j i x less (slice_get_within explored.pairs i x at_i) (get_or_from_slice_get explored.pairs j x x at_j ∙ sym (get_or_from_slice_get explored.pairs i x x at_i)))
-        | inr same ↦ omega arith
-      ]
+      | inl less ↦ absurd (distinct j i x less (slice_get_within explored.pairs i x at_i) (get_or_from_slice_get explored.pairs j x x at_j ∙ sym (get_or_from_slice_get explored.pairs i x x at_i)))
+      | inr same ↦ omega arith
+    ]
   ]
 
   pub product_meet : IsMeet a b explored.pairs r
@@ -176,9 +177,10 @@ module _ (a b r : Automaton) (explored : Exploration) (built : IsProduct a b exp
     distinct = distinct;
     together = λ x among. together_from_reachable a b x ((each x).0 among);
     all = λ x together. (each x).1 (reachable_from_together a b x together);
-    reached = λ k x at w.
-        (λ reach. let here = stands k w reach in subst (λ y. ReachBoth a b y w) (same_Some here.0 x (sym here.1 ∙ at)) here.2,
-          λ both. let there = numbers x w both in subst (λ n. Reach r n w) (one_place there.0 k x there.1 at) there.2);
+    reached = λ k x at w. (
+      λ reach. let here = stands k w reach in subst (λ y. ReachBoth a b y w) (same_Some here.0 x (sym here.1 ∙ at)) here.2,
+      λ both. let there = numbers x w both in subst (λ n. Reach r n w) (one_place there.0 k x there.1 at) there.2,
+    );
   }
 
   final_at : (k : ℕ) (x : Pair) → slice_get explored.pairs k ≡ Some x → get_or r.finals k false ≡ final_both a b x
@@ -189,16 +191,16 @@ module _ (a b r : Automaton) (explored : Exploration) (built : IsProduct a b exp
   pub product_language : (w : List ℕ) → Accepts r w ↔ (Accepts a w × Accepts b w)
   product_language w = (accepted, λ both. accepts both.0 both.1)
     where
-    accepted : Accepts r w → Accepts a w × Accepts b w
-    accepted (k, reach, final) =
-        let here = stands k w reach in
-        let parts = and_parts (get_or a.finals here.0.left false) (get_or b.finals here.0.right false) (sym (final_at k here.0 here.1) ∙ final) in
-        ((here.0.left, here.2.0, parts.0), (here.0.right, here.2.1, parts.1))
+      accepted : Accepts r w → Accepts a w × Accepts b w
+      accepted (k, reach, final) =
+          let here = stands k w reach in
+          let parts = and_parts (get_or a.finals here.0.left false) (get_or b.finals here.0.right false) (sym (final_at k here.0 here.1) ∙ final) in
+          ((here.0.left, here.2.0, parts.0), (here.0.right, here.2.1, parts.1))
 
-    accepts : Accepts a w → Accepts b w → Accepts r w
-    accepts (p, first_reach, first_final) (q, second_reach, second_final) =
-        let there = numbers (pair_of p q) w (first_reach, second_reach) in
-        (there.0, there.2, final_at there.0 (pair_of p q) there.1 ∙ and_from (get_or a.finals p false) (get_or b.finals q false) first_final second_final)
+      accepts : Accepts a w → Accepts b w → Accepts r w
+      accepts (p, first_reach, first_final) (q, second_reach, second_final) =
+          let there = numbers (pair_of p q) w (first_reach, second_reach) in
+          (there.0, there.2, final_at there.0 (pair_of p q) there.1 ∙ and_from (get_or a.finals p false) (get_or b.finals q false) first_final second_final)
 
 -- what was explored are pairs of states
 pub explored_states : (a b : Automaton) → IsAutomaton a → IsAutomaton b → (pairs : List Pair)

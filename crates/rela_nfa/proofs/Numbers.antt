@@ -10,7 +10,6 @@ use Rattle.std.proofs.lemmas.List.Elements.{All-map}
 use Rattle.rela_pairs.specs.declared.pair.Pair.{Pair}
 use Rattle.rela_nfa.specs.Automaton.{Automaton, Move, IsAutomaton, states}
 use Rattle.rela_nfa.specs.Meeting.{JointMove, joint_of, joint_moves, next_pairs, numbered, product_moves_at}
-use Rattle.rela_nfa.specs.Stored.{move_of}
 use Rattle.rela_nfa.specs.declared.meeting.JointEdge.{JointEdge}
 use Rattle.rela_nfa.proofs.Joint.{JointStep, joint_some}
 use Rattle.rela_nfa.proofs.Parts.{leads_to_state}
@@ -56,19 +55,19 @@ module _ {L : Type 0} (letters : L → List Bool) where
   joint_lead a b ok_a ok_b x left right edges same k d below =
       let edge : JointEdge L = get_or edges k d in
       let among : Contains (joint_moves a b x) (joint_of letters edge) =
-          subst (λ l. Contains l (joint_of letters edge)) same
-          (k, omega (arith, below, length-map edges (joint_of letters)), get_or-map (joint_of letters) edges k d (joint_of letters edge) below) in
+      subst (λ l. Contains l (joint_of letters edge)) same
+      (k, omega (arith, below, length-map edges (joint_of letters)), get_or-map (joint_of letters) edges k d (joint_of letters edge) below) in
       let step = joint_some a b x (joint_of letters edge) among in
       within edge.to step.0 step.1
     where
-    within : (y : Pair) (letter : Option ℕ) → JointStep a b x letter y → (y.left < states a) × (y.right < states b)
-    within y letter step = elim step [
-      | inl one ↦ (leads_to_state a ok_a x.left y.left None one.1, subst (λ n. n < states b) one.2 right)
-      | inr others ↦ elim others [
+      within : (y : Pair) (letter : Option ℕ) → JointStep a b x letter y → (y.left < states a) × (y.right < states b)
+      within y letter step = elim step [
+        | inl one ↦ (leads_to_state a ok_a x.left y.left None one.1, subst (λ n. n < states b) one.2 right)
+        | inr others ↦ elim others [
           | inl two ↦ (subst (λ n. n < states a) two.1 left, leads_to_state b ok_b x.right y.right None two.2)
           | inr both ↦ (leads_to_state a ok_a x.left y.left (Some both.0) both.2, leads_to_state b ok_b x.right y.right (Some both.0) both.3)
         ]
-    ]
+      ]
 
 module _ {L : Type 0} (letters : L → List Bool) (a b : Automaton) (x : Pair) (edges : List (JointEdge L)) (pairs : List Pair) (i : ℕ) (over : length edges ≤ i)
     (so_far : pairs ≡ map (λ (j : JointMove). j.to) (map (joint_of letters) (take i edges))) where

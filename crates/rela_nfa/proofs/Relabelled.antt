@@ -1,13 +1,13 @@
 -- What an automaton reads over a finer partition.
-use Rattle.std.proofs.Common.{◌≡◌, ℕ, zero, suc, ◌+◌, ◌<◌, ◌≤◌, ◌↔◌, Bool, true, false, List, [], ◌∷◌, ◌++◌, length, get_or, map, Option, None, Some, refl, inl, inr, sym, ap, ◌∙◌, subst, arith, length-append}
+use Rattle.std.proofs.Common.{◌≡◌, ℕ, zero, suc, ◌<◌, ◌≤◌, ◌↔◌, Bool, true, false, List, [], ◌∷◌, ◌++◌, length, get_or, map, Option, None, Some, refl, inl, inr, sym, ap, ◌∙◌, subst, arith, length-append}
 use Rattle.std.specs.List.{All, Contains}
 use Rattle.std.specs.Option.{option_map, option_to_list}
 use Rattle.std.proofs.lemmas.Bool.{cases_lt, false≢true}
-use Rattle.std.proofs.lemmas.List.{append-nil, get_or-map, get_or_past, get_or_default, length-map, map-append, ext_get_or}
+use Rattle.std.proofs.lemmas.List.{append-nil, get_or-map, get_or_past, length-map, map-append, ext_get_or}
 use Rattle.std.proofs.lemmas.List.Elements.{All-map, All-weaker, All-contains, Contains-push, Contains-append_left, Contains-get_or}
 use Rattle.rela_labels.specs.Letters.{has}
 use Rattle.rela_labels.specs.Partition.{block_of, block_count}
-use Rattle.rela_nfa.specs.Automaton.{Automaton, Move, IsAutomaton, IsMove, IsFinal, moves_of, states}
+use Rattle.rela_nfa.specs.Automaton.{Automaton, Move, IsAutomaton, IsMove, moves_of, states}
 use Rattle.rela_nfa.specs.Reading.{takes}
 use Rattle.rela_nfa.specs.Relabelling.{IsRelabelled, relabelled, relabelled_move, blocks_of}
 use Rattle.rela_nfa.specs.Runs.{StepIn, HasStep, Reach, Accepts}
@@ -51,15 +51,15 @@ module _ (parents : List ℕ) (a r : Automaton) (built : IsRelabelled parents a 
         (All-map (All (IsMove r.letters (states r))) (map (relabelled_move parents)) a.edges
         (All-weaker (All (IsMove a.letters (states a))) (λ l. All (IsMove r.letters (states r)) (map (relabelled_move parents) l))
         (λ l each. All-map (IsMove r.letters (states r)) (relabelled_move parents) l
-          (All-weaker (IsMove a.letters (states a)) (λ m. IsMove r.letters (states r) (relabelled_move parents m)) (λ m is. record {
-            sized = λ set e. new_size m.label set e ∙ sym built.letters;
-            leads = omega (arith, is.leads, relabelled_states);
-          }) l each)) a.edges ok.moves));
+        (All-weaker (IsMove a.letters (states a)) (λ m. IsMove r.letters (states r) (relabelled_move parents m)) (λ m is. record {
+          sized = λ set e. new_size m.label set e ∙ sym built.letters;
+          leads = omega (arith, is.leads, relabelled_states);
+        }) l each)) a.edges ok.moves));
   }
     where
-    new_size : (label : Option (List Bool)) (set : List Bool) → option_map (relabelled parents) label ≡ Some set → length set ≡ length parents
-    new_size None set e = cc
-    new_size (Some old) set e = let same : relabelled parents old ≡ set = cc in ap length (sym same) ∙ length-map parents (has old)
+      new_size : (label : Option (List Bool)) (set : List Bool) → option_map (relabelled parents) label ≡ Some set → length set ≡ length parents
+      new_size None set e = cc
+      new_size (Some old) set e = let same : relabelled parents old ≡ set = cc in ap length (sym same) ∙ length-map parents (has old)
 
   takes_parent : (label : Option (List Bool)) (j : ℕ) → j < length parents → takes (option_map (relabelled parents) label) (Some j) ≡ takes label (Some (get_or parents j 0))
   takes_parent None j below = refl
@@ -116,56 +116,57 @@ module _ (parents : List ℕ) (a r : Automaton) (built : IsRelabelled parents a 
         reach_each r (λ q v. (w : List ℕ) → Symbols w → v ≡ blocks_of to w → Reach a q (blocks_of from w)) (λ p q letter v reads there step. one p q letter v there step)
         (λ w each nil. subst (λ u. Reach a r.start (blocks_of from u)) (sym (no_word w (sym nil))) (subst (λ n. Reach a n []) (sym built.start) (reach_start a)))
       where
-      no_word : (w : List ℕ) → blocks_of to w ≡ [] → w ≡ []
-      no_word [] nil = refl
-      no_word (s ∷ w) nil = absurd (omega (arith, ap length nil))
+        no_word : (w : List ℕ) → blocks_of to w ≡ [] → w ≡ []
+        no_word [] nil = refl
+        no_word (s ∷ w) nil = absurd (omega (arith, ap length nil))
 
-      one : (p q : ℕ) (letter : Option ℕ) (v : List ℕ) → ((w : List ℕ) → Symbols w → v ≡ blocks_of to w → Reach a p (blocks_of from w)) → HasStep r p letter q
-          → (w : List ℕ) → Symbols w → v ++ option_to_list letter ≡ blocks_of to w → Reach a q (blocks_of from w)
-      one p q None v there step w each same =
-          subst (λ u. Reach a q u) (append-nil (blocks_of from w)) (reach_step a p q None (blocks_of from w) (there w each (sym (append-nil v) ∙ same)) (silent_back p q step))
-      one p q (Some j) v there step w each same =
-          let last = map_last (block_of to) w v j same in
-          let s = last.1 in
-          let both : Symbols (last.0 ++ s ∷ []) = subst Symbols last.2 each in
-          let below : s < count = All-contains (λ t. t < count) (last.0 ++ s ∷ []) s both (Contains-push last.0 s) in
-          let letter : get_or parents j 0 ≡ block_of from s = ap (λ k. get_or parents k 0) last.4 ∙ parent s below in
-          subst (λ u. Reach a q (blocks_of from u)) (sym last.2)
-          (subst (λ u. Reach a q u) (sym (map-append (block_of from) last.0 (s ∷ [])))
-          (reach_step a p q (Some (block_of from s)) (blocks_of from last.0) (there last.0 (all_front (λ t. t < count) last.0 s both) last.3)
-          (subst (λ k. HasStep a p (Some k) q) letter (letter_back p q j step))))
+        one : (p q : ℕ) (letter : Option ℕ) (v : List ℕ) → ((w : List ℕ) → Symbols w → v ≡ blocks_of to w → Reach a p (blocks_of from w)) → HasStep r p letter q
+            → (w : List ℕ) → Symbols w → v ++ option_to_list letter ≡ blocks_of to w → Reach a q (blocks_of from w)
+        one p q None v there step w each same =
+            subst (λ u. Reach a q u) (append-nil (blocks_of from w)) (reach_step a p q None (blocks_of from w) (there w each (sym (append-nil v) ∙ same)) (silent_back p q step))
+        one p q (Some j) v there step w each same =
+            let last = map_last (block_of to) w v j same in
+            let s = last.1 in
+            let both : Symbols (last.0 ++ s ∷ []) = subst Symbols last.2 each in
+            let below : s < count = All-contains (λ t. t < count) (last.0 ++ s ∷ []) s both (Contains-push last.0 s) in
+            let letter : get_or parents j 0 ≡ block_of from s = ap (λ k. get_or parents k 0) last.4 ∙ parent s below in
+            subst (λ u. Reach a q (blocks_of from u)) (sym last.2)
+            (subst (λ u. Reach a q u) (sym (map-append (block_of from) last.0 (s ∷ [])))
+            (reach_step a p q (Some (block_of from s)) (blocks_of from last.0) (there last.0 (all_front (λ t. t < count) last.0 s both) last.3)
+            (subst (λ k. HasStep a p (Some k) q) letter (letter_back p q j step))))
 
     on : (q : ℕ) (v : List ℕ) → Reach a q v → (w : List ℕ) → Symbols w → v ≡ blocks_of from w → Reach r q (blocks_of to w)
     on =
         reach_each a (λ q v. (w : List ℕ) → Symbols w → v ≡ blocks_of from w → Reach r q (blocks_of to w)) (λ p q letter v reads there step. one p q letter v there step)
         (λ w each nil. subst (λ u. Reach r a.start (blocks_of to u)) (sym (no_word w (sym nil))) (subst (λ n. Reach r n []) built.start (reach_start r)))
       where
-      no_word : (w : List ℕ) → blocks_of from w ≡ [] → w ≡ []
-      no_word [] nil = refl
-      no_word (s ∷ w) nil = absurd (omega (arith, ap length nil))
+        no_word : (w : List ℕ) → blocks_of from w ≡ [] → w ≡ []
+        no_word [] nil = refl
+        no_word (s ∷ w) nil = absurd (omega (arith, ap length nil))
 
-      one : (p q : ℕ) (letter : Option ℕ) (v : List ℕ) → ((w : List ℕ) → Symbols w → v ≡ blocks_of from w → Reach r p (blocks_of to w)) → HasStep a p letter q
-          → (w : List ℕ) → Symbols w → v ++ option_to_list letter ≡ blocks_of from w → Reach r q (blocks_of to w)
-      one p q None v there step w each same =
-          subst (λ u. Reach r q u) (append-nil (blocks_of to w)) (reach_step r p q None (blocks_of to w) (there w each (sym (append-nil v) ∙ same)) (silent_on p q step))
-      one p q (Some j) v there step w each same =
-          let last = map_last (block_of from) w v j same in
-          let s = last.1 in
-          let both : Symbols (last.0 ++ s ∷ []) = subst Symbols last.2 each in
-          let below : s < count = All-contains (λ t. t < count) (last.0 ++ s ∷ []) s both (Contains-push last.0 s) in
-          let letter : j ≡ get_or parents (block_of to s) 0 = last.4 ∙ sym (parent s below) in
-          subst (λ u. Reach r q (blocks_of to u)) (sym last.2)
-          (subst (λ u. Reach r q u) (sym (map-append (block_of to) last.0 (s ∷ [])))
-          (reach_step r p q (Some (block_of to s)) (blocks_of to last.0) (there last.0 (all_front (λ t. t < count) last.0 s both) last.3)
-          (letter_on p q (block_of to s) (within s below) (subst (λ k. HasStep a p (Some k) q) letter step))))
+        one : (p q : ℕ) (letter : Option ℕ) (v : List ℕ) → ((w : List ℕ) → Symbols w → v ≡ blocks_of from w → Reach r p (blocks_of to w)) → HasStep a p letter q
+            → (w : List ℕ) → Symbols w → v ++ option_to_list letter ≡ blocks_of from w → Reach r q (blocks_of to w)
+        one p q None v there step w each same =
+            subst (λ u. Reach r q u) (append-nil (blocks_of to w)) (reach_step r p q None (blocks_of to w) (there w each (sym (append-nil v) ∙ same)) (silent_on p q step))
+        one p q (Some j) v there step w each same =
+            let last = map_last (block_of from) w v j same in
+            let s = last.1 in
+            let both : Symbols (last.0 ++ s ∷ []) = subst Symbols last.2 each in
+            let below : s < count = All-contains (λ t. t < count) (last.0 ++ s ∷ []) s both (Contains-push last.0 s) in
+            let letter : j ≡ get_or parents (block_of to s) 0 = last.4 ∙ sym (parent s below) in
+            subst (λ u. Reach r q (blocks_of to u)) (sym last.2)
+            (subst (λ u. Reach r q u) (sym (map-append (block_of to) last.0 (s ∷ [])))
+            (reach_step r p q (Some (block_of to s)) (blocks_of to last.0) (there last.0 (all_front (λ t. t < count) last.0 s both) last.3)
+            (letter_on p q (block_of to s) (within s below) (subst (λ k. HasStep a p (Some k) q) letter step))))
 
     pub relabelled_reach : (q : ℕ) (w : List ℕ) → All (λ s. s < count) w → Reach r q (blocks_of to w) ↔ Reach a q (blocks_of from w)
     relabelled_reach q w each = (λ reach. back q (blocks_of to w) reach w each refl, λ reach. on q (blocks_of from w) reach w each refl)
 
     pub relabelled_language : (w : List ℕ) → All (λ s. s < count) w → Accepts r (blocks_of to w) ↔ Accepts a (blocks_of from w)
-    relabelled_language w each =
-        (λ (q, reach, final). (q, (relabelled_reach q w each).0 reach, ap (λ l. get_or l q false) (sym built.finals) ∙ final),
-          λ (q, reach, final). (q, (relabelled_reach q w each).1 reach, ap (λ l. get_or l q false) built.finals ∙ final))
+    relabelled_language w each = (
+      λ (q, reach, final). (q, (relabelled_reach q w each).0 reach, ap (λ l. get_or l q false) (sym built.finals) ∙ final),
+      λ (q, reach, final). (q, (relabelled_reach q w each).1 reach, ap (λ l. get_or l q false) built.finals ∙ final),
+    )
 
 -- ---- what was built of the partitions
 
@@ -179,4 +180,4 @@ pub set_relabelled : (old new : List Bool) (parents : List ℕ) (i : ℕ) → le
     → ((k : ℕ) → k < i → has new k ≡ has old (get_or parents k 0)) → new ≡ relabelled parents old
 set_relabelled old new parents i over size done =
     ext_get_or false new (relabelled parents old) (size ∙ sym (length-map parents (has old))) (λ k below.
-      done k (omega (arith, below, size, over)) ∙ sym (get_or-map (has old) parents k 0 false (omega (arith, below, size))))
+    done k (omega (arith, below, size, over)) ∙ sym (get_or-map (has old) parents k 0 false (omega (arith, below, size))))

@@ -1,10 +1,10 @@
 -- What the repetition of an automaton reaches and accepts.
-use Rattle.std.proofs.Common.{◌≡◌, ℕ, ◌+◌, ◌<◌, ◌≤◌, ◌⊎◌, ◌↔◌, Bool, true, false, List, [], ◌∷◌, ◌++◌, length, get_or, map, Option, None, Some, refl, sym, ap, ◌∙◌, subst, inl, inr, arith, append_assoc, length-append}
-use Rattle.std.specs.List.{All, Contains, concat}
+use Rattle.std.proofs.Common.{◌≡◌, ℕ, ◌+◌, ◌<◌, ◌⊎◌, ◌↔◌, true, false, List, [], ◌∷◌, ◌++◌, length, get_or, map, Option, None, Some, refl, sym, ap, ◌∙◌, subst, inl, inr, arith, append_assoc, length-append}
+use Rattle.std.specs.List.{All, concat}
 use Rattle.std.specs.Option.{option_to_list}
 use Rattle.std.proofs.lemmas.List.{append-nil}
 use Rattle.std.proofs.lemmas.List.Elements.{All-nil, All-cons, All-append, All-push, All-head, All-tail}
-use Rattle.rela_nfa.specs.Automaton.{Automaton, Move, IsMove, IsAutomaton, IsFinal, moves_of, states}
+use Rattle.rela_nfa.specs.Automaton.{Automaton, Move, IsMove, IsAutomaton, moves_of, states}
 use Rattle.rela_nfa.specs.Runs.{StepIn, HasStep, Reach, Accepts}
 use Rattle.rela_nfa.specs.Construction.{silent, copied}
 use Rattle.rela_nfa.specs.Languages.{Joins, Repeats}

@@ -1,5 +1,5 @@
 -- How a word is read by the set of states that it reaches.
-use Rattle.std.specs.Prelude.{◌≡◌, ℕ, ◌↔◌, Bool, true, false, List, [], ◌∷◌, ◌++◌, Option, None, Some, Contains}
+use Rattle.std.specs.Prelude.{ℕ, ◌↔◌, Bool, true, false, List, Option, None, Some, Contains}
 use Rattle.rela_labels.specs.Letters.{has}
 use Rattle.rela_nfa.specs.Automaton.{Automaton}
 use Rattle.rela_nfa.specs.Runs.{HasStep, Reach}

@@ -9,10 +9,10 @@ ghost use Rattle.rela_pairs.specs.Reachable.{MoreThan};
 ghost use Rattle.rela_pairs.specs.declared.pair.Pair.{Pair};
 
 use crate::edge::Edge;
-use crate::meeting::{add_left, add_right, add_with, JointEdge};
+use crate::meeting::{JointEdge, add_left, add_right, add_with};
 use crate::nfa::Nfa;
 use rela_labels::LabelSet;
-use rela_pairs::{explore, BuildError, Explored, Pair, Successors};
+use rela_pairs::{BuildError, Explored, Pair, Successors, explore};
 use std::alloc::{AllocError, Global};
 
 /// The edges that two automata over the same letters take together from a pair of their states.

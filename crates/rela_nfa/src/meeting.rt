@@ -68,10 +68,14 @@ pub(crate) fn add_left<L: LabelSet>(
     ensures { OnOk result (map (joint_of L.letters) joint.new.items ≡ map (joint_of L.letters) joint.old.items ++ left_moves right (map (move_of L.letters) edges.now)) }
 {
     for edge in edges {
-        add_silent(joint, edge, Pair {
-            left: edge.to,
-            right,
-        })?;
+        add_silent(
+            joint,
+            edge,
+            Pair {
+                left: edge.to,
+                right,
+            },
+        )?;
     }
     Ok(())
 }
@@ -85,10 +89,14 @@ pub(crate) fn add_right<L: LabelSet>(
     ensures { OnOk result (map (joint_of L.letters) joint.new.items ≡ map (joint_of L.letters) joint.old.items ++ right_moves left (map (move_of L.letters) edges.now)) }
 {
     for edge in edges {
-        add_silent(joint, edge, Pair {
-            left,
-            right: edge.to,
-        })?;
+        add_silent(
+            joint,
+            edge,
+            Pair {
+                left,
+                right: edge.to,
+            },
+        )?;
     }
     Ok(())
 }

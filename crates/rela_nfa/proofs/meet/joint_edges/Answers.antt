@@ -1,4 +1,4 @@
-use Rattle.std.proofs.Common.{◌≡◌, List, ◌++◌, map, ◌∙◌, ap}
+use Rattle.std.proofs.Common.{List, ◌++◌, map, ◌∙◌, ap}
 use Rattle.std.specs.List.{flat_map}
 use Rattle.std.proofs.lemmas.List.{take_all}
 use Rattle.rela_nfa.specs.Automaton.{Move, moves_of}
@@ -13,9 +13,9 @@ returns g c =
     let b = c.args.second.now in
     let x = c.args.pair in
     let moves =
-        c.loop-edge.invariant
-        ∙ ap (λ (l : List Move). left_moves x.right (moves_of a x.left) ++ right_moves x.left (moves_of b x.right) ++ flat_map (λ m. moves_with m (moves_of b x.right)) l)
-          (ap (λ l. map (move_of g.L.LabelSet.letters) l) (take_all c.loop-edge.edge-index c.edges-left.result.now c.loop-edge-test.false) ∙ c.edges-left.ensures.moves) in
+    c.loop-edge.invariant
+    ∙ ap (λ (l : List Move). left_moves x.right (moves_of a x.left) ++ right_moves x.left (moves_of b x.right) ++ flat_map (λ m. moves_with m (moves_of b x.right)) l)
+    (ap (λ l. map (move_of g.L.LabelSet.letters) l) (take_all c.loop-edge.edge-index c.edges-left.result.now c.loop-edge-test.false) ∙ c.edges-left.ensures.moves) in
     record {
       moves = moves;
       lead = joint_lead g.L.LabelSet.letters a b c.edges-left.ensures.automaton c.edges-right.ensures.automaton x c.requires.left c.requires.right c.loop-edge.joint.items moves;

@@ -1,4 +1,4 @@
-use Rattle.std.proofs.Common.{◌≡◌, ◌+◌, ◌<◌, ◌≤◌, List, [], ◌∷◌, ◌++◌, length, map, take, drop, reverse, vec_len, get_or, ◌∙◌, sym, ap, subst, arith}
+use Rattle.std.proofs.Common.{◌≡◌, ◌+◌, ◌<◌, [], ◌∷◌, ◌++◌, length, map, take, drop, reverse, vec_len, get_or, ◌∙◌, sym, ap, arith}
 use Rattle.std.proofs.lemmas.List.{map_push}
 use Rattle.std.specs.Option.{option_map}
 use Rattle.rela_nfa.specs.Automaton.{Move}
@@ -33,4 +33,4 @@ pub returns : goal.returns
 returns g c =
     ap (λ l. map (move_of g.L.LabelSet.letters) l) c.reverse.ensures.items
     ∙ turned g.L.LabelSet.letters (move_of g.L.LabelSet.letters) c.loop-edge.edges.items c.args.joint.items c.args.targets.now (vec_len c.loop-edge.joint) c.in_default.ensures.cases.0
-      c.loop-edge.invariant.done
+    c.loop-edge.invariant.done

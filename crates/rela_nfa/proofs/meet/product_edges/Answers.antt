@@ -1,4 +1,4 @@
-use Rattle.std.proofs.Common.{◌≡◌, ◌+◌, ◌<◌, List, [], ◌∷◌, ◌++◌, length, map, get_or, ◌∙◌, sym, ap, subst, arith}
+use Rattle.std.proofs.Common.{◌≡◌, ◌<◌, List, [], ◌∷◌, ◌++◌, length, map, get_or, ◌∙◌, sym, ap, subst, arith}
 use Rattle.std.specs.List.{range_with_len}
 use Rattle.std.proofs.lemmas.List.{map_push, length-map}
 use Rattle.std.proofs.lemmas.List.FromFn.{map-range_with_len_more}
@@ -30,7 +30,7 @@ loop-number-preserved g c =
     let so_far = map (product_moves_at a b e) (range_with_len 0 n) in
     let added = map (move_of g.L.LabelSet.letters) c.in_ok-numbered_edges.field-0.items in
     let one : added ≡ product_moves_at a b e n =
-        c.in_ok-numbered_edges.ensures ∙ ap (λ l. numbered l c.targets.result.now) (c.in_ok-joint.ensures.moves ∙ ap (λ l. joint_moves a b (get_or l n (pair_of 0 0))) c.pairs-pairs.ensures)
-        ∙ ap (λ l. numbered (joint_moves a b (get_or e.pairs n (pair_of 0 0))) l) c.targets.ensures ∙ sym (product_moves_of a b e n below (pair_of 0 0)) in
+    c.in_ok-numbered_edges.ensures ∙ ap (λ l. numbered l c.targets.result.now) (c.in_ok-joint.ensures.moves ∙ ap (λ l. joint_moves a b (get_or l n (pair_of 0 0))) c.pairs-pairs.ensures)
+    ∙ ap (λ l. numbered (joint_moves a b (get_or e.pairs n (pair_of 0 0))) l) c.targets.ensures ∙ sym (product_moves_of a b e n below (pair_of 0 0)) in
     ap moves c.in_ok-push.ensures.items ∙ map_push (λ v. map (move_of g.L.LabelSet.letters) v.items) c.loop-number.edges.items _
     ∙ ap (λ l. l ++ added ∷ []) c.loop-number.invariant ∙ ap (λ m. so_far ++ m ∷ []) one ∙ sym (map-range_with_len_more (product_moves_at a b e) 0 n n (omega arith))

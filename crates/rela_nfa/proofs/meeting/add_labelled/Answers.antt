@@ -1,4 +1,4 @@
-use Rattle.std.proofs.Common.{◌≡◌, List, ◌++◌, map, Some, ◌∙◌, sym, ap}
+use Rattle.std.proofs.Common.{◌++◌, map, Some, ◌∙◌, sym, ap}
 use Rattle.std.specs.Option.{option_map}
 use Rattle.std.proofs.lemmas.Bool.{both_ways}
 use Rattle.std.proofs.lemmas.List.{append-nil, map_push}
@@ -15,9 +15,9 @@ returns-in_ok-push g c =
     let some = some_in set (λ none. both_ways c.is_empty.result c.if-not-is_empty.true (c.is_empty.ensures.1 none)) in
     ap (λ l. map (joint_of letters) l) c.in_ok-push.ensures.items ∙ map_push (joint_of letters) c.args.joint.now.items _
     ∙ ap (λ l. map (joint_of letters) c.args.joint.now.items ++ l)
-      (sym (ap (λ o. labelled_both (option_map letters o) (option_map letters c.args.second.now.label) to) c.in-Some-Some.is-0
-      ∙ ap (λ o. labelled_both (option_map letters (Some c.in-Some-Some.s)) (option_map letters o) to) c.in-Some-Some.is-1
-      ∙ labelled_met (letters c.in-Some-Some.s) (letters c.in-Some-Some.t) set to same some))
+    (sym (ap (λ o. labelled_both (option_map letters o) (option_map letters c.args.second.now.label) to) c.in-Some-Some.is-0
+    ∙ ap (λ o. labelled_both (option_map letters (Some c.in-Some-Some.s)) (option_map letters o) to) c.in-Some-Some.is-1
+    ∙ labelled_met (letters c.in-Some-Some.s) (letters c.in-Some-Some.t) set to same some))
 
 pub returns-else-not-is_empty : goal.returns-else-not-is_empty
 returns-else-not-is_empty g c =
@@ -28,6 +28,6 @@ returns-else-not-is_empty g c =
     let none = none_in set (c.is_empty.ensures.0 c.if-not-is_empty.false) in
     sym (append-nil (map (joint_of letters) c.args.joint.now.items))
     ∙ ap (λ l. map (joint_of letters) c.args.joint.now.items ++ l)
-      (sym (ap (λ o. labelled_both (option_map letters o) (option_map letters c.args.second.now.label) to) c.in-Some-Some.is-0
-      ∙ ap (λ o. labelled_both (option_map letters (Some c.in-Some-Some.s)) (option_map letters o) to) c.in-Some-Some.is-1
-      ∙ labelled_apart (letters c.in-Some-Some.s) (letters c.in-Some-Some.t) set to same none))
+    (sym (ap (λ o. labelled_both (option_map letters o) (option_map letters c.args.second.now.label) to) c.in-Some-Some.is-0
+    ∙ ap (λ o. labelled_both (option_map letters (Some c.in-Some-Some.s)) (option_map letters o) to) c.in-Some-Some.is-1
+    ∙ labelled_apart (letters c.in-Some-Some.s) (letters c.in-Some-Some.t) set to same none))

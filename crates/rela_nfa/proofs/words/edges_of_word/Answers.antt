@@ -1,8 +1,7 @@
-use Rattle.std.proofs.Common.{◌≡◌, ◌+◌, ◌<◌, List, [], ◌∷◌, ◌++◌, length, map, Some, get_or, ◌∙◌, ap, arith}
+use Rattle.std.proofs.Common.{◌≡◌, ◌+◌, [], ◌∷◌, ◌++◌, map, Some, get_or, ◌∙◌, ap, arith}
 use Rattle.std.specs.List.{range_with_len}
 use Rattle.std.proofs.lemmas.List.{map_push}
-use Rattle.rela_nfa.specs.Automaton.{Move}
-use Rattle.rela_nfa.specs.Construction.{single, link, links}
+use Rattle.rela_nfa.specs.Construction.{single, link}
 use Rattle.rela_nfa.specs.Stored.{move_of, moves_in}
 use Rattle.rela_nfa.proofs.Chains.{links_more, links_all}
 use Rattle.rela_nfa.proofs.words.edges_of_word.Goals as goal

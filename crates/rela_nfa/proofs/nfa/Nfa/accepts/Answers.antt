@@ -1,4 +1,4 @@
-use Rattle.std.proofs.Common.{◌≡◌, List, ℕ, take, sym, ap, ◌∙◌, subst}
+use Rattle.std.proofs.Common.{List, ℕ, take, sym, subst}
 use Rattle.std.proofs.lemmas.List.{take_more, take_all}
 use Rattle.rela_nfa.specs.Reading.{AreReached}
 use Rattle.rela_nfa.proofs.nfa.Nfa.accepts.Goals as goal

@@ -1,7 +1,7 @@
-use Rattle.std.proofs.Common.{◌≡◌, List, ℕ, [], Some, take, ap, ◌∙◌, subst}
+use Rattle.std.proofs.Common.{List, ℕ, [], Some, ◌∙◌, subst}
 use Rattle.std.proofs.lemmas.List.{take_all}
 use Rattle.rela_nfa.specs.StateSet.{Adds}
-use Rattle.rela_nfa.proofs.Growing.{After, none_after, one_after, adds_all}
+use Rattle.rela_nfa.proofs.Growing.{After, one_after, adds_all}
 use Rattle.rela_nfa.proofs.nfa.Nfa.after.Goals as goal
 
 pub loop-q-preserved : goal.loop-q-preserved

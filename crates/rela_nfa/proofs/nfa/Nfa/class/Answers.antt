@@ -1,4 +1,4 @@
-use Rattle.std.proofs.Common.{◌≡◌, length, map, true, List, [], ◌∷◌, ◌++◌, Some, ◌∙◌, sym, ap, refl, arith}
+use Rattle.std.proofs.Common.{◌≡◌, length, map, true, List, [], ◌∷◌, ◌++◌, Some, ◌∙◌, ap, refl}
 use Rattle.std.proofs.lemmas.List.Elements.{All-nil, All-cons}
 use Rattle.rela_nfa.specs.Automaton.{Automaton, Move}
 use Rattle.rela_nfa.specs.Construction.{IsChain}

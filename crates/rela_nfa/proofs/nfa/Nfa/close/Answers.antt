@@ -1,7 +1,7 @@
-use Rattle.std.proofs.Common.{◌≡◌, ◌<◌, None, length, get_or, ap, ◌∙◌, subst, arith}
+use Rattle.std.proofs.Common.{◌<◌, None, length, get_or, ap, ◌∙◌, subst, arith}
 use Rattle.rela_nfa.specs.Runs.{HasStep}
 use Rattle.rela_nfa.specs.StateSet.{Adds}
-use Rattle.rela_nfa.proofs.Growing.{closing_none, closing_more, closing_all, adds_length}
+use Rattle.rela_nfa.proofs.Growing.{closing_more, closing_all, adds_length}
 use Rattle.rela_nfa.proofs.nfa.Nfa.close.Goals as goal
 
 pub loop-done-preserved : goal.loop-done-preserved

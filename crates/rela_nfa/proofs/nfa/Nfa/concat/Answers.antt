@@ -1,4 +1,4 @@
-use Rattle.std.proofs.Common.{◌≡◌, ℕ, ◌+◌, false, List, [], ◌∷◌, ◌++◌, Some, None, ◌∙◌, sym, ap, subst, refl}
+use Rattle.std.proofs.Common.{◌+◌, false, ◌++◌, Some, None, ◌∙◌, sym, ap, subst}
 use Rattle.std.specs.Prelude.{replicate}
 use Rattle.rela_nfa.specs.Automaton.{Automaton, IsAutomaton, states}
 use Rattle.rela_nfa.specs.Construction.{copied}

@@ -1,7 +1,6 @@
-use Rattle.std.proofs.Common.{map, subst, arith}
+use Rattle.std.proofs.Common.{subst, arith}
 use Rattle.std.proofs.lemmas.Grind.{common_steps}
-use Rattle.rela_nfa.specs.Automaton.{IsAutomaton, moves_of}
-use Rattle.rela_nfa.specs.Stored.{move_of}
+use Rattle.rela_nfa.specs.Automaton.{IsAutomaton}
 use Rattle.rela_nfa.proofs.Edges.{edges_lead, edges_sized}
 use Rattle.rela_nfa.proofs.nfa.Nfa.edges.Goals as goal
 

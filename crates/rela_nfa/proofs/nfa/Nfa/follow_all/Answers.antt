@@ -1,10 +1,10 @@
-use Rattle.std.proofs.Common.{◌≡◌, List, [], ◌∷◌, ◌++◌, map, take, get_or, sym, ap, ◌∙◌, subst}
+use Rattle.std.proofs.Common.{List, [], ◌∷◌, ◌++◌, map, take, sym, ap, ◌∙◌, subst}
 use Rattle.std.proofs.lemmas.List.{map_more, take_all}
 use Rattle.rela_nfa.specs.Automaton.{Move}
 use Rattle.rela_nfa.specs.Runs.{StepIn}
 use Rattle.rela_nfa.specs.StateSet.{Adds}
 use Rattle.rela_nfa.specs.Stored.{move_of}
-use Rattle.rela_nfa.proofs.Growing.{no_edge, one_edge}
+use Rattle.rela_nfa.proofs.Growing.{one_edge}
 use Rattle.rela_nfa.proofs.nfa.Nfa.follow_all.Goals as goal
 
 pub loop-edge-preserved : goal.loop-edge-preserved

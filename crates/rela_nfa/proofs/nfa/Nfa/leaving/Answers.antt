@@ -1,4 +1,4 @@
-use Rattle.std.proofs.Common.{◌≡◌, false, map, ◌∙◌, sym, ap, ◌++◌, [], ◌∷◌}
+use Rattle.std.proofs.Common.{map, ◌∙◌, sym, ap, ◌++◌, [], ◌∷◌}
 use Rattle.std.proofs.lemmas.Bool.{false_from_ne_true, both_ways}
 use Rattle.std.proofs.lemmas.List.{map_push}
 use Rattle.rela_nfa.proofs.Parts.{leaving_with_exit, leaving_without_exit, leaving_unless_final}

@@ -1,14 +1,12 @@
-use Rattle.std.proofs.Common.{◌≡◌, ℕ, ◌<◌, ◌↔◌, List, Some, map, length, ◌∙◌, sym, ap, subst, refl}
-use Rattle.std.specs.List.{All, Contains, slice_get}
+use Rattle.std.proofs.Common.{◌≡◌, ℕ, ◌<◌, ◌↔◌, List, Some, map, ◌∙◌, sym, ap, subst, refl}
+use Rattle.std.specs.List.{All, Contains}
 use Rattle.std.proofs.lemmas.Result.{err_from_is_err_and}
-use Rattle.rela_pairs.specs.Exploration.{NumbersNext}
 use Rattle.rela_pairs.specs.Reachable.{Reachable, MoreThan}
 use Rattle.rela_pairs.specs.declared.pair.Pair.{Pair}
-use Rattle.rela_nfa.specs.Automaton.{Automaton, IsAutomaton, states}
+use Rattle.rela_nfa.specs.Automaton.{Automaton, states}
 use Rattle.rela_nfa.specs.Meeting.{IsProduct, next_pairs, final_both, pair_of}
 use Rattle.rela_nfa.specs.Stored.{moves_in}
-use Rattle.rela_nfa.proofs.Meets.{explored_states, more_together, more_reachable, product_states, product_ok, product_meet, product_language}
-use Rattle.rela_nfa.proofs.nfa.Nfa.meet.Given.{Over}
+use Rattle.rela_nfa.proofs.Meets.{explored_states, more_together, more_reachable, product_ok, product_meet, product_language}
 use Rattle.rela_nfa.proofs.nfa.Nfa.meet.Goals as goal
 
 -- the pair of the two starts
@@ -60,7 +58,7 @@ invariant_of-result g c =
     } in
     let first = c.in_ok-explored.ensures.first ∙ ap Some e in
     let each : (y : Pair) → Contains x.pairs y ↔ Reachable (next_pairs a b) (pair_of a.start b.start) y =
-        λ y. subst (λ s. Contains x.pairs y ↔ Reachable (next_pairs a b) s y) e (c.in_ok-explored.ensures.reachable y) in
+    λ y. subst (λ s. Contains x.pairs y ↔ Reachable (next_pairs a b) s y) e (c.in_ok-explored.ensures.reachable y) in
     (c.self.invariant.0, product_ok a b nfa x built c.in_ok-explored.ensures.distinct first each c.in_ok-explored.ensures.targets c.start.ensures.automaton)
 
 pub returns-clause-pairs : goal.returns-clause-pairs
@@ -83,7 +81,7 @@ returns-clause-pairs g c =
     } in
     let first = c.in_ok-explored.ensures.first ∙ ap Some e in
     let each : (y : Pair) → Contains x.pairs y ↔ Reachable (next_pairs a b) (pair_of a.start b.start) y =
-        λ y. subst (λ s. Contains x.pairs y ↔ Reachable (next_pairs a b) s y) e (c.in_ok-explored.ensures.reachable y) in
+    λ y. subst (λ s. Contains x.pairs y ↔ Reachable (next_pairs a b) s y) e (c.in_ok-explored.ensures.reachable y) in
     (x.pairs, product_meet a b nfa x built c.in_ok-explored.ensures.distinct first each c.in_ok-explored.ensures.targets)
 
 pub returns-clause-language : goal.returns-clause-language
@@ -106,7 +104,7 @@ returns-clause-language g c =
     } in
     let first = c.in_ok-explored.ensures.first ∙ ap Some e in
     let each : (y : Pair) → Contains x.pairs y ↔ Reachable (next_pairs a b) (pair_of a.start b.start) y =
-        λ y. subst (λ s. Contains x.pairs y ↔ Reachable (next_pairs a b) s y) e (c.in_ok-explored.ensures.reachable y) in
+    λ y. subst (λ s. Contains x.pairs y ↔ Reachable (next_pairs a b) s y) e (c.in_ok-explored.ensures.reachable y) in
     product_language a b nfa x built c.in_ok-explored.ensures.distinct first each c.in_ok-explored.ensures.targets
 
 pub returns-clause-within : goal.returns-clause-within

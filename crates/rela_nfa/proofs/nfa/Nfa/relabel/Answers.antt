@@ -1,4 +1,4 @@
-use Rattle.std.proofs.Common.{◌≡◌, ℕ, ◌<◌, List, map, length, ◌∙◌, sym, ap, subst, arith}
+use Rattle.std.proofs.Common.{◌≡◌, ℕ, ◌<◌, map, length, ◌∙◌, sym, ap, subst, arith}
 use Rattle.rela_labels.specs.Partition.{block_of, block_count}
 use Rattle.rela_nfa.specs.Automaton.{Automaton, IsAutomaton}
 use Rattle.rela_nfa.specs.Relabelling.{IsRelabelled, relabelled_move}

@@ -1,4 +1,4 @@
-use Rattle.std.proofs.Common.{◌≡◌, ℕ, ◌+◌, true, List, [], ◌∷◌, ◌++◌, map, Some, ◌∙◌, ap, subst, refl}
+use Rattle.std.proofs.Common.{◌≡◌, ◌+◌, true, [], ◌∷◌, ◌++◌, map, Some, ◌∙◌, ap, subst, refl}
 use Rattle.rela_nfa.specs.Automaton.{Automaton, IsAutomaton}
 use Rattle.rela_nfa.specs.Construction.{silent, copied}
 use Rattle.rela_nfa.specs.Stored.{moves_in}

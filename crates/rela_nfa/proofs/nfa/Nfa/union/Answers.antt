@@ -1,4 +1,4 @@
-use Rattle.std.proofs.Common.{◌≡◌, ℕ, ◌+◌, false, List, [], ◌∷◌, ◌++◌, map, None, ◌∙◌, sym, ap, subst, refl}
+use Rattle.std.proofs.Common.{◌≡◌, ◌+◌, false, [], ◌∷◌, ◌++◌, map, None, ◌∙◌, sym, ap, subst, refl}
 use Rattle.rela_nfa.specs.Automaton.{Automaton, IsAutomaton, states}
 use Rattle.rela_nfa.specs.Construction.{silent, copied}
 use Rattle.rela_nfa.specs.Stored.{moves_in}

@@ -1,7 +1,7 @@
-use Rattle.std.proofs.Common.{◌≡◌, ◌+◌, false, true, List, [], ◌∷◌, ◌++◌, length, map, ◌∙◌, sym, ap, refl, arith}
+use Rattle.std.proofs.Common.{◌+◌, false, true, [], ◌∷◌, ◌++◌, map, ◌∙◌, sym, ap, refl}
 use Rattle.std.specs.Prelude.{replicate}
 use Rattle.std.proofs.lemmas.List.{length-map}
-use Rattle.rela_nfa.specs.Automaton.{Automaton, states}
+use Rattle.rela_nfa.specs.Automaton.{Automaton}
 use Rattle.rela_nfa.specs.Construction.{single, IsChain}
 use Rattle.rela_nfa.specs.Stored.{moves_in}
 use Rattle.rela_nfa.proofs.Chains.{chain_ok, chain_states, singles_sized, word_reached, word_accepted}
