@@ -1,2 +1,9 @@
 pub mod Given
 pub mod Found
+pub mod InputLaws
+pub mod LoadLaws
+pub mod Loops
+pub mod Places
+pub mod PlainLaws
+pub mod CheckLaws
+pub mod TreeLaws

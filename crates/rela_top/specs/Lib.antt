@@ -1,10 +1,16 @@
 pub mod Words
-pub mod Operands
+pub mod Commands
 pub mod Refusal
 pub mod Answer
 pub mod Reading
+pub mod Inputs
 pub mod Loading
+pub mod Keywords
+pub mod PlainForm
+pub mod PlainParts
 pub mod Plain
+pub mod Checked
+pub mod Specifications
 pub use Rattle.rela_io.specs.Count
 pub use Rattle.rela_io.specs.Bytes
 pub use Rattle.rela_io.specs.Held

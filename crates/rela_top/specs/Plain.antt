@@ -22,4 +22,4 @@ abbrev pub IsRowOf : List (List ℕ) → PlainCheck → FlowPair → ReportRow �
 IsRowOf names check pair (Unselected flow) = ⊥
 IsRowOf names check pair (Checked flow name row) =
     (flow ≡ pair.class.name) × (name ≡ check.name)
-    × IsVerdict (Paths pair.before Interface names check.word.items) (Paths pair.after Interface names check.word.items) check.word.items row
+    × IsVerdict (Paths pair.before Interface names check.word) (Paths pair.after Interface names check.word) check.word row

@@ -2,6 +2,8 @@
 #![tactic(auto)]
 
 mod answer;
+mod formatting;
+mod keywords;
 mod loading;
 mod plain;
 mod reading;
@@ -16,6 +18,7 @@ pub use answer::{
     Answer, BAD_WORDS, MET, NO_MEMORY, READ_FAULT, REFUSED, UNDECIDED, VIOLATED, WRITE_FAULT,
     deliver,
 };
+pub use formatting::{format, read_tree};
 pub use loading::{load_locations, load_snapshot, load_spec, pair_halt};
 pub use plain::{PlainCheck, read_plain};
 pub use reading::{Halt, MAX_FILE_BYTES, read_input};
@@ -24,7 +27,7 @@ pub use reporting::report;
 pub use rows::{row_of, rows_of};
 pub use running::run;
 pub use verdict::decide_kept;
-pub use words::{Operands, read_words};
+pub use words::{Command, read_words};
 
 #[cfg(test)]
 mod tests;

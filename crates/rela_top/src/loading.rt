@@ -1,18 +1,21 @@
 //! Loading each input: its bytes are read whole, and then decoded.
 
-ghost use Rattle.std.specs.Prelude.{◌≡◌, ◌≢◌, ◌<◌, ◌≤◌, All, Err, IsTrue, IfOk, IfErr, OnOk};
+ghost use Rattle.std.specs.Prelude.{◌≡◌, ◌≢◌, ◌<◌, ◌≤◌, All, Ok, Err, IsTrue, IfOk, IfErr, OnOk};
 ghost use Rattle.rela_names.specs.declared.level.Level.TheVariants.{Interface};
 ghost use Rattle.rela_names.specs.Alphabet.{path_symbols};
 ghost use Rattle.rela_snapshot.specs.Interfaces.{interfaces_in};
 ghost use Rattle.rela_snapshot.specs.Located.{AreLocated};
-ghost use Rattle.rela_top.specs.Operands.{files_of};
+ghost use Rattle.rela_top.specs.Commands.{command_of};
 ghost use Rattle.rela_top.specs.Reading.{max_file_bytes, HoldsFiles, HaltsBy};
+ghost use Rattle.rela_top.specs.Inputs.{Gives, ReadsNetwork, ReadsFlows};
+ghost use Rattle.rela_top.specs.PlainForm.{ReadsCheck};
+ghost use Rattle.rela_top.specs.declared.refusal.Refusal.{Refusal};
 ghost use Rattle.rela_top.specs.Loading.{load_halt, spec_halt, pair_halt};
 
 use crate::plain::{PlainCheck, read_plain};
 use crate::reading::{Halt, read_input};
 use crate::refusal::{Input, Refusal};
-use crate::words::Operands;
+use crate::words::Command;
 use rela_io::Files;
 use rela_json::LoadError;
 use rela_lex::SpecError;
@@ -25,18 +28,21 @@ use std::alloc::Global;
 pub fn load_locations<F: Files>(
     alloc: Global,
     files: &mut F,
-    operands: &Operands<'_>,
+    command: &Command<'_>,
 ) -> Result<Locations, Halt>
+    ensures network { IfOk result (λ locations. Gives (F.holds files.old) (command_of command.now) Input.Locations ReadsNetwork (Ok locations)) }
+    ensures refused { IfErr result (λ halt. (refusal : Refusal) → halt ≡ Halt.Refused refusal →
+        Gives (F.holds files.old) (command_of command.now) Input.Locations ReadsNetwork (Err refusal)) }
     ensures ok_given { OnOk result (F.given files.new ≤ max_file_bytes) }
     ensures ok_keeps_count { OnOk result (F.faults files.new ≡ F.faults files.old) }
-    ensures halts { IfErr result (HaltsBy (F.holds files.old) (files_of operands.now)
+    ensures halts { IfErr result (HaltsBy (F.holds files.old) (command_of command.now)
         (F.faults files.old) (F.faults files.new) (F.given files.new)) }
-    ensures steady_is_no_fault { IsTrue (F.steady files.old) → HoldsFiles (F.holds files.old) (files_of operands.now) →
+    ensures steady_is_no_fault { IsTrue (F.steady files.old) → HoldsFiles (F.holds files.old) (command_of command.now) →
         result ≢ Err Halt.ReadFault }
     ensures same_holds { F.holds files.new ≡ F.holds files.old }
     ensures same_steady { F.steady files.new ≡ F.steady files.old }
 {
-    let bytes = read_input(alloc, files, operands, Input::Locations)?;
+    let bytes = read_input(alloc, files, command, Input::Locations)?;
     match Locations::decode(alloc, bytes.as_slice()) {
         Ok(locations) => Ok(locations),
         Err(error) => Err(load_halt(Input::Locations, error)),
@@ -58,21 +64,24 @@ fn load_halt(input: Input, error: LoadError) -> Halt
 pub fn load_snapshot<F: Files>(
     alloc: Global,
     files: &mut F,
-    operands: &Operands<'_>,
+    command: &Command<'_>,
     input: Input,
     locations: &Locations,
 ) -> Result<Snapshot, Halt>
+    ensures flows { IfOk result (λ snapshot. Gives (F.holds files.old) (command_of command.now) input (ReadsFlows input locations.now) (Ok snapshot)) }
+    ensures refused { IfErr result (λ halt. (refusal : Refusal) → halt ≡ Halt.Refused refusal →
+        Gives (F.holds files.old) (command_of command.now) input (ReadsFlows input locations.now) (Err refusal)) }
     ensures located { IfOk result (AreLocated (interfaces_in locations.now) Interface) }
     ensures ok_given { OnOk result (F.given files.new ≤ max_file_bytes) }
     ensures ok_keeps_count { OnOk result (F.faults files.new ≡ F.faults files.old) }
-    ensures halts { IfErr result (HaltsBy (F.holds files.old) (files_of operands.now)
+    ensures halts { IfErr result (HaltsBy (F.holds files.old) (command_of command.now)
         (F.faults files.old) (F.faults files.new) (F.given files.new)) }
-    ensures steady_is_no_fault { IsTrue (F.steady files.old) → HoldsFiles (F.holds files.old) (files_of operands.now) →
+    ensures steady_is_no_fault { IsTrue (F.steady files.old) → HoldsFiles (F.holds files.old) (command_of command.now) →
         result ≢ Err Halt.ReadFault }
     ensures same_holds { F.holds files.new ≡ F.holds files.old }
     ensures same_steady { F.steady files.new ≡ F.steady files.old }
 {
-    let bytes = read_input(alloc, files, operands, input)?;
+    let bytes = read_input(alloc, files, command, input)?;
     match Snapshot::decode(alloc, bytes.as_slice(), locations) {
         Ok(snapshot) => Ok(snapshot),
         Err(error) => Err(load_halt(input, error)),
@@ -83,20 +92,23 @@ pub fn load_snapshot<F: Files>(
 pub fn load_spec<F: Files>(
     alloc: Global,
     files: &mut F,
-    operands: &Operands<'_>,
+    command: &Command<'_>,
     interfaces: &Alphabet,
 ) -> Result<PlainCheck, Halt>
-    ensures symbols { IfOk result (λ check. All (λ s. s < path_symbols interfaces.now) check.word.items) }
+    ensures check { IfOk result (λ check. Gives (F.holds files.old) (command_of command.now) Input.Spec (ReadsCheck interfaces.now) (Ok check)) }
+    ensures refused { IfErr result (λ halt. (refusal : Refusal) → halt ≡ Halt.Refused refusal →
+        Gives (F.holds files.old) (command_of command.now) Input.Spec (ReadsCheck interfaces.now) (Err refusal)) }
+    ensures symbols { IfOk result (λ check. All (λ s. s < path_symbols interfaces.now) check.word) }
     ensures ok_given { OnOk result (F.given files.new ≤ max_file_bytes) }
     ensures ok_keeps_count { OnOk result (F.faults files.new ≡ F.faults files.old) }
-    ensures halts { IfErr result (HaltsBy (F.holds files.old) (files_of operands.now)
+    ensures halts { IfErr result (HaltsBy (F.holds files.old) (command_of command.now)
         (F.faults files.old) (F.faults files.new) (F.given files.new)) }
-    ensures steady_is_no_fault { IsTrue (F.steady files.old) → HoldsFiles (F.holds files.old) (files_of operands.now) →
+    ensures steady_is_no_fault { IsTrue (F.steady files.old) → HoldsFiles (F.holds files.old) (command_of command.now) →
         result ≢ Err Halt.ReadFault }
     ensures same_holds { F.holds files.new ≡ F.holds files.old }
     ensures same_steady { F.steady files.new ≡ F.steady files.old }
 {
-    let bytes = read_input(alloc, files, operands, Input::Spec)?;
+    let bytes = read_input(alloc, files, command, Input::Spec)?;
     match read_plain(alloc, bytes.as_slice(), interfaces) {
         Ok(check) => Ok(check),
         Err(error) => Err(spec_halt(error)),
@@ -104,7 +116,7 @@ pub fn load_spec<F: Files>(
 }
 
 // What an error of the specification ends the command with.
-fn spec_halt(error: SpecError) -> Halt
+pub(crate) fn spec_halt(error: SpecError) -> Halt
     ensures { result ≡ spec_halt error }
 {
     match error {

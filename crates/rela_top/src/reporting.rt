@@ -1,9 +1,11 @@
 //! From the four files to the report.
 
 ghost use Rattle.std.specs.Prelude.{◌≡◌, ◌≢◌, ◌<◌, ◌≤◌, All, Err, IsTrue, IfOk, IfErr, OnOk};
-ghost use Rattle.rela_top.specs.Operands.{files_of};
+ghost use Rattle.rela_top.specs.Commands.{command_of};
 ghost use Rattle.rela_top.specs.Reading.{max_file_bytes, HoldsFiles, HaltsBy};
-ghost use Rattle.rela_top.specs.Answer.{IsReport};
+ghost use Rattle.rela_top.specs.Answer.{TellsRows, TellsCheck};
+ghost use Rattle.rela_top.specs.Checked.{Checked};
+ghost use Rattle.rela_top.specs.declared.refusal.Refusal.{Refusal};
 ghost use Rattle.rela_names.specs.Alphabet.{path_symbols};
 ghost use Rattle.rela_names.specs.declared.level.Level.TheVariants.{Interface};
 ghost use Rattle.rela_snapshot.specs.Interfaces.{interfaces_in};
@@ -15,7 +17,7 @@ use crate::plain::PlainCheck;
 use crate::reading::Halt;
 use crate::refusal::Input;
 use crate::rows::rows_of;
-use crate::words::Operands;
+use crate::words::Command;
 use rela_io::Files;
 use rela_locations::Locations;
 use rela_names::{Alphabet, Level};
@@ -25,28 +27,26 @@ use std::alloc::{AllocError, Global};
 
 /// Reads the locations, the snapshot before, the snapshot after and the specification, in this
 /// order, and makes the report. The first refusal or fault ends it.
-pub fn report<F: Files>(
-    alloc: Global,
-    files: &mut F,
-    operands: &Operands<'_>,
-) -> Result<Answer, Halt>
-    ensures reports { IfOk result (λ answer. IsReport answer.text.items answer.status) }
+pub fn report<F: Files>(alloc: Global, files: &mut F, command: &Command<'_>) -> Result<Answer, Halt>
+    ensures reports { IfOk result (λ answer. TellsCheck (F.holds files.old) (command_of command.now) answer.text.items answer.status) }
+    ensures refused { IfErr result (λ halt. (refusal : Refusal) → halt ≡ Halt.Refused refusal →
+        Checked (F.holds files.old) (command_of command.now) (Err refusal)) }
     ensures ok_given { OnOk result (F.given files.new ≤ max_file_bytes) }
     ensures ok_keeps_count { OnOk result (F.faults files.new ≡ F.faults files.old) }
-    ensures halts { IfErr result (HaltsBy (F.holds files.old) (files_of operands.now)
+    ensures halts { IfErr result (HaltsBy (F.holds files.old) (command_of command.now)
         (F.faults files.old) (F.faults files.new) (F.given files.new)) }
-    ensures steady_is_no_fault { IsTrue (F.steady files.old) → HoldsFiles (F.holds files.old) (files_of operands.now) →
+    ensures steady_is_no_fault { IsTrue (F.steady files.old) → HoldsFiles (F.holds files.old) (command_of command.now) →
         result ≢ Err Halt.ReadFault }
 {
-    let locations = load_locations(alloc, files, operands)?;
-    let before = load_snapshot(alloc, files, operands, Input::Before, &locations)?;
-    let after = load_snapshot(alloc, files, operands, Input::After, &locations)?;
+    let locations = load_locations(alloc, files, command)?;
+    let before = load_snapshot(alloc, files, command, Input::Before, &locations)?;
+    let after = load_snapshot(alloc, files, command, Input::After, &locations)?;
     let pairs = match pair(alloc, before, after) {
         Ok(pairs) => pairs,
         Err(error) => return Err(pair_halt(error)),
     };
     let interfaces = interfaces_of(&locations);
-    let check = load_spec(alloc, files, operands, interfaces)?;
+    let check = load_spec(alloc, files, command, interfaces)?;
     Ok(report_on(alloc, &pairs, &check, interfaces)?)
 }
 
@@ -65,8 +65,8 @@ fn report_on(
     interfaces: &Alphabet,
 ) -> Result<Answer, AllocError>
     requires located { ArePairsLocated interfaces.now Interface pairs.now }
-    requires symbols { All (λ s. s < path_symbols interfaces.now) check.now.word.items }
-    ensures { IfOk result (λ answer. IsReport answer.text.items answer.status) }
+    requires symbols { All (λ s. s < path_symbols interfaces.now) check.now.word }
+    ensures { IfOk result (λ answer. TellsRows interfaces.now check.now pairs.now answer.text.items answer.status) }
 {
     let rows = rows_of(alloc, pairs, check, interfaces)?;
     let text = text(alloc, &rows, interfaces)?;

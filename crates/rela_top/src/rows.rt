@@ -1,6 +1,7 @@
 //! The rows of a run.
 
 ghost use Rattle.std.specs.Prelude.{◌≡◌, ◌<◌, IfOk, All};
+ghost use Rattle.std.specs.List.{AllZip};
 ghost use Rattle.rela_report.specs.Text.{HasTexts, RowHasTexts};
 ghost use Rattle.rela_top.specs.Plain.{IsRowOf};
 ghost use Rattle.rela_names.specs.declared.level.Level.TheVariants.{Interface};
@@ -21,8 +22,9 @@ pub fn rows_of(
     interfaces: &Alphabet,
 ) -> Result<Vec<ReportRow>, AllocError>
     requires located { ArePairsLocated interfaces.now Interface pairs.now }
-    requires symbols { HasTexts interfaces.now check.now.word.items }
-    ensures { IfOk result (λ rows. All (RowHasTexts interfaces.now) rows.items) }
+    requires symbols { HasTexts interfaces.now check.now.word }
+    ensures rows { IfOk result (λ rows. AllZip (IsRowOf interfaces.now check.now) pairs.now rows.items) }
+    ensures texts { IfOk result (λ rows. All (RowHasTexts interfaces.now) rows.items) }
 {
     let mut rows = Vec::with_capacity(alloc, pairs.len())?;
     for pair in pairs {
@@ -41,7 +43,7 @@ pub fn row_of(
     interfaces: &Alphabet,
 ) -> Result<ReportRow, AllocError>
     requires located { IsPairLocated interfaces.now Interface pair.now }
-    requires symbols { HasTexts interfaces.now check.now.word.items }
+    requires symbols { HasTexts interfaces.now check.now.word }
     ensures row { IfOk result (IsRowOf interfaces.now check.now pair.now) }
     ensures texts { IfOk result (RowHasTexts interfaces.now) }
 {

@@ -1,17 +1,19 @@
 //! The one call that the program makes.
 
-ghost use Rattle.std.specs.Prelude.{◌≡◌, ◌≢◌, ◌<◌, ◌⊎◌, None, Err, IsTrue, IfSome, IfOk, OnOk, map, string_bytes};
+ghost use Rattle.std.specs.Prelude.{◌≡◌, ◌≢◌, ◌<◌, ◌≤◌, ◌⊎◌, None, Err, IsTrue, IfSome, IfOk, IfErr, OnOk, map, string_bytes};
 ghost use Rattle.rela_io.specs.Count.{Rose};
 ghost use Rattle.rela_top.specs.Words.{Words};
-ghost use Rattle.rela_top.specs.Reading.{HoldsFiles};
-ghost use Rattle.rela_top.specs.Answer.{Answers, GivenBy};
-ghost use Rattle.rela_top.specs.Operands.{files_of};
+ghost use Rattle.rela_top.specs.Reading.{max_file_bytes, HoldsFiles, HaltsBy};
+ghost use Rattle.rela_top.specs.Answer.{Answers, GivenBy, IsMade, Outcome, Refusing};
+ghost use Rattle.rela_top.specs.declared.refusal.Refusal.{Refusal};
+ghost use Rattle.rela_top.specs.Commands.{command_of};
 
 use crate::answer::{Answer, BAD_WORDS, NO_MEMORY, READ_FAULT, REFUSED, WRITE_FAULT, deliver};
+use crate::formatting::format;
 use crate::reading::Halt;
 use crate::refusal::refusal_line;
 use crate::reporting::report;
-use crate::words::{Operands, read_words};
+use crate::words::{Command, read_words};
 use rela_io::{Files, Sink};
 use std::alloc::Global;
 
@@ -39,10 +41,10 @@ pub fn run<F: Files, K: Sink>(alloc: Global, words: &[String], files: &mut F, ou
     ensures read_fault_writes_nothing { result ≡ READ_FAULT → out.new ≡ out.old }
     ensures no_memory_writes_nothing { result ≡ NO_MEMORY → out.new ≡ out.old }
 {
-    let Some(operands) = read_words(words) else {
+    let Some(command) = read_words(words) else {
         return deliver(out, b"rela: bad command line\n", BAD_WORDS);
     };
-    match answer(alloc, files, &operands) {
+    match answer(alloc, files, &command) {
         Ok(answer) => deliver(out, answer.text.as_slice(), answer.status),
         Err(Stop::ReadFault) => READ_FAULT,
         Err(Stop::Memory) => NO_MEMORY,
@@ -56,17 +58,17 @@ enum Stop {
     Memory,
 }
 
-// The report, or the line that an input is refused with.
-fn answer<F: Files>(alloc: Global, files: &mut F, operands: &Operands<'_>) -> Result<Answer, Stop>
-    ensures fits { IfOk result (λ answer. GivenBy (files_of operands.now) (F.holds files.old) (F.given files.new)
+// What the command makes, or the line that an input is refused with.
+fn answer<F: Files>(alloc: Global, files: &mut F, command: &Command<'_>) -> Result<Answer, Stop>
+    ensures fits { IfOk result (λ answer. GivenBy (command_of command.now) (F.holds files.old) (F.given files.new)
         answer.text.items answer.status) }
     ensures ok_keeps_count { OnOk result (F.faults files.new ≡ F.faults files.old) }
     ensures fault_counted { result ≡ Err Stop.ReadFault → Rose (F.faults files.old) (F.faults files.new) }
     ensures memory_keeps_count { result ≡ Err Stop.Memory → F.faults files.new ≡ F.faults files.old }
-    ensures steady_is_no_fault { IsTrue (F.steady files.old) → HoldsFiles (F.holds files.old) (files_of operands.now) →
+    ensures steady_is_no_fault { IsTrue (F.steady files.old) → HoldsFiles (F.holds files.old) (command_of command.now) →
         (result ≢ Err Stop.ReadFault) × (F.faults files.new ≡ F.faults files.old) }
 {
-    match report(alloc, files, operands) {
+    match carry_out(alloc, files, command) {
         Ok(answer) => Ok(answer),
         Err(Halt::Refused(refusal)) => match refusal_line(alloc, &refusal) {
             Ok(text) => Ok(Answer {
@@ -77,5 +79,23 @@ fn answer<F: Files>(alloc: Global, files: &mut F, operands: &Operands<'_>) -> Re
         },
         Err(Halt::ReadFault) => Err(Stop::ReadFault),
         Err(Halt::Memory) => Err(Stop::Memory),
+    }
+}
+
+// The report or the canonical text.
+fn carry_out<F: Files>(alloc: Global, files: &mut F, command: &Command<'_>) -> Result<Answer, Halt>
+    ensures made { IfOk result (λ answer. IsMade (F.holds files.old) (command_of command.now) answer.text.items answer.status) }
+    ensures refused { IfErr result (λ halt. (refusal : Refusal) → halt ≡ Halt.Refused refusal →
+        Outcome (F.holds files.old) (command_of command.now) (Refusing refusal)) }
+    ensures ok_given { OnOk result (F.given files.new ≤ max_file_bytes) }
+    ensures ok_keeps_count { OnOk result (F.faults files.new ≡ F.faults files.old) }
+    ensures halts { IfErr result (HaltsBy (F.holds files.old) (command_of command.now)
+        (F.faults files.old) (F.faults files.new) (F.given files.new)) }
+    ensures steady_is_no_fault { IsTrue (F.steady files.old) → HoldsFiles (F.holds files.old) (command_of command.now) →
+        result ≢ Err Halt.ReadFault }
+{
+    match command {
+        Command::Check { .. } => report(alloc, files, command),
+        Command::Fmt { .. } => format(alloc, files, command),
     }
 }

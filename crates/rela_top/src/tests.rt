@@ -101,7 +101,17 @@ fn refuses_what_it_cannot_take(rt: HostRuntime) -> Result<(), Fail> {
             "refused spec 17 UnknownLocation at 18\n",
         ),
         (OVER_R2, "check c1 % ;", "refused spec 31 BadToken at 9\n"),
-        ("{", KEEP, "refused after 11 NotJson\n"),
+        (
+            OVER_R2,
+            "check c1 : { .* : preserve ;",
+            "refused spec 32 Syntax at 27\n",
+        ),
+        (
+            OVER_R2,
+            "check c1 : { .{65} : preserve };",
+            "refused spec 37 BadNumber at 15\n",
+        ),
+        ("{", "check c1 % ;", "refused after 11 NotJson\n"),
     ] {
         let mut files = MemoryFiles::new(files(alloc, after, spec)?, Vec::new(alloc), 1_000_000);
         let mut out = MemorySink::new(alloc, 1_000, Vec::new(alloc), 1_000)?;
@@ -109,6 +119,19 @@ fn refuses_what_it_cannot_take(rt: HostRuntime) -> Result<(), Fail> {
         assert_eq!(rt; run(alloc, &words, &mut files, &mut out), REFUSED, "{spec}");
         assert_eq!(rt; out.taken(), line.as_bytes());
     }
+    Ok(())
+}
+
+#[test]
+fn writes_the_canonical_text(rt: HostRuntime) -> Result<(), Fail> {
+    let alloc = rt.alloc();
+    let spec = "check atmost c : { (.) : ignore(a) }; # as it is read";
+    let text = "level interface;\ncheck atmost c : { . : ignore(a) };\n";
+    let mut files = MemoryFiles::new(files(alloc, OVER_R2, spec)?, Vec::new(alloc), 1_000_000);
+    let mut out = MemorySink::new(alloc, 1_000, Vec::new(alloc), 1_000)?;
+    let words = strings(alloc, &["fmt", "spec"])?;
+    assert_eq!(rt; run(alloc, &words, &mut files, &mut out), MET);
+    assert_eq!(rt; out.taken(), text.as_bytes());
     Ok(())
 }
 

@@ -8,4 +8,4 @@ pub returns-clause-row : goal.returns-clause-row
 returns-clause-row c =
     let P : List ℕ → Type 0 = λ word. IsVerdict (Paths c.args.pair.now.before Interface c.args.interfaces.now word)
     (Paths c.args.pair.now.after Interface c.args.interfaces.now word) word c.in_ok-row.row in
-    (c.in_ok-flow.ensures, c.in_ok-check.ensures, subst P c.as_slice-word.ensures.value c.in_ok-row.ensures.verdict)
+    (c.in_ok-flow.ensures, c.in_ok-check.ensures, subst P c.as_slice-word.ensures c.in_ok-row.ensures.verdict)

@@ -1,0 +1,46 @@
+-- What the bytes of an input give, by what reading them answers.
+use Rattle.std.proofs.Common.{◌≡◌, ℕ, ◌+◌, ◌<◌, ◌≤◌, List, length, replicate, Option, None, Some, IfSome, Result, Ok, Err, inl, inr, refl, arith}
+use Rattle.std.proofs.lemmas.List.{length-replicate}
+use Rattle.rela_io.specs.Held.{FilesByName, Lacks}
+use Rattle.rela_top.specs.Words.{Command}
+use Rattle.rela_top.specs.Reading.{max_file_bytes, name_of}
+use Rattle.rela_top.specs.Inputs.{IsTold, IsTooLong, HasBytes, Gives}
+use Rattle.rela_top.specs.declared.refusal.Input.{Input}
+use Rattle.rela_top.specs.declared.refusal.Refusal.{Refusal}
+use Rattle.rela_top.specs.declared.refusal.Refusal.TheVariants.{TooLong}
+
+-- a file that is held has its bytes
+held_bytes : (files : FilesByName) (name : List ℕ) (found : Option (List ℕ)) → files name ≡ found → ¬ (files name ≡ None)
+    → IfSome found (λ bytes. max_file_bytes < length bytes)
+    → (bytes : List ℕ) × IsTold (Some files) name bytes × (max_file_bytes < length bytes)
+held_bytes files name None is held long = absurd (held is)
+held_bytes files name (Some bytes) is held long = (bytes, is, long)
+
+-- some bytes are more than so many
+longer : (n : ℕ) → (bytes : List ℕ) × (n < length bytes)
+longer n = (replicate (n + 1) 0, omega (arith, length-replicate {A = ℕ} (n + 1) 0))
+
+-- a file that isn't missing, and is long where it is told
+pub is_too_long : (holds : Option FilesByName) (command : Command) (input : Input) (refusal : Refusal)
+    → ¬ Lacks holds (name_of command input)
+    → IfSome holds (λ held. IfSome (held (name_of command input)) (λ bytes. max_file_bytes < length bytes))
+    → refusal ≡ TooLong input → IsTooLong holds command input refusal
+unfolding IsTooLong
+is_too_long None command input refusal held long is =
+    let bytes = longer max_file_bytes in
+    (bytes.0, tt, bytes.1, is)
+is_too_long (Some f) command input refusal held long is =
+    let found = held_bytes f (name_of command input) (f (name_of command input)) refl held long in
+    (found.0, found.1, found.2, is)
+
+-- an input that is too long is refused for it
+pub gives_too_long : {A : Type 0} (holds : Option FilesByName) (command : Command) (input : Input) (Reads : List ℕ → Result A Refusal → Type 0) (refusal : Refusal)
+    → IsTooLong holds command input refusal → Gives holds command input Reads (Err refusal)
+unfolding Gives
+gives_too_long holds command input Reads refusal long = inl long
+
+-- bytes that aren't too many are read
+pub gives_read : {A : Type 0} (holds : Option FilesByName) (command : Command) (input : Input) (Reads : List ℕ → Result A Refusal → Type 0) (r : Result A Refusal) (bytes : List ℕ)
+    → HasBytes holds command input bytes → Reads bytes r → Gives holds command input Reads r
+unfolding Gives
+gives_read holds command input Reads r bytes has reads = inr (bytes, has, reads)

@@ -1,0 +1,48 @@
+-- What the four files of a check give rise to: a report, or the first refusal in the order in which they are read.
+use Rattle.std.specs.Prelude.{◌≡◌, ℕ, List, Option, Result, Ok, Err}
+use Rattle.std.specs.List.{AllZip}
+use Rattle.rela_io.specs.Held.{FilesByName}
+use Rattle.rela_report.specs.declared.rows.ReportRow.{ReportRow}
+use Rattle.rela_snapshot.specs.Interfaces.{interfaces_in}
+use Rattle.rela_snapshot.specs.Pair.{Pairing}
+use Rattle.rela_snapshot.specs.Steps.{◌>>=◌}
+use Rattle.rela_snapshot.specs.declared.pairing.FlowPair.{FlowPair}
+use Rattle.rela_snapshot.specs.declared.pairing.PairError.{PairError}
+use Rattle.rela_snapshot.specs.declared.pairing.PairError.TheVariants as pair
+use Rattle.rela_snapshot.specs.declared.snapshot.Flow.{Flow}
+use Rattle.rela_top.specs.Inputs.{Gives, ReadsNetwork, ReadsFlows}
+use Rattle.rela_top.specs.Plain.{IsRowOf}
+use Rattle.rela_top.specs.PlainForm.{ReadsCheck}
+use Rattle.rela_top.specs.Words.{Command}
+use Rattle.rela_top.specs.declared.plain.PlainCheck.{PlainCheck}
+use Rattle.rela_top.specs.declared.refusal.Input.TheVariants.{Locations, Before, After, Spec}
+use Rattle.rela_top.specs.declared.refusal.Refusal.{Refusal}
+use Rattle.rela_top.specs.declared.refusal.Refusal.TheVariants.{FlowDiffers}
+
+-- the names of the locations of a report's alphabet, and its rows
+pub record Report : Type 0 where
+  pub names : List (List ℕ)
+  pub rows : List ReportRow
+
+-- what pairing answers, without the place of a flow that differs
+abbrev pub IsPairedAs : Result (List FlowPair) PairError → Result (List FlowPair) Refusal → Type 0
+IsPairedAs (Ok pairs) r = r ≡ Ok pairs
+IsPairedAs (Err (pair.FlowDiffers row before after)) r = r ≡ Err (FlowDiffers before after)
+IsPairedAs (Err pair.Memory) r = ⊥
+
+unfoldable pub ArePaired : List Flow → List Flow → Result (List FlowPair) Refusal → Type 0
+ArePaired before after r = (x : Result (List FlowPair) PairError) × Pairing before after x × IsPairedAs x r
+
+-- one row for each pair of flows, in order
+unfoldable pub AreRows : List (List ℕ) → PlainCheck → List FlowPair → Result Report Refusal → Type 0
+AreRows names check pairs r =
+    (rows : List ReportRow) × AllZip (IsRowOf names check) pairs rows × (r ≡ Ok (record { names = names; rows = rows }))
+
+unfoldable pub Checked : Option FilesByName → Command → Result Report Refusal → Type 0
+Checked holds command = do
+  network ← Gives holds command Locations ReadsNetwork
+  before ← Gives holds command Before (ReadsFlows Before network)
+  after ← Gives holds command After (ReadsFlows After network)
+  pairs ← ArePaired before after
+  check ← Gives holds command Spec (ReadsCheck (interfaces_in network))
+  AreRows (interfaces_in network) check pairs

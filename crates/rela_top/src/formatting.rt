@@ -1,0 +1,56 @@
+//! The canonical text of a specification.
+
+ghost use Rattle.std.specs.Prelude.{◌≡◌, ◌≢◌, ◌≤◌, Ok, Err, IsTrue, IfOk, IfErr, OnOk, length};
+ghost use Rattle.rela_spec.specs.Print.{print_of};
+ghost use Rattle.rela_top.specs.Commands.{command_of};
+ghost use Rattle.rela_top.specs.Reading.{max_file_bytes, HoldsFiles, HaltsBy};
+ghost use Rattle.rela_top.specs.Specifications.{ReadsTree, Formatted};
+ghost use Rattle.rela_top.specs.declared.refusal.Refusal.{Refusal};
+
+use crate::answer::{Answer, MET};
+use crate::loading::spec_halt;
+use crate::reading::{Halt, read_input};
+use crate::refusal::Input;
+use crate::words::Command;
+use rela_io::Files;
+use rela_lex::{SpecError, tokens};
+use rela_spec::{SpecFile, parse, print};
+use std::alloc::Global;
+
+/// Reads the specification, and makes its canonical text.
+pub fn format<F: Files>(alloc: Global, files: &mut F, command: &Command<'_>) -> Result<Answer, Halt>
+    ensures formats { IfOk result (λ answer. Formatted (F.holds files.old) (command_of command.now) (Ok answer.text.items)) }
+    ensures status { IfOk result (λ answer. answer.status ≡ MET) }
+    ensures refused { IfErr result (λ halt. (refusal : Refusal) → halt ≡ Halt.Refused refusal →
+        Formatted (F.holds files.old) (command_of command.now) (Err refusal)) }
+    ensures ok_given { OnOk result (F.given files.new ≤ max_file_bytes) }
+    ensures ok_keeps_count { OnOk result (F.faults files.new ≡ F.faults files.old) }
+    ensures halts { IfErr result (HaltsBy (F.holds files.old) (command_of command.now)
+        (F.faults files.old) (F.faults files.new) (F.given files.new)) }
+    ensures steady_is_no_fault { IsTrue (F.steady files.old) → HoldsFiles (F.holds files.old) (command_of command.now) →
+        result ≢ Err Halt.ReadFault }
+{
+    let bytes = read_input(alloc, files, command, Input::Spec)?;
+    match read_tree(alloc, bytes.as_slice()) {
+        Ok(file) => Ok(Answer {
+            text: print(alloc, &file)?,
+            status: MET,
+        }),
+        Err(error) => Err(spec_halt(error)),
+    }
+}
+
+/// The tree of a specification's text, which has at most 32 MiB.
+///
+/// # Errors
+///
+/// `BadToken` where no token begins; else the first fault of the tokens, `Syntax`, `TooDeep` or
+/// `BadNumber`; `Memory`.
+pub fn read_tree(alloc: Global, text: &[u8]) -> Result<SpecFile, SpecError>
+    requires { length text.now ≤ 33554432 }
+    ensures tree { IfOk result (λ file. ReadsTree text.now (Ok file)) }
+    ensures fault { IfErr result (λ e. e ≢ SpecError.Memory → ReadsTree text.now (Err e)) }
+{
+    let tokens = tokens(alloc, text)?;
+    parse(alloc, tokens.as_slice(), text.len() as u32)
+}
