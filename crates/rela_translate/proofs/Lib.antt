@@ -1,0 +1,6 @@
+pub mod TermForms
+pub mod Markers
+pub mod MeaningForms
+pub mod Claims
+pub mod Equals
+pub mod Meanings

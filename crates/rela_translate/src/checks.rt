@@ -1,0 +1,78 @@
+ghost use Rattle.std.specs.Prelude.{◌≡◌};
+ghost use Rattle.rela_translate.specs.Checked.{IsCheck};
+
+use crate::body::Core;
+use rela_flows::Predicate;
+use rela_names::{Level, Name};
+use rela_rir::SymbolSet;
+use std::marker::Model;
+
+/// What has to hold between the paths before and after a change, for some flows. Contracts see it as
+/// the record of its parts. Each class of its body names an entry of the class table, and its markers
+/// are numbered 1, 2 and so on from left to right; the depth of its predicate and of the terms of its
+/// two relations is at most 1,000, and those have together at most 20,000 nodes.
+#[derive(Debug, Drop)]
+pub struct Check {
+    name: Name,
+    level: Level,
+    when: Predicate,
+    at_most: bool,
+    classes: Vec<SymbolSet>,
+    body: Core,
+}
+
+impl Model for Check {
+    ghost use Rattle.rela_translate.specs.Checked.{Checked};
+    ghost use Rattle.rela_translate.specs.Parts.{parts, IsWhole};
+
+    ghost Value = { Checked };
+
+    ghost view = { parts };
+
+    ghost invariant = { IsWhole };
+}
+
+impl Check {
+    /// The name that the check's rows are reported under.
+    pub fn name(&self) -> &Name
+        ensures { result.now ≡ self.now.name }
+    {
+        &self.name
+    }
+
+    /// How finely its locations are told apart.
+    pub fn level(&self) -> Level
+        ensures { result ≡ self.now.level }
+    {
+        self.level
+    }
+
+    /// Which flows it is for.
+    pub fn when(&self) -> &Predicate
+        ensures { result.now ≡ self.now.when }
+    {
+        &self.when
+    }
+
+    /// Whether only paths that come new offend, and not those that are missing.
+    pub fn at_most(&self) -> bool
+        ensures { result ≡ self.now.at_most }
+    {
+        self.at_most
+    }
+
+    /// The sets of path symbols that its body names.
+    pub fn classes(&self) -> &[SymbolSet]
+        ensures { result.now ≡ self.now.classes }
+    {
+        self.classes.as_slice()
+    }
+
+    /// What is asked for.
+    pub fn body(&self) -> &Core
+        ensures body { result.now ≡ self.now.body }
+        ensures check { IsCheck self.now }
+    {
+        &self.body
+    }
+}
