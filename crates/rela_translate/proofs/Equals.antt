@@ -8,7 +8,7 @@ use Rattle.rela_rir.proofs.MeaningForms.{at_word, at_pair, in_one, in_union, in_
 use Rattle.rela_rir.specs.declared.term.PathTerm.{PathTerm}
 use Rattle.rela_rir.specs.declared.term.RelTerm.{RelTerm}
 use Rattle.rela_rir.specs.declared.term.PathTerm.TheVariants as P
-use Rattle.rela_rir.specs.declared.term.RelTerm.TheVariants as R
+use Rattle.rela_rir.specs.declared.term.RelTerm.TheVariants as V
 use Rattle.rela_translate.specs.Zones.{Single, Either, Common, Without, Same, Pairs, EitherPair, Outside}
 use Rattle.rela_translate.specs.Terms.{without, outside}
 
@@ -54,18 +54,18 @@ module _ (m : Setting) where
       meet x (P.Complement y) X (λ w. IsPathWord m.path_symbols w × (¬ Y w)) f (complement y Y g) in
       (λ w has. ((both.0 w has).0, (both.0 w has).1.1), λ w has. both.1 w (has.0, (paths w has.0, has.1)))
 
-  pub identity : (x : PathTerm) (X : WordSet) → Equal (In m x) X → EqualR (InR m (R.Identity x)) (Same X)
+  pub identity : (x : PathTerm) (X : WordSet) → Equal (In m x) X → EqualR (InR m (V.Identity x)) (Same X)
   identity x X f = told_r _ _ (Same X) (in_identity_r m x) (within.identity (In m x) X f.0, within.identity X (In m x) f.1)
 
-  pub product : (x y : PathTerm) (X Y : WordSet) → Equal (In m x) X → Equal (In m y) Y → EqualR (InR m (R.Product x y)) (Pairs X Y)
+  pub product : (x y : PathTerm) (X Y : WordSet) → Equal (In m x) X → Equal (In m y) Y → EqualR (InR m (V.Product x y)) (Pairs X Y)
   product x y X Y f g = told_r _ _ (Pairs X Y) (in_product_r m x y)
       (within.product (In m x) X (In m y) Y f.0 g.0, within.product X (In m x) Y (In m y) f.1 g.1)
 
-  pub union_r : (r s : RelTerm) (R S : Relation) → EqualR (InR m r) R → EqualR (InR m s) S → EqualR (InR m (R.Union r s)) (EitherPair R S)
+  pub union_r : (r s : RelTerm) (R S : Relation) → EqualR (InR m r) R → EqualR (InR m s) S → EqualR (InR m (V.Union r s)) (EitherPair R S)
   union_r r s R S f g = told_r _ _ (EitherPair R S) (in_union_r m r s)
       (within.union_r (InR m r) R (InR m s) S f.0 g.0, within.union_r R (InR m r) S (InR m s) f.1 g.1)
 
-  pub concat_r : (r s : RelTerm) (R S : Relation) → EqualR (InR m r) R → EqualR (InR m s) S → EqualR (InR m (R.Concat r s)) (PairConcatenation R S)
+  pub concat_r : (r s : RelTerm) (R S : Relation) → EqualR (InR m r) R → EqualR (InR m s) S → EqualR (InR m (V.Concat r s)) (PairConcatenation R S)
   concat_r r s R S f g = told_r _ _ (PairConcatenation R S) (in_concat_r m r s)
       (within.joined_r (InR m r) R (InR m s) S f.0 g.0, within.joined_r R (InR m r) S (InR m s) f.1 g.1)
 
@@ -73,9 +73,9 @@ module _ (m : Setting) where
   pub outside_r : (x : PathTerm) (r : RelTerm) (X : WordSet) (R : Relation) → Equal (In m x) X → EqualR (InR m r) R →
       ((u v : List ℕ) → R u v → IsPathWord m.path_symbols u) → EqualR (InR m (outside x r)) (Outside X R)
   outside_r x r X R f g paths =
-      let others : EqualR (InR m (R.Identity (P.Complement x))) (Same (λ w. IsPathWord m.path_symbols w × (¬ X w))) =
+      let others : EqualR (InR m (V.Identity (P.Complement x))) (Same (λ w. IsPathWord m.path_symbols w × (¬ X w))) =
       identity (P.Complement x) (λ w. IsPathWord m.path_symbols w × (¬ X w)) (complement x X f) in
-      told_r _ _ (Outside X R) (in_compose_r m (R.Identity (P.Complement x)) r) (
+      told_r _ _ (Outside X R) (in_compose_r m (V.Identity (P.Complement x)) r) (
         λ u v c.
             let first : Same (λ w. IsPathWord m.path_symbols w × (¬ X w)) u c.middle = others.0 u c.middle c.first in
             (subst (λ (w : List ℕ). R w v) (sym first.0) (g.0 c.middle v c.second), first.1.1),

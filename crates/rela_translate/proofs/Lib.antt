@@ -4,3 +4,5 @@ pub mod MeaningForms
 pub mod Claims
 pub mod Equals
 pub mod Meanings
+pub mod Verdicts
+pub mod Sample

@@ -44,25 +44,31 @@ all_rest Q (x ∷ xs) ys all = all_rest Q xs ys (λ i d inside. all (suc i) d (o
 pub in_unit : (z : Expr) (c : Change) → All IsMarker (markers_of (B.Unit z c)) → All IsMarker (change_markers c)
 in_unit z c all = subst (λ (ks : List ℕ). All IsMarker ks) (markers_unit z c) all
 
-pub then_front : (s t : Core) → All IsMarker (markers_of (B.Then s t)) → All IsMarker (markers_of s)
-then_front s t all = all_front IsMarker (markers_of s) (markers_of t) (subst (λ (ks : List ℕ). All IsMarker ks) (markers_then s t) all)
+pub then_front : (body s t x : Core) → body ≡ B.Then s t → x ≡ s → All IsMarker (markers_of body) → All IsMarker (markers_of x)
+then_front body s t x is part all =
+    let here : All IsMarker (markers_of s ++ markers_of t) = subst (All IsMarker) (ap markers_of is ∙ markers_then s t) all in
+    subst (λ (y : Core). All IsMarker (markers_of y)) (sym part) (all_front IsMarker (markers_of s) (markers_of t) here)
 
-pub then_rest : (s t : Core) → All IsMarker (markers_of (B.Then s t)) → All IsMarker (markers_of t)
-then_rest s t all = all_rest IsMarker (markers_of s) (markers_of t) (subst (λ (ks : List ℕ). All IsMarker ks) (markers_then s t) all)
+pub then_rest : (body s t x : Core) → body ≡ B.Then s t → x ≡ t → All IsMarker (markers_of body) → All IsMarker (markers_of x)
+then_rest body s t x is part all =
+    let here : All IsMarker (markers_of s ++ markers_of t) = subst (All IsMarker) (ap markers_of is ∙ markers_then s t) all in
+    subst (λ (y : Core). All IsMarker (markers_of y)) (sym part) (all_rest IsMarker (markers_of s) (markers_of t) here)
 
-pub else_front : (s t : Core) → All IsMarker (markers_of (B.Else s t)) → All IsMarker (markers_of s)
-else_front s t all = all_front IsMarker (markers_of s) (markers_of t) (subst (λ (ks : List ℕ). All IsMarker ks) (markers_else s t) all)
+pub else_front : (body s t x : Core) → body ≡ B.Else s t → x ≡ s → All IsMarker (markers_of body) → All IsMarker (markers_of x)
+else_front body s t x is part all =
+    let here : All IsMarker (markers_of s ++ markers_of t) = subst (All IsMarker) (ap markers_of is ∙ markers_else s t) all in
+    subst (λ (y : Core). All IsMarker (markers_of y)) (sym part) (all_front IsMarker (markers_of s) (markers_of t) here)
 
-pub else_rest : (s t : Core) → All IsMarker (markers_of (B.Else s t)) → All IsMarker (markers_of t)
-else_rest s t all = all_rest IsMarker (markers_of s) (markers_of t) (subst (λ (ks : List ℕ). All IsMarker ks) (markers_else s t) all)
+pub else_rest : (body s t x : Core) → body ≡ B.Else s t → x ≡ t → All IsMarker (markers_of body) → All IsMarker (markers_of x)
+else_rest body s t x is part all =
+    let here : All IsMarker (markers_of s ++ markers_of t) = subst (All IsMarker) (ap markers_of is ∙ markers_else s t) all in
+    subst (λ (y : Core). All IsMarker (markers_of y)) (sym part) (all_rest IsMarker (markers_of s) (markers_of t) here)
 
 pub any_of_positive : (p : Expr) (k : ℕ) → All IsMarker (change_markers (AnyOf p k)) → 1 ≤ k
 any_of_positive p k all = (all 0 k (omega arith)).0
 
 pub any_of_few : (p : Expr) (k : ℕ) → All IsMarker (change_markers (AnyOf p k)) → k ≤ 20000
 any_of_few p k all = (all 0 k (omega arith)).1
-
-pub ruleset marker_forms = (in_unit, then_front, then_rest, else_front, else_rest)
 
 pub ruleset unit_markers = (any_of_positive, any_of_few)
 
@@ -102,7 +108,7 @@ few = ind-Core Few (λ x y is. subst (λ z. Few (roll-Core z)) is (layer_few y))
 
 all_range : (a n : ℕ) → 1 ≤ a → a + n ≤ 20001 → All IsMarker (range_with_len a n)
 all_range a zero positive low = All-nil IsMarker
-all_range a (suc n) positive low = All-cons IsMarker a (range_with_len (suc a) n) (positive, omega (arith, low)) (all_range (suc a) n (omega arith) (omega (arith, low)))
+all_range a (suc n) positive low = All-cons IsMarker a (range_with_len (a + 1) n) (positive, omega (arith, low)) (all_range (a + 1) n (omega arith) (omega (arith, low)))
 
 pub check_is_marked : (check : Checked) → IsCheck check → All IsMarker (markers_of check.body)
 check_is_marked check is =

@@ -1,11 +1,11 @@
 -- The terms of an expression and of a body have the words and the pairs that these mean.
 use Rattle.std.proofs.Common.{◌≡◌, ℕ, ap, List, [], ◌∷◌, refl, sym, subst}
 use Rattle.std.specs.Prelude.{◌↔◌}
-use Rattle.rela_rir.specs.Words.{WordSet, Relation, Star}
+use Rattle.rela_rir.specs.Words.{WordSet, Relation, Star, ImageOf}
 use Rattle.rela_rir.specs.Meaning.{Setting, In, InR, IsPathWord}
 use Rattle.rela_rir.proofs.Inclusions as within
 use Rattle.rela_rir.proofs.Inclusions.{Within}
-use Rattle.rela_rir.proofs.MeaningForms.{in_empty, in_class, in_star}
+use Rattle.rela_rir.proofs.MeaningForms.{in_empty, in_class, in_star, in_pre, in_post, in_image}
 use Rattle.rela_rir.specs.declared.set.SymbolSet.{SymbolSet}
 use Rattle.rela_rir.specs.declared.term.PathTerm.{PathTerm}
 use Rattle.rela_rir.specs.declared.term.RelTerm.{RelTerm}
@@ -209,3 +209,22 @@ pub after_in : (m : Setting) (n : ℕ) (body : Core) → m.path_symbols ≡ path
     InR m (after_of n body) u v ↔ After m.classes n body u v
 after_in m n body fits u v =
     subst (λ (s : Setting). InR s (after_of n body) u v ↔ After m.classes n body u v) (sym (as_setting m n fits)) (after_means m.classes n m.pre m.post body u v)
+
+image_in : (m : Setting) (x : PathTerm) (r : RelTerm) (X : WordSet) (R : Relation) → Equal (In m x) X → EqualR (InR m r) R → (v : List ℕ) →
+    In m (P.Image x r) v ↔ ImageOf X R v
+image_in m x r X R f g v =
+    let same : Equal (In m (P.Image x r)) (ImageOf X R) =
+    equals.told _ _ (ImageOf X R) (in_image m x r) (within.image (In m x) X (InR m r) R f.0 g.0, within.image X (In m x) R (InR m r) f.1 g.1) in
+    (same.0 v, same.1 v)
+
+pub before_image_in : (m : Setting) (n : ℕ) (body : Core) → m.path_symbols ≡ path_symbols n → (v : List ℕ) →
+    In m (P.Image P.Pre (before_of n body)) v ↔ ImageOf m.pre (Before m.classes n body) v
+before_image_in m n body fits v =
+    image_in m P.Pre (before_of n body) m.pre (Before m.classes n body) (equals.told _ _ m.pre (in_pre m) (λ w x. x, λ w x. x))
+    (λ u v r. (before_in m n body fits u v).0 r, λ u v r. (before_in m n body fits u v).1 r) v
+
+pub after_image_in : (m : Setting) (n : ℕ) (body : Core) → m.path_symbols ≡ path_symbols n → (v : List ℕ) →
+    In m (P.Image P.Post (after_of n body)) v ↔ ImageOf m.post (After m.classes n body) v
+after_image_in m n body fits v =
+    image_in m P.Post (after_of n body) m.post (After m.classes n body) (equals.told _ _ m.post (in_post m) (λ w x. x, λ w x. x))
+    (λ u v r. (after_in m n body fits u v).0 r, λ u v r. (after_in m n body fits u v).1 r) v

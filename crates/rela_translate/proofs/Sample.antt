@@ -63,9 +63,17 @@ nodes_before n =
 
 nodes_after : (n : ℕ) → nodes_of_rel (after_of n sample) ≡ 9
 nodes_after n =
-    rw (after_sample n, size.nodes_union_r (R.Product (P.Class 1) (P.One (marker_symbol n 1))) (R.Identity kept),
-      size.nodes_product_r (P.Class 1) (P.One (marker_symbol n 1)), size.nodes_identity_r kept, size.nodes_meet (P.Class 0) (P.Complement (P.Class 1)),
-      size.nodes_complement (P.Class 1), size.nodes_class 0, size.nodes_class 1, size.nodes_one (marker_symbol n 1)) refl
+    rw (
+      after_sample n,
+      size.nodes_union_r (R.Product (P.Class 1) (P.One (marker_symbol n 1))) (R.Identity kept),
+      size.nodes_product_r (P.Class 1) (P.One (marker_symbol n 1)),
+      size.nodes_identity_r kept,
+      size.nodes_meet (P.Class 0) (P.Complement (P.Class 1)),
+      size.nodes_complement (P.Class 1),
+      size.nodes_class 0,
+      size.nodes_class 1,
+      size.nodes_one (marker_symbol n 1),
+    ) refl
 
 depth_before : (n : ℕ) → depth_of_rel (before_of n sample) ≡ 3
 depth_before n =
@@ -73,9 +81,17 @@ depth_before n =
 
 depth_after : (n : ℕ) → depth_of_rel (after_of n sample) ≡ 5
 depth_after n =
-    rw (after_sample n, size.depth_union_r (R.Product (P.Class 1) (P.One (marker_symbol n 1))) (R.Identity kept),
-      size.depth_product_r (P.Class 1) (P.One (marker_symbol n 1)), size.depth_identity_r kept, size.depth_meet (P.Class 0) (P.Complement (P.Class 1)),
-      size.depth_complement (P.Class 1), size.depth_class 0, size.depth_class 1, size.depth_one (marker_symbol n 1)) refl
+    rw (
+      after_sample n,
+      size.depth_union_r (R.Product (P.Class 1) (P.One (marker_symbol n 1))) (R.Identity kept),
+      size.depth_product_r (P.Class 1) (P.One (marker_symbol n 1)),
+      size.depth_identity_r kept,
+      size.depth_meet (P.Class 0) (P.Complement (P.Class 1)),
+      size.depth_complement (P.Class 1),
+      size.depth_class 0,
+      size.depth_class 1,
+      size.depth_one (marker_symbol n 1),
+    ) refl
 
 pub sample_is_check : (name : List ℕ) (level : Level) (when : Predicate) (classes : List SymbolSet) → depth when ≤ 1000 → length classes ≡ 2 →
     IsCheck (record { name = name; level = level; when = when; at_most = false; classes = classes; body = sample })

@@ -24,8 +24,13 @@ pub struct Check {
 impl Model for Check {
     ghost use Rattle.rela_translate.specs.Checked.{Checked};
     ghost use Rattle.rela_translate.specs.Parts.{parts, IsWhole};
+    ghost use Rattle.std.specs.Coded.{codes};
+    ghost use Rattle.rela_flows.specs.contracts.predicate.Predicate as predicate_type;
+    ghost use Rattle.rela_translate.specs.contracts.body.Core as core_type;
 
     ghost Value = { Checked };
+
+    ghost coded = { Prim.hlevel (codes, predicate_type.the_row.coded, core_type.the_row.coded) };
 
     ghost view = { parts };
 
@@ -33,6 +38,29 @@ impl Model for Check {
 }
 
 impl Check {
+    // The check of these parts.
+    #[cfg(test)]
+    pub fn new(
+        name: Name,
+        level: Level,
+        when: Predicate,
+        at_most: bool,
+        classes: Vec<SymbolSet>,
+        body: Core,
+    ) -> Check
+        requires { IsCheck (record { name = name; level = level; when = when; at_most = at_most; classes = classes.items; body = body }) }
+        ensures { result ≡ record { name = name; level = level; when = when; at_most = at_most; classes = classes.items; body = body } }
+    {
+        Check {
+            name,
+            level,
+            when,
+            at_most,
+            classes,
+            body,
+        }
+    }
+
     /// The name that the check's rows are reported under.
     pub fn name(&self) -> &Name
         ensures { result.now ≡ self.now.name }
