@@ -1,6 +1,6 @@
 -- The terms of an expression and of a body have the words and the pairs that these mean.
-use Rattle.std.proofs.Common.{◌≡◌, ℕ, ap, List, [], ◌∷◌, refl, sym, subst}
-use Rattle.std.specs.Prelude.{◌↔◌}
+use Rattle.std.proofs.Common.{◌≡◌, ◌∙◌, ℕ, ap, List, [], ◌∷◌, refl, sym, subst}
+use Rattle.std.specs.Prelude.{◌↔◌, Result, Ok, Err, IfOk}
 use Rattle.rela_rir.specs.Words.{WordSet, Relation, Star, ImageOf}
 use Rattle.rela_rir.specs.Meaning.{Setting, In, InR, IsPathWord}
 use Rattle.rela_rir.proofs.Inclusions as within
@@ -14,7 +14,7 @@ use Rattle.rela_rir.specs.declared.term.RelTerm.TheVariants as R
 use Rattle.rela_translate.specs.Lang.{Lang}
 use Rattle.rela_translate.specs.Zones.{Meaning, path_symbols, drop_symbol, marker_symbol, Single, Either, Common, Without, Same, Pairs, EitherPair, Outside, Paths, unit_meaning, meaning_of, Zone, Before, After}
 use Rattle.rela_translate.specs.Terms.{path_of, Terms, unit_terms, layer_terms, terms_of, zone_of, before_of, after_of, without, outside}
-use Rattle.rela_translate.specs.Settings.{setting}
+use Rattle.rela_translate.specs.Settings.{setting, bare}
 use Rattle.rela_translate.proofs.TermForms.{path_roll, terms_roll}
 use Rattle.rela_translate.proofs.MeaningForms.{lang_roll, meaning_roll}
 use Rattle.rela_translate.proofs.Claims.{Claims, of_paths, claims, either_words}
@@ -228,3 +228,23 @@ pub after_image_in : (m : Setting) (n : ℕ) (body : Core) → m.path_symbols �
 after_image_in m n body fits v =
     image_in m P.Post (after_of n body) m.post (After m.classes n body) (equals.told _ _ m.post (in_post m) (λ w x. x, λ w x. x))
     (λ u v r. (after_in m n body fits u v).0 r, λ u v r. (after_in m n body fits u v).1 r) v
+
+pub before_told : (classes : List SymbolSet) (n : ℕ) (body x : Core) (r : RelTerm) → x ≡ body → r ≡ before_of n x → (u v : List ℕ) →
+    InR (bare classes n) r u v ↔ Before classes n body u v
+before_told classes n body x r same is u v =
+    subst (λ (s : RelTerm). InR (bare classes n) s u v ↔ Before classes n body u v) (sym (is ∙ ap (before_of n) same))
+    (before_means classes n (λ w. ⊥) (λ w. ⊥) body u v)
+
+pub after_told : (classes : List SymbolSet) (n : ℕ) (body x : Core) (r : RelTerm) → x ≡ body → r ≡ after_of n x → (u v : List ℕ) →
+    InR (bare classes n) r u v ↔ After classes n body u v
+after_told classes n body x r same is u v =
+    subst (λ (s : RelTerm). InR (bare classes n) s u v ↔ After classes n body u v) (sym (is ∙ ap (after_of n) same))
+    (after_means classes n (λ w. ⊥) (λ w. ⊥) body u v)
+
+pub zone_told : {E : Type 0} (classes : List SymbolSet) (n : ℕ) (body x : Core) (r : Result PathTerm E) → x ≡ body →
+    IfOk r (λ t. t ≡ zone_of n x) → IfOk r (λ t. (w : List ℕ) → In (bare classes n) t w ↔ Zone classes n body w)
+zone_told classes n body x (Ok t) same is =
+    λ w.
+    subst (λ (s : PathTerm). In (bare classes n) s w ↔ Zone classes n body w) (sym (is ∙ ap (zone_of n) same))
+    (zone_means classes n (λ w. ⊥) (λ w. ⊥) body w)
+zone_told classes n body x (Err e) same is = tt

@@ -4,7 +4,10 @@ use Rattle.std.specs.List.{All}
 use Rattle.std.proofs.lemmas.List.Elements.{All-nil, All-cons}
 use Rattle.rela_names.specs.declared.level.Level.{Level}
 use Rattle.rela_flows.specs.declared.predicate.Predicate.{Predicate}
-use Rattle.rela_flows.specs.Selects.{depth}
+use Rattle.rela_flows.specs.declared.predicate.Predicate.TheOpen as O
+use Rattle.rela_flows.specs.declared.predicate.Predicate.TheVariants as W
+use Rattle.rela_flows.specs.declared.predicate.Predicate.TheFolds.{fold-roll-Predicate}
+use Rattle.rela_flows.specs.Selects.{depth, layer_depth}
 use Rattle.rela_rir.specs.Size.{nodes_of_path, nodes_of_rel, depth_of_path, depth_of_rel}
 use Rattle.rela_rir.proofs.SizeForms as size
 use Rattle.rela_rir.specs.declared.set.SymbolSet.{SymbolSet}
@@ -93,13 +96,16 @@ depth_after n =
       size.depth_one (marker_symbol n 1),
     ) refl
 
-pub sample_is_check : (name : List ℕ) (level : Level) (when : Predicate) (classes : List SymbolSet) → depth when ≤ 1000 → length classes ≡ 2 →
-    IsCheck (record { name = name; level = level; when = when; at_most = false; classes = classes; body = sample })
-sample_is_check name level when classes shallow two = record {
+depth_all : depth W.All ≡ 1
+depth_all = ap depth (sym W.rolls-All) ∙ fold-roll-Predicate ℕ layer_depth O.All
+
+pub sample_is_check : (name : List ℕ) (level : Level) (classes : List SymbolSet) → length classes ≡ 2 →
+    IsCheck (record { name = name; level = level; when = W.All; at_most = false; classes = classes; body = sample })
+sample_is_check name level classes two = record {
   entries = subst (All (λ k. k < length classes)) (sym entries_sample)
       (All-cons (λ k. k < length classes) 0 (1 ∷ []) (omega (arith, two)) (All-cons (λ k. k < length classes) 1 [] (omega (arith, two)) (All-nil (λ k. k < length classes))));
   numbered = rw markers_sample refl;
-  shallow_predicate = shallow;
+  shallow_predicate = omega (arith, depth_all);
   few_nodes = λ n. omega (arith, nodes_before n, nodes_after n);
   shallow_before = λ n. omega (arith, depth_before n);
   shallow_after = λ n. omega (arith, depth_after n);

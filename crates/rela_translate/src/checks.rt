@@ -1,5 +1,7 @@
 ghost use Rattle.std.specs.Prelude.{◌≡◌};
-ghost use Rattle.rela_translate.specs.Checked.{IsCheck};
+ghost use Rattle.std.specs.List.{All};
+ghost use Rattle.rela_translate.specs.Checked.{IsCheck, markers_of};
+ghost use Rattle.rela_translate.specs.Settings.{IsMarker};
 
 use crate::body::Core;
 use rela_flows::Predicate;
@@ -97,9 +99,11 @@ impl Check {
     }
 
     /// What is asked for.
+    #[tactic(auto, using(crate::proofs::Markers::check_is_marked))]
     pub fn body(&self) -> &Core
         ensures body { result.now ≡ self.now.body }
         ensures check { IsCheck self.now }
+        ensures markers { All IsMarker (markers_of self.now.body) }
     {
         &self.body
     }

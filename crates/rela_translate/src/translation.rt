@@ -26,7 +26,6 @@ pub struct Relations {
 }
 
 /// The terms of the check's two relations, under the alphabet of the check's level.
-#[tactic(auto, using(crate::proofs::Markers::check_is_marked))]
 pub fn translate(alloc: Global, check: &Check, alphabet: &Alphabet) -> Result<Relations, AllocError>
     ensures before_term { IfOk result (λ r. r.before ≡ before_of (length alphabet.now) check.now.body) }
     ensures after_term { IfOk result (λ r. r.after ≡ after_of (length alphabet.now) check.now.body) }
