@@ -1,13 +1,13 @@
 -- A body speaks of words of path symbols, and relates only words of its zone.
-use Rattle.std.proofs.Common.{◌≡◌, ℕ, ◌+◌, ◌<◌, ◌⊎◌, inl, inr, zero, suc, List, [], ◌∷◌, ◌++◌, length, refl, sym, subst, arith}
+use Rattle.std.proofs.Common.{◌≡◌, ℕ, ◌+◌, ◌<◌, ◌⊎◌, inl, inr, suc, List, [], ◌∷◌, sym, subst, arith}
 use Rattle.std.specs.List.{All, concat}
 use Rattle.std.proofs.lemmas.List.Elements.{All-nil, All-cons, All-append, All-weaker}
 use Rattle.rela_rir.specs.Words.{WordSet, Relation, Concatenation, Star, PairConcatenation}
 use Rattle.rela_rir.specs.Meaning.{IsPathWord}
 use Rattle.rela_rir.proofs.Inclusions.{Within}
 use Rattle.rela_rir.specs.declared.set.SymbolSet.{SymbolSet}
-use Rattle.rela_translate.specs.Lang.{Lang, LayerLang}
-use Rattle.rela_translate.specs.Zones.{Meaning, path_symbols, drop_symbol, Paths, unit_meaning, layer_meaning, meaning_of, Zone}
+use Rattle.rela_translate.specs.Lang.{Lang}
+use Rattle.rela_translate.specs.Zones.{Meaning, path_symbols, drop_symbol, Paths, unit_meaning, meaning_of}
 use Rattle.rela_translate.proofs.MeaningForms.{lang_roll, meaning_roll}
 use Rattle.rela_translate.specs.declared.body.Expr.{Expr}
 use Rattle.rela_translate.specs.declared.body.Expr.TheOpen as E

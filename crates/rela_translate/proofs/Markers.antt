@@ -1,13 +1,13 @@
 -- The markers of a body are numbers from 1 on, of which there are no more than nodes of its terms.
-use Rattle.std.proofs.Common.{◌≡◌, ◌∙◌, ℕ, ◌+◌, ◌≤◌, ◌<◌, zero, suc, List, [], ◌∷◌, ◌++◌, length, length-append, sym, ap, subst, refl, arith}
+use Rattle.std.proofs.Common.{◌≡◌, ◌∙◌, ℕ, ◌+◌, ◌≤◌, zero, suc, List, [], ◌∷◌, ◌++◌, length, length-append, sym, ap, subst, arith}
 use Rattle.std.specs.List.{All, range_with_len}
 use Rattle.std.proofs.lemmas.List.Elements.{All-nil, All-cons}
-use Rattle.rela_rir.specs.Size.{nodes_of_path, nodes_of_rel}
+use Rattle.rela_rir.specs.Size.{nodes_of_rel}
 use Rattle.rela_rir.proofs.SizeForms as size
 use Rattle.rela_rir.specs.declared.term.PathTerm.{PathTerm}
 use Rattle.rela_rir.specs.declared.term.PathTerm.TheVariants as P
 use Rattle.rela_rir.specs.declared.term.RelTerm.TheVariants as R
-use Rattle.rela_translate.specs.Zones.{drop_symbol, marker_symbol}
+use Rattle.rela_translate.specs.Zones.{marker_symbol}
 use Rattle.rela_translate.specs.Terms.{path_of, zone_of, before_of, outside, unit_terms}
 use Rattle.rela_translate.specs.Settings.{IsMarker}
 use Rattle.rela_translate.specs.Checked.{Checked, IsCheck, change_markers, layer_markers, markers_of}

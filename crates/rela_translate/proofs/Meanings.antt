@@ -1,5 +1,5 @@
 -- The terms of an expression and of a body have the words and the pairs that these mean.
-use Rattle.std.proofs.Common.{◌≡◌, ◌∙◌, ℕ, ap, List, [], ◌∷◌, refl, sym, subst}
+use Rattle.std.proofs.Common.{◌≡◌, ◌∙◌, ℕ, ap, List, sym, subst}
 use Rattle.std.specs.Prelude.{◌↔◌, Result, Ok, Err, IfOk}
 use Rattle.rela_rir.specs.Words.{WordSet, Relation, Star, ImageOf}
 use Rattle.rela_rir.specs.Meaning.{Setting, In, InR, IsPathWord}
@@ -13,7 +13,7 @@ use Rattle.rela_rir.specs.declared.term.PathTerm.TheVariants as P
 use Rattle.rela_rir.specs.declared.term.RelTerm.TheVariants as R
 use Rattle.rela_translate.specs.Lang.{Lang}
 use Rattle.rela_translate.specs.Zones.{Meaning, path_symbols, drop_symbol, marker_symbol, Single, Either, Common, Without, Same, Pairs, EitherPair, Outside, Paths, unit_meaning, meaning_of, Zone, Before, After}
-use Rattle.rela_translate.specs.Terms.{path_of, Terms, unit_terms, layer_terms, terms_of, zone_of, before_of, after_of, without, outside}
+use Rattle.rela_translate.specs.Terms.{path_of, Terms, unit_terms, terms_of, zone_of, before_of, after_of, without, outside}
 use Rattle.rela_translate.specs.Settings.{setting, bare}
 use Rattle.rela_translate.proofs.TermForms.{path_roll, terms_roll}
 use Rattle.rela_translate.proofs.MeaningForms.{lang_roll, meaning_roll}

@@ -1,30 +1,27 @@
 -- A small check: one unit that asks for any of some paths.
-use Rattle.std.proofs.Common.{◌≡◌, ◌∙◌, ℕ, ◌+◌, ◌≤◌, ◌<◌, false, List, [], ◌∷◌, ◌++◌, length, sym, ap, subst, refl, arith, max}
+use Rattle.std.proofs.Common.{◌≡◌, ◌∙◌, ℕ, ◌<◌, false, List, [], ◌∷◌, ◌++◌, length, sym, ap, subst, refl, arith}
 use Rattle.std.specs.List.{All}
 use Rattle.std.proofs.lemmas.List.Elements.{All-nil, All-cons}
 use Rattle.rela_names.specs.declared.level.Level.{Level}
-use Rattle.rela_flows.specs.declared.predicate.Predicate.{Predicate}
 use Rattle.rela_flows.specs.declared.predicate.Predicate.TheOpen as O
 use Rattle.rela_flows.specs.declared.predicate.Predicate.TheVariants as W
 use Rattle.rela_flows.specs.declared.predicate.Predicate.TheFolds.{fold-roll-Predicate}
 use Rattle.rela_flows.specs.Selects.{depth, layer_depth}
-use Rattle.rela_rir.specs.Size.{nodes_of_path, nodes_of_rel, depth_of_path, depth_of_rel}
+use Rattle.rela_rir.specs.Size.{nodes_of_rel, depth_of_rel}
 use Rattle.rela_rir.proofs.SizeForms as size
 use Rattle.rela_rir.specs.declared.set.SymbolSet.{SymbolSet}
 use Rattle.rela_rir.specs.declared.term.PathTerm.{PathTerm}
-use Rattle.rela_rir.specs.declared.term.RelTerm.{RelTerm}
 use Rattle.rela_rir.specs.declared.term.PathTerm.TheVariants as P
 use Rattle.rela_rir.specs.declared.term.RelTerm.TheVariants as R
 use Rattle.rela_translate.specs.Zones.{marker_symbol}
-use Rattle.rela_translate.specs.Terms.{path_of, before_of, after_of, without}
-use Rattle.rela_translate.specs.Checked.{Checked, IsCheck, path_entries, layer_entries, change_entries, entries_of, layer_body_entries, markers_of}
+use Rattle.rela_translate.specs.Terms.{before_of, after_of, without}
+use Rattle.rela_translate.specs.Checked.{IsCheck, path_entries, layer_entries, change_entries, entries_of, layer_body_entries, markers_of}
 use Rattle.rela_translate.proofs.TermForms.{path_class, before_unit, after_unit}
 use Rattle.rela_translate.proofs.Markers.{markers_unit}
 use Rattle.rela_translate.specs.declared.body.Expr.{Expr}
 use Rattle.rela_translate.specs.declared.body.Expr.TheOpen as E
 use Rattle.rela_translate.specs.declared.body.Expr.TheVariants as V
-use Rattle.rela_translate.specs.declared.body.Expr.TheViews.{roll-Expr}
-use Rattle.rela_translate.specs.declared.body.Expr.TheFolds.{map-Expr, fold-roll-Expr}
+use Rattle.rela_translate.specs.declared.body.Expr.TheFolds.{fold-roll-Expr}
 use Rattle.rela_translate.specs.declared.body.Change.{Change}
 use Rattle.rela_translate.specs.declared.body.Change.TheVariants.{AnyOf}
 use Rattle.rela_translate.specs.declared.body.Core.{Core}

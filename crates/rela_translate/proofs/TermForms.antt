@@ -1,7 +1,6 @@
 -- The terms of each form of expression and of body, as equations.
-use Rattle.std.proofs.Common.{◌≡◌, ◌∙◌, ℕ, sym, ap, refl}
+use Rattle.std.proofs.Common.{◌≡◌, ◌∙◌, ℕ, sym, ap}
 use Rattle.rela_rir.specs.declared.term.PathTerm.{PathTerm}
-use Rattle.rela_rir.specs.declared.term.RelTerm.{RelTerm}
 use Rattle.rela_rir.specs.declared.term.PathTerm.TheVariants as P
 use Rattle.rela_rir.specs.declared.term.RelTerm.TheVariants as R
 use Rattle.rela_translate.specs.Terms.{layer_path, path_of, Terms, unit_terms, layer_terms, terms_of, zone_of, before_of, after_of, outside}

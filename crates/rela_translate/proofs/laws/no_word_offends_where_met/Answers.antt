@@ -1,4 +1,3 @@
-use Rattle.rela_rir.specs.Words.{ImageOf}
 use Rattle.rela_translate.specs.Verdict.{BeforeImage, AfterImage}
 use Rattle.rela_translate.proofs.Verdicts.{none_offends}
 use Rattle.rela_translate.proofs.laws.no_word_offends_where_met.Goals as goal
