@@ -36,7 +36,8 @@ pub enum Change {
     Replace(Expr, Expr),
     /// They are dropped.
     Drop,
-    /// Where there are any, some of these are there afterwards.
+    /// Where there are any of them or of these, some of these are there afterwards, and no others of
+    /// the zone.
     AnyOf {
         /// The paths that are asked for.
         path: Expr,
