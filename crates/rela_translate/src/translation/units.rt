@@ -1,0 +1,200 @@
+//! The terms of one unit: a zone and its modifier. The only error is want of memory.
+ghost use Rattle.std.specs.Prelude.{◌≡◌, IfOk, length};
+ghost use Rattle.std.specs.List.{All};
+ghost use Rattle.rela_translate.specs.Zones.{drop_symbol, marker_symbol};
+ghost use Rattle.rela_translate.specs.Terms.{path_of, unit_terms, without, outside};
+ghost use Rattle.rela_translate.specs.Checked.{change_markers};
+ghost use Rattle.rela_translate.specs.Settings.{IsMarker};
+
+use crate::body::{Change, Expr};
+use rela_names::{Alphabet, Symbol};
+use rela_rir::{PathTerm, RelTerm};
+use std::alloc::{AllocError, Global};
+
+// The words that the unit speaks of.
+pub(super) fn zone_of_unit(
+    alloc: Global,
+    zone: &Expr,
+    modifier: &Change,
+    alphabet: &Alphabet,
+) -> Result<PathTerm, AllocError>
+    ensures { IfOk result (λ t. t ≡ (unit_terms (length alphabet.now) (path_of zone.now) modifier.now).zone) }
+{
+    match modifier {
+        Change::Preserve | Change::Remove(_) | Change::Ignore(_) => path_of(alloc, zone),
+        Change::Add(path) | Change::Replace(_, path) => either(alloc, zone, path),
+        Change::Drop => or_symbol(alloc, zone, alphabet.drop_symbol()),
+        Change::AnyOf { path, .. } => either(alloc, zone, path),
+    }
+}
+
+// The relation that the paths before the change are seen through.
+#[tactic(auto, using(crate::proofs::Markers::unit_markers))]
+pub(super) fn before_of_unit(
+    alloc: Global,
+    zone: &Expr,
+    modifier: &Change,
+    alphabet: &Alphabet,
+) -> Result<RelTerm, AllocError>
+    requires { All IsMarker (change_markers modifier.now) }
+    ensures { IfOk result (λ r. r ≡ (unit_terms (length alphabet.now) (path_of zone.now) modifier.now).before) }
+{
+    match modifier {
+        Change::Preserve => RelTerm::identity(alloc, path_of(alloc, zone)?),
+        Change::Add(path) => added(alloc, zone, path),
+        Change::Remove(path) | Change::Ignore(path) => kept_without(alloc, zone, path),
+        Change::Replace(old, new) => replaced(alloc, zone, old, new),
+        Change::Drop => dropped(alloc, zone, alphabet.drop_symbol()),
+        Change::AnyOf { path, marker } => marked(
+            alloc,
+            either(alloc, zone, path)?,
+            alphabet.marker(*marker),
+        ),
+    }
+}
+
+// The relation that the paths after the change are seen through.
+#[tactic(auto, using(crate::proofs::Markers::unit_markers))]
+pub(super) fn after_of_unit(
+    alloc: Global,
+    zone: &Expr,
+    modifier: &Change,
+    alphabet: &Alphabet,
+) -> Result<RelTerm, AllocError>
+    requires { All IsMarker (change_markers modifier.now) }
+    ensures { IfOk result (λ r. r ≡ (unit_terms (length alphabet.now) (path_of zone.now) modifier.now).after) }
+{
+    match modifier {
+        Change::Preserve | Change::Remove(_) => RelTerm::identity(alloc, path_of(alloc, zone)?),
+        Change::Add(path) | Change::Replace(_, path) => RelTerm::identity(
+            alloc,
+            either(alloc, zone, path)?,
+        ),
+        Change::Drop => RelTerm::identity(alloc, or_symbol(alloc, zone, alphabet.drop_symbol())?),
+        Change::AnyOf { path, marker } => any_of(alloc, zone, path, alphabet.marker(*marker)),
+        Change::Ignore(ignored) => kept_without(alloc, zone, ignored),
+    }
+}
+
+// The words of the path expression.
+#[tactic(auto, using(crate::proofs::TermForms::path_forms))]
+pub(super) fn path_of(alloc: Global, path: &Expr) -> Result<PathTerm, AllocError>
+    ensures { IfOk result (λ t. t ≡ path_of path.now) }
+{
+    match path {
+        Expr::Empty => Ok(PathTerm::Empty),
+        Expr::Class(entry) => Ok(PathTerm::Class(*entry)),
+        Expr::Seq(a, b) => PathTerm::concat(
+            alloc,
+            path_of(alloc, a.get())?,
+            path_of(alloc, b.get())?,
+        ),
+        Expr::Alt(a, b) => PathTerm::union(
+            alloc,
+            path_of(alloc, a.get())?,
+            path_of(alloc, b.get())?,
+        ),
+        Expr::Meet(a, b) => PathTerm::meet(
+            alloc,
+            path_of(alloc, a.get())?,
+            path_of(alloc, b.get())?,
+        ),
+        Expr::Not(part) => PathTerm::complement(alloc, path_of(alloc, part.get())?),
+        Expr::Star(part) => PathTerm::star(alloc, path_of(alloc, part.get())?),
+    }
+}
+
+// The words of both.
+fn either(alloc: Global, x: &Expr, y: &Expr) -> Result<PathTerm, AllocError>
+    ensures { IfOk result (λ t. t ≡ PathTerm.Union (path_of x.now) (path_of y.now)) }
+{
+    PathTerm::union(alloc, path_of(alloc, x)?, path_of(alloc, y)?)
+}
+
+// The words of the expression, and the word of the symbol.
+fn or_symbol(alloc: Global, x: &Expr, symbol: Symbol) -> Result<PathTerm, AllocError>
+    ensures { IfOk result (λ t. t ≡ PathTerm.Union (path_of x.now) (PathTerm.One symbol)) }
+{
+    PathTerm::union(alloc, path_of(alloc, x)?, PathTerm::One(symbol))
+}
+
+// The words of the first that are not in the second.
+fn without(alloc: Global, x: PathTerm, y: PathTerm) -> Result<PathTerm, AllocError>
+    ensures { IfOk result (λ t. t ≡ without x y) }
+{
+    PathTerm::meet(alloc, x, PathTerm::complement(alloc, y)?)
+}
+
+// The words of the zone that are not paths of the expression, with themselves.
+fn kept_without(alloc: Global, zone: &Expr, path: &Expr) -> Result<RelTerm, AllocError>
+    ensures { IfOk result (λ r. r ≡ RelTerm.Identity (without (path_of zone.now) (path_of path.now))) }
+{
+    let kept = without(alloc, path_of(alloc, zone)?, path_of(alloc, path)?)?;
+    RelTerm::identity(alloc, kept)
+}
+
+// The words of the set with the word of the symbol.
+fn marked(alloc: Global, set: PathTerm, symbol: Symbol) -> Result<RelTerm, AllocError>
+    ensures { IfOk result (λ r. r ≡ RelTerm.Product set (PathTerm.One symbol)) }
+{
+    RelTerm::product(alloc, set, PathTerm::One(symbol))
+}
+
+// Each word of both sets stays, and where there is one of the first, each of the second comes.
+fn added(alloc: Global, zone: &Expr, path: &Expr) -> Result<RelTerm, AllocError>
+    ensures { IfOk result (λ r. r ≡ RelTerm.Union
+        (RelTerm.Identity (PathTerm.Union (path_of zone.now) (path_of path.now)))
+        (RelTerm.Product (path_of zone.now) (path_of path.now))) }
+{
+    let kept = RelTerm::identity(alloc, either(alloc, zone, path)?)?;
+    let come = RelTerm::product(alloc, path_of(alloc, zone)?, path_of(alloc, path)?)?;
+    RelTerm::union(alloc, kept, come)
+}
+
+// The old paths go where they are of the zone, and where there is one of them, each new path comes.
+fn replaced(alloc: Global, zone: &Expr, old: &Expr, new: &Expr) -> Result<RelTerm, AllocError>
+    ensures { IfOk result (λ r. r ≡ RelTerm.Union
+        (RelTerm.Identity (without (PathTerm.Union (path_of zone.now) (path_of new.now)) (PathTerm.Meet (path_of old.now) (path_of zone.now))))
+        (RelTerm.Product (PathTerm.Meet (path_of old.now) (path_of zone.now)) (path_of new.now))) }
+{
+    let kept = without(alloc, either(alloc, zone, new)?, common(alloc, old, zone)?)?;
+    let come = RelTerm::product(alloc, common(alloc, old, zone)?, path_of(alloc, new)?)?;
+    RelTerm::union(alloc, RelTerm::identity(alloc, kept)?, come)
+}
+
+// The words that are in both.
+fn common(alloc: Global, x: &Expr, y: &Expr) -> Result<PathTerm, AllocError>
+    ensures { IfOk result (λ t. t ≡ PathTerm.Meet (path_of x.now) (path_of y.now)) }
+{
+    PathTerm::meet(alloc, path_of(alloc, x)?, path_of(alloc, y)?)
+}
+
+// Each word of the zone, and that of the end, with the end.
+fn dropped(alloc: Global, zone: &Expr, end: Symbol) -> Result<RelTerm, AllocError>
+    ensures { IfOk result (λ r. r ≡ RelTerm.Product
+        (PathTerm.Union (path_of zone.now) (PathTerm.One end)) (PathTerm.One end)) }
+{
+    marked(alloc, or_symbol(alloc, zone, end)?, end)
+}
+
+// The paths that are asked for with the marker, and the others of the zone with themselves.
+fn any_of(alloc: Global, zone: &Expr, path: &Expr, marker: Symbol) -> Result<RelTerm, AllocError>
+    ensures { IfOk result (λ r. r ≡ RelTerm.Union
+        (RelTerm.Product (path_of path.now) (PathTerm.One marker))
+        (RelTerm.Identity (without (path_of zone.now) (path_of path.now)))) }
+{
+    let asked = marked(alloc, path_of(alloc, path)?, marker)?;
+    RelTerm::union(alloc, asked, kept_without(alloc, zone, path)?)
+}
+
+// The pairs of the relation whose first word is of path symbols and not in the set.
+pub(super) fn outside(
+    alloc: Global,
+    set: PathTerm,
+    relation: RelTerm,
+) -> Result<RelTerm, AllocError>
+    ensures { IfOk result (λ r. r ≡ outside set relation) }
+{
+    let others = RelTerm::identity(alloc, PathTerm::complement(alloc, set)?)?;
+    RelTerm::compose(alloc, others, relation)
+}
