@@ -2,7 +2,7 @@ use Rattle.std.proofs.Common.{map, refl, sym, ap, ◌∙◌}
 use Rattle.std.proofs.lemmas.Bool.{false≢true}
 use Rattle.rela_nfa.specs.Stored.{move_of}
 use Rattle.rela_minimise.specs.Classes.{Differs}
-use Rattle.rela_minimise.proofs.Comparing.{edge_fits, none_all, none_more, some_here}
+use Rattle.rela_minimise.proofs.Reading.{edge_fits, none_all, none_more, some_here}
 use Rattle.rela_minimise.proofs.comparing.differs_from.Goals as goal
 
 pub differ-requires-clause-other : goal.differ-requires-clause-other

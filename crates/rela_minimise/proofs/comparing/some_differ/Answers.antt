@@ -3,7 +3,7 @@ use Rattle.std.proofs.lemmas.Bool.{false≢true}
 use Rattle.rela_nfa.specs.Automaton.{Move}
 use Rattle.rela_nfa.specs.Stored.{move_of}
 use Rattle.rela_minimise.specs.Classes.{DiffersFrom}
-use Rattle.rela_minimise.proofs.Comparing.{edge_fits, none_all, none_more, some_here}
+use Rattle.rela_minimise.proofs.Reading.{edge_fits, none_all, none_more, some_here}
 use Rattle.rela_minimise.proofs.comparing.some_differ.Goals as goal
 
 pub differs_from-requires-clause-edge : goal.differs_from-requires-clause-edge
