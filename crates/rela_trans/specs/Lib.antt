@@ -1,0 +1,5 @@
+pub mod Construction
+pub mod Machine
+pub mod Relations
+pub mod Runs
+pub mod Stored
