@@ -15,6 +15,7 @@ mod words;
 pub use edge::Edge;
 pub use nfa::Nfa;
 pub use rela_pairs::BuildError;
+pub use relabel::{parents_of, relabelled_set};
 
 #[cfg(test)]
 mod tests;

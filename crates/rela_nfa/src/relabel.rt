@@ -13,7 +13,11 @@ use rela_labels::{LabelSet, Partition};
 use std::alloc::{AllocError, Global};
 
 /// For each block of the fine partition the block of the coarse one in which it lies.
-fn parents_of(alloc: Global, coarse: &Partition, fine: &Partition) -> Result<Vec<u32>, AllocError>
+pub fn parents_of(
+    alloc: Global,
+    coarse: &Partition,
+    fine: &Partition,
+) -> Result<Vec<u32>, AllocError>
     requires { Refines fine.now coarse.now }
     ensures len { IfOk result (λ parents. vec_len parents ≡ block_count fine.now) }
     ensures parents { IfOk result (λ parents. (s : ℕ) → s < length fine.now → slice_index parents.items (block_of fine.now s) ≡ block_of coarse.now s) }
@@ -26,7 +30,7 @@ fn parents_of(alloc: Global, coarse: &Partition, fine: &Partition) -> Result<Vec
 }
 
 /// The letters that lie in the set.
-fn relabelled_set<L: LabelSet, M: LabelSet>(
+pub fn relabelled_set<L: LabelSet, M: LabelSet>(
     alloc: Global,
     set: &L,
     parents: &[u32],
