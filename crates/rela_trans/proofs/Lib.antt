@@ -1,1 +1,11 @@
 pub mod Accessors
+pub mod Reaching
+pub mod Steps
+pub mod Mapped
+pub mod Parts
+pub mod Unions
+pub mod Concats
+pub mod Stars
+pub mod Lifted
+pub mod Turned
+pub mod Relabelled

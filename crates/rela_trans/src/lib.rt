@@ -1,7 +1,12 @@
 //! Finite transducers with silent moves: the regular relations between words and their operations.
 #![tactic(auto)]
 
+mod copying;
+mod inverse;
 mod moves;
+mod operations;
+mod relabel;
+mod tapes;
 mod transducer;
 
 pub use moves::{Move, MoveKind};
