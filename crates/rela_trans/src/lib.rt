@@ -11,3 +11,6 @@ mod transducer;
 
 pub use moves::{Move, MoveKind};
 pub use transducer::Transducer;
+
+#[cfg(test)]
+mod tests;
