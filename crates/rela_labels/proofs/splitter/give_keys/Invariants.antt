@@ -1,4 +1,4 @@
-use Rattle.std.proofs.Common.{◌≡◌, ℕ, ◌<◌, ◌≤◌, length, get_or}
+use Rattle.std.proofs.Common.{ℕ, ◌<◌, ◌≤◌, get_or}
 use Rattle.rela_labels.specs.Splitting.{IsFresh}
 use Rattle.rela_labels.proofs.splitter.give_keys.Given as goal
 
