@@ -96,10 +96,7 @@ moved_before members moved keys now first i m within m_is m_in fresh old each s 
       | inr differ ↦ moved_other members moved keys now now i m s within m_is (λ e. differ (sym e)) refl (each s s_in)
     ]
 
--- no member yet
-pub none_moved : (members moved keys : List ℕ) (s : ℕ) → IsMoved (take 0 members) moved keys keys s
-none_moved members moved keys s = inr (λ here. let within : here.0 < length (take 0 members) = here.1 in absurd (omega arith), refl)
-
+-- all members have been looked at
 pub all_moved : (members moved keys keys' : List ℕ) (i s : ℕ) → length members ≤ i → IsMoved (take i members) moved keys keys' s → IsMoved members moved keys keys' s
 all_moved members moved keys keys' i s all is = subst (λ ms. IsMoved ms moved keys keys' s) (take_all i members all) is
 
@@ -150,6 +147,7 @@ split_by_moves members moved keys keys' first fresh old has each s t s_in t_in =
           ]
     ]
 
+-- the same for keys that a vector owns and lends
 pub split_in_place : {Z : Type 0} → (own : Vec ℕ Z) (k1 k2 m2 keys' members before moved value : List ℕ)
     → IsKeyed own.items before → own.items ≡ value → k1 ≡ own.items → k2 ≡ own.items → m2 ≡ moved → length keys' ≡ length k2 → length k2 ≡ own.len
     → IsFresh (length before) moved → ((s : ℕ) → Contains members s → length before ≤ get_or moved (get_or k1 s 0) 0)

@@ -41,9 +41,9 @@ impl Splitter {
     }
 
     /// Splits each block into the members and the others. The members may come in any order, and one
-    /// that comes twice counts once. This takes the time of a pass over the members, and of one over
-    /// the symbols for each so many members that were split off before. An error leaves the blocks
-    /// as they were.
+    /// that comes twice counts once. A split takes the time of its members; only after as many blocks
+    /// were split as there are symbols does one of the splits pass over all symbols too. An error
+    /// leaves the blocks as they were.
     pub fn split(&mut self, alloc: Global, members: &[Symbol]) -> Result<(), AllocError>
         requires { All (λ s. s < length self.old) members.now }
         ensures symbols { length self.new ≡ length self.old }
@@ -77,8 +77,8 @@ impl Splitter {
     }
 
     /// Makes the numbers of the blocks the keys again, once more keys than twice the symbols were
-    /// given out, since most of them are no symbol's any more. Each key since the last time was
-    /// given for a member, so these passes cost no more than the members did.
+    /// given out. At least half of them were given for members since the last time, so these passes
+    /// cost no more than the members did, and the keys take no more memory than the symbols do.
     fn renumber(&mut self, alloc: Global) -> Result<(), AllocError>
         ensures symbols { length self.new ≡ length self.old }
         ensures same { (s t : ℕ) → s < length self.old → t < length self.old
