@@ -78,7 +78,7 @@ impl Splitter {
 
     /// Makes the numbers of the blocks the keys again, once more keys than twice the symbols were
     /// given out. At least half of them were given for members since the last time, so these passes
-    /// cost no more than the members did, and the keys take no more memory than the symbols do.
+    /// cost no more than the members did, and memory stays in proportion to the symbols.
     fn renumber(&mut self, alloc: Global) -> Result<(), AllocError>
         ensures symbols { length self.new ≡ length self.old }
         ensures same { (s t : ℕ) → s < length self.old → t < length self.old
