@@ -20,6 +20,12 @@ within_count [] s within = absurd (omega arith)
 within_count (b ∷ others) zero within = omega arith
 within_count (b ∷ others) (suc s) within = let rest = within_count others s (omega arith) in omega arith
 
+pub all_within_count : (blocks : List ℕ) → All (λ block. block < block_count blocks) blocks
+all_within_count blocks = λ k d within.
+    let below = within_count blocks k within in
+    let same : get_or blocks k d ≡ get_or blocks k 0 = get_or_default blocks k d 0 within in
+    omega arith
+
 -- the blocks have the numbers below their count, each with its least symbol
 pub counts : (blocks firsts : List ℕ) → IsNumbered blocks firsts → block_count blocks ≡ length firsts
 counts blocks firsts is =

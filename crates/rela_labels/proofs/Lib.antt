@@ -2,4 +2,5 @@ pub mod BlocksInOrder
 pub mod KeysInOrder
 pub mod LettersOfWords
 pub mod Members
+pub mod MovedKeys
 pub mod WordBits

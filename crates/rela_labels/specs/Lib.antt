@@ -1,4 +1,5 @@
 pub mod Letters
 pub mod Numbering
 pub mod Partition
+pub mod Splitting
 pub mod Words

@@ -5,12 +5,14 @@ mod block_set;
 mod label_set;
 mod numbering;
 mod partition;
+mod splitter;
 mod wide_set;
 mod words;
 
 pub use block_set::BlockSet;
 pub use label_set::LabelSet;
 pub use partition::Partition;
+pub use splitter::Splitter;
 pub use wide_set::WideSet;
 
 #[cfg(test)]

@@ -1,4 +1,4 @@
-ghost use Rattle.std.specs.Prelude.{◌≡◌, ℕ, ◌<◌, ◌≤◌, ◌↔◌, IfOk, IfErr, All, Contains, length};
+ghost use Rattle.std.specs.Prelude.{◌≡◌, ℕ, ◌^◌, ◌<◌, ◌≤◌, ◌↔◌, IfOk, IfErr, All, Contains, length};
 ghost use Rattle.rela_labels.specs.Partition.{block_of, block_count, Together, IsPartition, IsLeastOf};
 
 use crate::numbering::{number_keys, numbers_below, split_keys};
@@ -66,6 +66,36 @@ impl Partition {
         let (blocks, least) = number_keys(alloc, &keys, 2 * self.least.len())?;
         *self = Partition { blocks, least };
         Ok(())
+    }
+
+    /// The partition of as many symbols as there are keys: two share a block where they have the same
+    /// key.
+    pub(crate) fn of_keys(
+        alloc: Global,
+        keys: &[usize],
+        bound: usize,
+    ) -> Result<Partition, AllocError>
+        requires some { 0 < length keys.now }
+        requires few { length keys.now < 2 ^ 32 }
+        requires below { All (λ key. key < bound) keys.now }
+        ensures symbols { IfOk result (λ partition. length partition ≡ length keys.now) }
+        ensures partition { IfOk result IsPartition }
+        ensures together { IfOk result (λ partition. (s t : ℕ) → s < length keys.now → t < length keys.now
+            → Together partition s t ↔ Together keys.now s t) }
+    {
+        let (blocks, least) = number_keys(alloc, keys, bound)?;
+        Ok(Partition { blocks, least })
+    }
+
+    /// The number of each symbol's block.
+    pub(crate) fn keys(&self, alloc: Global) -> Result<Vec<usize>, AllocError>
+        ensures blocks { IfOk result (λ keys. keys.items ≡ self.now) }
+        ensures few { length self.now < 2 ^ 32 }
+    {
+        self.blocks
+            .iter()
+            .map(|block| *block as usize)
+            .collect(alloc)
     }
 
     /// Two partitions of as many symbols are the same where their symbols share blocks alike. The

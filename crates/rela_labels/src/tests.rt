@@ -78,3 +78,32 @@ fn refines(rt: HostRuntime) -> Result<(), Fail> {
     assert_eq!(rt; finest.representative(2), 2);
     Ok(())
 }
+
+#[test]
+fn splits(rt: HostRuntime) -> Result<(), Fail> {
+    let alloc = rt.alloc();
+    let mut splitter = Splitter::of(alloc, &Partition::new(alloc, 6)?)?;
+    splitter.split(alloc, &[2, 1, 2])?;
+    splitter.split(alloc, &[2])?;
+    let partition = splitter.into_partition(alloc)?;
+    assert_eq!(rt; partition.blocks(), 3);
+    let blocks = (0..6)
+        .map(|s| partition.block_of(s))
+        .collect::<Vec<u32>>(alloc)?;
+    assert_eq!(rt; blocks.as_slice(), [0, 1, 2, 0, 0, 0].as_slice());
+    Ok(())
+}
+
+#[test]
+fn splits_often(rt: HostRuntime) -> Result<(), Fail> {
+    let alloc = rt.alloc();
+    let mut splitter = Splitter::of(alloc, &Partition::new(alloc, 3)?)?;
+    for _ in 0..20 {
+        splitter.split(alloc, &[2, 0, 2])?;
+    }
+    let partition = splitter.into_partition(alloc)?;
+    assert_eq!(rt; partition.blocks(), 2);
+    assert_eq!(rt; partition.block_of(2), 0);
+    assert_eq!(rt; partition.block_of(1), 1);
+    Ok(())
+}
