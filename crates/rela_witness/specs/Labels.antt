@@ -1,0 +1,24 @@
+-- Whether there is an edge, and its least letter.
+use Rattle.std.specs.Prelude.{◌≡◌, ℕ, ◌≤◌, true, Bool, List, Option, None, Some}
+use Rattle.rela_labels.specs.Letters.{has}
+use Rattle.rela_nfa.specs.Automaton.{Automaton}
+use Rattle.rela_nfa.specs.Runs.{HasStep}
+use Rattle.rela_witness.specs.declared.sources.Kind.{Kind}
+use Rattle.rela_witness.specs.declared.sources.Kind.TheVariants.{Silent, Lettered}
+
+-- no label, or one with a letter
+abbrev pub IsOf : Kind → Option (List Bool) → Type 0
+IsOf Silent None = Unit {0}
+IsOf Silent (Some set) = ⊥
+IsOf Lettered None = ⊥
+IsOf Lettered (Some set) = (k : ℕ) × (has set k ≡ true)
+
+-- an edge leads from p to q silently, or by some letter
+abbrev pub HasEdge : Automaton → Kind → ℕ → ℕ → Type 0
+HasEdge a Silent p q = HasStep a p None q
+HasEdge a Lettered p q = (k : ℕ) × HasStep a p (Some k) q
+
+-- the least number of P, and none where P has none
+abbrev pub IsLeast : (ℕ → Type 0) → Option ℕ → Type 0
+IsLeast P None = (k : ℕ) → ¬ P k
+IsLeast P (Some least) = P least × ((k : ℕ) → P k → least ≤ k)
