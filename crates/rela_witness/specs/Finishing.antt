@@ -27,4 +27,4 @@ LeadsTo a distances distance letter p q = HasStep a p letter q × (number_of dis
 
 -- the letter leads from one of the states to one of the distance
 abbrev pub Continues : Automaton → List (Option ℕ) → ℕ → List ℕ → ℕ → Type 0
-Continues a distances distance states letter = (p : ℕ) × (q : ℕ) × Contains states p × LeadsTo a distances distance (Some letter) p q
+Continues a distances distance states letter = (p : ℕ) × Contains states p × ((q : ℕ) × LeadsTo a distances distance (Some letter) p q)

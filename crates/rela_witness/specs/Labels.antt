@@ -1,5 +1,5 @@
 -- Whether there is an edge, and its least letter.
-use Rattle.std.specs.Prelude.{◌≡◌, ℕ, ◌≤◌, true, Bool, List, Option, None, Some}
+use Rattle.std.specs.Prelude.{◌≡◌, ℕ, ◌≤◌, min, true, Bool, List, Option, None, Some}
 use Rattle.rela_labels.specs.Letters.{has}
 use Rattle.rela_nfa.specs.Automaton.{Automaton}
 use Rattle.rela_nfa.specs.Runs.{HasStep}
@@ -22,3 +22,9 @@ HasEdge a Lettered p q = (k : ℕ) × HasStep a p (Some k) q
 abbrev pub IsLeast : (ℕ → Type 0) → Option ℕ → Type 0
 IsLeast P None = (k : ℕ) → ¬ P k
 IsLeast P (Some least) = P least × ((k : ℕ) → P k → least ≤ k)
+
+-- the lesser of two, or the only one
+abbrev pub lesser_of : Option ℕ → Option ℕ → Option ℕ
+lesser_of None other = other
+lesser_of (Some j) None = Some j
+lesser_of (Some j) (Some k) = Some (min j k)

@@ -1,11 +1,11 @@
 //! The least letter by which a word can go on.
-ghost use Rattle.std.specs.Prelude.{◌≡◌, ℕ, ◌<◌, ◌⊎◌, [], ◌∷◌, Some, map, vec_len, length};
+ghost use Rattle.std.specs.Prelude.{◌≡◌, ℕ, ◌<◌, true, Some, length};
 ghost use Rattle.std.specs.List.{All};
 ghost use Rattle.rela_nfa.specs.Automaton.{states};
-ghost use Rattle.rela_nfa.specs.Runs.{StepIn};
+ghost use Rattle.rela_nfa.specs.Reading.{takes};
 ghost use Rattle.rela_nfa.specs.Stored.{move_of};
 ghost use Rattle.rela_witness.specs.Finishing.{Continues, LeadsTo};
-ghost use Rattle.rela_witness.specs.Labels.{IsLeast};
+ghost use Rattle.rela_witness.specs.Labels.{IsLeast, lesser_of};
 ghost use Rattle.rela_witness.specs.Numbered.{number_of};
 
 use rela_labels::LabelSet;
@@ -55,7 +55,7 @@ fn least_of<L: LabelSet>(
     distance: usize,
 ) -> Option<u32>
     requires { edge.now.to < length distances.now }
-    ensures { IsLeast (λ k. (q : ℕ) × StepIn (move_of L.letters edge.now ∷ []) (Some k) q × (number_of distances.now q ≡ Some distance)) result }
+    ensures { IsLeast (λ k. (takes (move_of L.letters edge.now).label (Some k) ≡ true) × (number_of distances.now edge.now.to ≡ Some distance)) result }
 {
     if distances[edge.to] != Some(distance) {
         return None;
@@ -67,7 +67,9 @@ fn least_of<L: LabelSet>(
 }
 
 /// The lesser of two letters, or the only one.
-fn lesser(first: Option<u32>, second: Option<u32>) -> Option<u32> {
+fn lesser(first: Option<u32>, second: Option<u32>) -> Option<u32>
+    ensures { result ≡ lesser_of first second }
+{
     match (first, second) {
         (Some(j), Some(k)) => Some(j.min(k)),
         (Some(j), None) => Some(j),

@@ -1,11 +1,11 @@
 //! Words spelled forwards, through states of falling distance.
-ghost use Rattle.std.specs.Prelude.{◌≡◌, ℕ, ◌<◌, ◌↔◌, IsTrue, IfOk, OnOk, [], Some, None, Contains, length, vec_len};
+ghost use Rattle.std.specs.Prelude.{◌≡◌, ℕ, ◌<◌, ◌↔◌, IsTrue, true, IfOk, OnOk, [], Some, None, Contains, length, vec_len};
 ghost use Rattle.std.specs.List.{All};
 ghost use Rattle.rela_nfa.specs.Automaton.{states};
 ghost use Rattle.rela_nfa.specs.Stored.{move_of};
 ghost use Rattle.rela_nfa.specs.Reading.{takes};
 ghost use Rattle.rela_witness.specs.Finishing.{LeadsTo};
-ghost use Rattle.rela_witness.specs.Numbered.{HasNumber, IsLayer, Grows, Spread, After, IsDone};
+ghost use Rattle.rela_witness.specs.Numbered.{number_of, HasNumber, IsLayer, Grows, Spread, After, IsDone};
 
 use crate::numbers::enter;
 use rela_labels::LabelSet;
@@ -22,6 +22,19 @@ fn takes<L: LabelSet>(edge: &Edge<L>, letter: Option<u32>) -> bool
         (None, Some(_)) => false,
         (Some(_), None) => false,
     }
+}
+
+/// Whether the edge may be taken so, and leads to a state of the distance.
+fn leads<L: LabelSet>(
+    edge: &Edge<L>,
+    letter: Option<u32>,
+    distances: &[Option<usize>],
+    distance: usize,
+) -> bool
+    requires { edge.now.to < length distances.now }
+    ensures { IsTrue result ↔ ((takes (move_of L.letters edge.now).label letter ≡ true) × (number_of distances.now edge.now.to ≡ Some distance)) }
+{
+    takes(edge, letter) && distances[edge.to] == Some(distance)
 }
 
 /// Enters the states of the distance to which edges lead from p by the letter, or silently, with the
@@ -42,7 +55,7 @@ fn enter_ends<L: LabelSet>(
     ensures entered { OnOk result ((q : ℕ) → LeadsTo a.now distances.now distance letter p q → HasNumber numbers.new.items q) }
 {
     for edge in a.edges(p) {
-        if takes(edge, letter) && distances[edge.to] == Some(distance) {
+        if leads(edge, letter, distances, distance) {
             enter(numbers, layer, edge.to, distance)?;
         }
     }
