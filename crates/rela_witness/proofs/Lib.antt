@@ -6,3 +6,4 @@ pub mod Turning
 pub mod Leasts
 pub mod Leading
 pub mod Searching
+pub mod Spelling

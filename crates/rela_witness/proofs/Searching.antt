@@ -97,7 +97,7 @@ searching_start a count old numbers layer none grows entered =
 module _ (a : Automaton) (distance : ℕ) (old : List (Option ℕ)) (layer : List ℕ) (is : Searching a distance old layer) (silent : List (List ℕ))
     (turned : (p q : ℕ) → IsLinked silent q p ↔ HasEdge a Silent p q) (mid : List (Option ℕ)) (half : List ℕ)
     (closes : Grows (Spread (IsLinked silent) (Contains layer)) distance old mid layer half) (closed : IsDone (IsLinked silent) mid half) where
-  half_listed : IsLayer distance mid half
+  pub half_listed : IsLayer distance mid half
   half_listed = layer_grown (Spread (IsLinked silent) (Contains layer)) (Contains layer) distance old mid layer half closes is.listed
 
   spread_finishes : {q : ℕ} → Spread (IsLinked silent) (Contains layer) q → Finishes a q distance

@@ -4,12 +4,12 @@ use Rattle.rela_witness.specs.Numbered.{unnumbered}
 use Rattle.rela_witness.proofs.Searching.{Searching}
 use Rattle.rela_witness.proofs.distances.distances.Given as goal
 
-abbrev pub invariant-loop-distance : goal.invariant-loop-distance
-invariant-loop-distance g l = record {
+abbrev pub invariant-loop-alloc : goal.invariant-loop-alloc
+invariant-loop-alloc g l = record {
   count : length l.numbers.items ≡ states l.a;
   few : l.distance + length l.layer.items + unnumbered l.numbers.items ≤ states l.a;
   search : Searching l.a l.distance l.numbers.items l.layer.items;
 }
 
-abbrev pub decreases-loop-distance : goal.decreases-loop-distance
-decreases-loop-distance g l = length l.layer.items + unnumbered l.numbers.items
+abbrev pub decreases-loop-alloc : goal.decreases-loop-alloc
+decreases-loop-alloc g l = length l.layer.items + unnumbered l.numbers.items

@@ -19,7 +19,7 @@ pub loop-edge-preserved : goal.loop-edge-preserved
 loop-edge-preserved g c =
     let edges = c.edges-edge-items.result.now in
     let i = c.loop-edge.edge-index in
-    subst (IsLeast (After (λ edge k. EdgeGoes g.L.LabelSet.letters c.args.distances.now c.args.distance (Some k) edge) (take (i + 1) edges))) (sym c.lesser.ensures)
+    subst (IsLeast (After (λ edge k. EdgeGoes g.L.LabelSet.letters c.args.distances.now c.args.distance (Some k) edge) (take (i + 1) edges))) (sym c.lesser-least.ensures)
     (least_more (λ edge k. EdgeGoes g.L.LabelSet.letters c.args.distances.now c.args.distance (Some k) edge) edges i c.edge-item.result c.loop-edge.least c.least_of.result
     c.loop-edge-test.true c.edge-item.is c.loop-edge.invariant c.least_of.ensures)
 

@@ -15,7 +15,7 @@ pub loop-q-preserved : goal.loop-q-preserved
 loop-q-preserved g c =
     let layer = c.args.layer.now in
     let i = c.loop-q.q-index in
-    subst (IsLeast (Continues c.args.a.now c.args.distances.now c.args.distance (take (i + 1) layer))) (sym c.lesser.ensures)
+    subst (IsLeast (Continues c.args.a.now c.args.distances.now c.args.distance (take (i + 1) layer))) (sym c.lesser-least.ensures)
     (least_more (λ p k. (q : ℕ) × LeadsTo c.args.a.now c.args.distances.now c.args.distance (Some k) p q) layer i (get_or layer i 0) c.loop-q.least c.least_from.result
     c.loop-q-test.true (get_or_default layer i 0 (get_or layer i 0) c.loop-q-test.true) c.loop-q.invariant c.least_from.ensures)
 
