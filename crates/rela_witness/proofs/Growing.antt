@@ -1,15 +1,15 @@
 -- States that are given one number, one after another.
-use Rattle.std.proofs.Common.{◌≡◌, ℕ, Bool, cond, ◌+◌, ◌<◌, ◌≤◌, ◌⊎◌, ◌↔◌, List, [], ◌∷◌, ◌++◌, length, get_or, set, replicate, take, Option, None, Some, refl, sym, ap, ◌∙◌, subst, inl, inr, arith, add-zero, count_by, append_assoc}
+use Rattle.std.proofs.Common.{◌≡◌, ℕ, cond, ◌+◌, ◌<◌, ◌≤◌, List, [], ◌∷◌, ◌++◌, length, get_or, set, replicate, take, Option, None, Some, refl, sym, ap, ◌∙◌, subst, inl, inr, arith, add-zero, append_assoc}
 use Rattle.std.specs.Prelude.{is_none}
 use Rattle.std.specs.List.{Contains}
 use Rattle.std.proofs.lemmas.Bool.{cases_lt, cases_eq}
 use Rattle.std.proofs.lemmas.Option.{none-some, same_Some}
 use Rattle.std.proofs.lemmas.List.{append-nil, length_push, length-set, length-replicate, get_or_past, get_or_append_left, get_or-replicate, get_or-set_same, get_or-set_other, get_or_default, length-append}
-use Rattle.std.proofs.lemmas.List.Elements.{Contains-append_left, Contains-append_right, Contains-append_cases, Contains-push, Contains-get_or}
+use Rattle.std.proofs.lemmas.List.Elements.{Contains-append_left, Contains-append_cases, Contains-push, Contains-get_or}
 use Rattle.std.proofs.lemmas.List.Folds.{sum_by-replicate}
 use Rattle.std.proofs.lemmas.List.Sums.{sum_by-set}
 use Rattle.rela_witness.specs.Numbered.{number_of, HasNumber, unnumbered, IsLayer, Grows, Spread, here, step, After, IsDone}
-use Rattle.rela_witness.proofs.Members.{Contains-nil, Contains-one, Contains-head, take_one_more, taken_cases, taken_before, taken_last, taken_all, taken_within}
+use Rattle.rela_witness.proofs.Members.{Contains-nil, Contains-one, taken_cases, taken_before, taken_last, taken_all, taken_within}
 
 -- no number that is no state has a number
 pub number_within : (numbers : List (Option ℕ)) (q n : ℕ) → number_of numbers q ≡ Some n → q < length numbers

@@ -1,7 +1,7 @@
 -- Edges that lead to a state of some distance.
-use Rattle.std.proofs.Common.{◌≡◌, ℕ, ◌+◌, ◌<◌, ◌≤◌, ◌⊎◌, ◌↔◌, Bool, true, false, List, length, get_or, map, take, Option, None, Some, refl, sym, ap, ◌∙◌, subst, inl, inr, arith}
-use Rattle.std.specs.List.{All, Contains}
-use Rattle.rela_nfa.specs.Automaton.{Automaton, IsAutomaton, moves_of, states}
+use Rattle.std.proofs.Common.{◌≡◌, ℕ, ◌<◌, ◌≤◌, Bool, true, List, length, get_or, map, take, Option, Some, refl, sym, ap, ◌∙◌, subst}
+use Rattle.std.specs.List.{All}
+use Rattle.rela_nfa.specs.Automaton.{Automaton, moves_of}
 use Rattle.rela_nfa.specs.Reading.{takes}
 use Rattle.rela_nfa.specs.Stored.{move_of}
 use Rattle.rela_nfa.specs.declared.edge.Edge.{Edge}

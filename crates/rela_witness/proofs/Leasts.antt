@@ -1,6 +1,5 @@
 -- The least number of a set, of two sets, of many.
-use Rattle.std.proofs.Common.{◌≡◌, ℕ, ◌+◌, ◌<◌, ◌≤◌, min, ◌⊎◌, ◌↔◌, List, length, get_or, take, Option, None, Some, sym, subst, inl, inr, arith}
-use Rattle.std.specs.List.{Contains}
+use Rattle.std.proofs.Common.{◌≡◌, ℕ, ◌+◌, ◌<◌, ◌≤◌, min, ◌⊎◌, List, length, get_or, take, Option, None, Some, sym, subst, inl, inr, arith}
 use Rattle.std.proofs.lemmas.Bool.{cases_lt}
 use Rattle.rela_witness.specs.Labels.{IsLeast, lesser_of}
 use Rattle.rela_witness.specs.Numbered.{After}
@@ -36,15 +35,16 @@ module _ {X : Type 0} (Next : X → ℕ → Type 0) (xs : List X) where
   pub least_none : IsLeast (After Next (take 0 xs)) None
   least_none k after = Contains-nil after.0 after.1
 
-  pub least_more : (i : ℕ) (x : X) (o r : Option ℕ) → i < length xs → x ≡ get_or xs i x → IsLeast (After Next (take i xs)) o → IsLeast (Next x) r
-      → IsLeast (After Next (take (i + 1) xs)) (lesser_of o r)
-  least_more i x o r below is so_far one =
-      least_of_both (After Next (take i xs)) (Next x) (After Next (take (i + 1) xs)) o r
+  pub least_more : (i : ℕ) (x : X) (o r both : Option ℕ) → i < length xs → x ≡ get_or xs i x → both ≡ lesser_of o r → IsLeast (After Next (take i xs)) o → IsLeast (Next x) r
+      → IsLeast (After Next (take (i + 1) xs)) both
+  least_more i x o r both below is lesser so_far one =
+      subst (IsLeast (After Next (take (i + 1) xs))) (sym lesser)
+      (least_of_both (After Next (take i xs)) (Next x) (After Next (take (i + 1) xs)) o r
       (λ k (y, among, next). elim (taken_cases xs i x below is y among) [
         | inl early ↦ inl (y, early, next)
         | inr here ↦ inr (subst (λ (z : X). Next z k) (sym here) next)
       ])
-      (λ k (y, among, next). (y, taken_before xs i x below is y among, next)) (λ k next. (x, taken_last xs i x below is, next)) so_far one
+      (λ k (y, among, next). (y, taken_before xs i x below is y among, next)) (λ k next. (x, taken_last xs i x below is, next)) so_far one)
 
   pub least_all : (i : ℕ) (o : Option ℕ) → length xs ≤ i → IsLeast (After Next (take i xs)) o → IsLeast (After Next xs) o
   least_all i o over =

@@ -1,9 +1,9 @@
 -- Lists of states, one for each state.
-use Rattle.std.proofs.Common.{◌≡◌, ℕ, ◌+◌, ◌<◌, ◌≤◌, ◌⊎◌, ◌↔◌, List, [], ◌∷◌, ◌++◌, length, get_or, set, replicate, map, refl, sym, ap, ◌∙◌, subst, inl, inr, arith}
+use Rattle.std.proofs.Common.{◌≡◌, ℕ, ◌<◌, ◌⊎◌, ◌↔◌, List, [], ◌∷◌, ◌++◌, length, get_or, set, replicate, sym, ap, ◌∙◌, subst, inl, inr, arith}
 use Rattle.std.specs.List.{All, Contains}
 use Rattle.std.specs.declared.vec.Vec.{Vec}
 use Rattle.std.proofs.lemmas.Bool.{cases_lt, cases_eq}
-use Rattle.std.proofs.lemmas.List.{get_or-map, map-set, set-get_or, length-set, length-map, length-replicate, get_or-set_same, get_or-set_other, get_or-replicate, get_or_past, replicate_more, map_push}
+use Rattle.std.proofs.lemmas.List.{get_or-map, map-set, set-get_or, length-set, length-map, length-replicate, get_or-set_same, get_or-set_other, get_or-replicate, get_or_past}
 use Rattle.std.proofs.lemmas.List.Elements.{All-set, All-push, All-replicate, All-nil, Contains-append_left, Contains-push, Contains-push_cases}
 use Rattle.rela_witness.specs.Linked.{IsLinked, lists_of, AreLinks}
 use Rattle.rela_witness.proofs.Members.{Contains-nil}

@@ -1,5 +1,5 @@
 -- The search back from the final states: the distances of its layers are right.
-use Rattle.std.proofs.Common.{◌≡◌, ℕ, suc, zero, ◌+◌, ◌<◌, ◌≤◌, ◌⊎◌, ◌↔◌, Bool, true, false, List, [], ◌∷◌, ◌++◌, length, get_or, replicate, Option, None, Some, refl, sym, ap, ◌∙◌, subst, inl, inr, arith, length-append}
+use Rattle.std.proofs.Common.{◌≡◌, ℕ, ◌+◌, ◌<◌, ◌≤◌, ◌↔◌, false, List, [], ◌∷◌, ◌++◌, length, replicate, Option, None, Some, refl, sym, ap, ◌∙◌, subst, inl, inr, arith, length-append}
 use Rattle.std.specs.List.{Contains}
 use Rattle.std.specs.Option.{option_to_list}
 use Rattle.std.proofs.lemmas.Bool.{cases_lt, cases_eq, both_ways}
@@ -10,7 +10,6 @@ use Rattle.rela_witness.specs.Finishing.{Finishes, AreDistances}
 use Rattle.rela_witness.specs.Labels.{HasEdge}
 use Rattle.rela_witness.specs.Linked.{IsLinked}
 use Rattle.rela_witness.specs.Numbered.{number_of, HasNumber, unnumbered, IsLayer, Grows, Spread, here, step, After, IsDone}
-use Rattle.rela_witness.specs.declared.sources.Kind.{Kind}
 use Rattle.rela_witness.specs.declared.sources.Kind.TheVariants.{Silent, Lettered}
 use Rattle.rela_witness.proofs.Members.{Contains-nil}
 use Rattle.rela_witness.proofs.Growing.{none_number, grows_not, grows_both, has_kept, layer_grown, no_shorter}

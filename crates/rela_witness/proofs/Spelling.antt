@@ -1,5 +1,5 @@
 -- The first word is spelled letter by letter, through states of falling distance.
-use Rattle.std.proofs.Common.{◌≡◌, ◌≢◌, ℕ, suc, zero, ◌+◌, ◌<◌, ◌≤◌, ◌⊎◌, ◌↔◌, Bool, List, [], ◌∷◌, ◌++◌, length, replicate, Option, None, Some, refl, sym, ap, ◌∙◌, subst, inl, inr, arith, append_assoc}
+use Rattle.std.proofs.Common.{◌≡◌, ℕ, ◌+◌, ◌≤◌, List, [], ◌∷◌, ◌++◌, length, replicate, Option, None, Some, refl, sym, ap, ◌∙◌, subst, inl, inr, arith, append_assoc}
 use Rattle.std.specs.List.{Contains}
 use Rattle.std.specs.Option.{option_to_list}
 use Rattle.std.proofs.lemmas.Bool.{cases_lt}
@@ -124,9 +124,9 @@ pub record Choosing (a : Automaton) (d : List (Option ℕ)) (word : List ℕ) (l
   pub some : (q : ℕ) × Contains layer q
   pub completes : (v : List ℕ) → First (AcceptsFromAny a layer) v → First (Accepts a) (word ++ v)
 
-pub choosing_start : (a : Automaton) (d : List (Option ℕ)) (left count : ℕ) (old numbers : List (Option ℕ)) (layer : List ℕ) → old ≡ replicate count None → number_of d a.start ≡ Some left
-    → Grows (λ p. a.start ≡ p) left old numbers [] layer → HasNumber numbers a.start → Choosing a d [] left numbers layer
-choosing_start a d left count old numbers layer none at grows has =
+pub choosing_start : (a : Automaton) (d : List (Option ℕ)) (word : List ℕ) (left count : ℕ) (old numbers : List (Option ℕ)) (layer : List ℕ) → word ≡ [] → old ≡ replicate count None
+    → number_of d a.start ≡ Some left → Grows (λ p. a.start ≡ p) left old numbers [] layer → HasNumber numbers a.start → Choosing a d word left numbers layer
+choosing_start a d word left count old numbers layer empty none at grows has =
     let the_start : (q n : ℕ) → number_of numbers q ≡ Some n → (n ≡ left) × (a.start ≡ q) =
     λ q n is. elim (grows.only q n is) [ inl was ↦ absurd (none_number count old none q n was) | inr (same, start, among) ↦ (same, start) ] in
     let listed : IsLayer left numbers layer =
@@ -139,9 +139,10 @@ choosing_start a d left count old numbers layer none at grows has =
           (subst (λ p. number_of d p ≡ Some n) one.1 (subst (λ m. number_of d a.start ≡ Some m) (sym one.0) at), (let same = one.0 in omega arith));
       some = (a.start, start_in);
       completes = λ v first.
-          first_same (AcceptsFromAny a layer) (Accepts a) v
+          subst (First (Accepts a)) (ap (λ w. w ++ v) (sym empty))
+          (first_same (AcceptsFromAny a layer) (Accepts a) v
           (λ u (p, among, accepts). subst (λ n. AcceptsFrom a n u) (sym (the_start p left ((listed p).0 among)).1) accepts)
-          (λ u accepts. (a.start, start_in, accepts)) first;
+          (λ u accepts. (a.start, start_in, accepts)) first);
     }
 
 module _ (a : Automaton) (d : List (Option ℕ)) (are : AreDistances a d) (word : List ℕ) (left r : ℕ) (left_is : left ≡ r + 1) (old : List (Option ℕ)) (layer : List ℕ)
@@ -212,13 +213,13 @@ module _ (a : Automaton) (d : List (Option ℕ)) (are : AreDistances a d) (word 
         first_with_letter a d are (Contains half) left r left_is half_at half_closed (Contains next) k (λ q c. (new_apart q r ((next_listed q).0 c)).0)
         (λ j p q among leads. least.1 j (p, among, (q, leads))) next_onto next_from
 
-    pub choosing_more : Choosing a d (word ++ k ∷ []) r new next
-    choosing_more = record {
+    pub choosing_more : (longer : List ℕ) → longer ≡ word ++ k ∷ [] → Choosing a d longer r new next
+    choosing_more longer pushed = record {
       listed = next_listed;
       apart = new_apart;
       some = let (p, among, (q, leads)) = least.0 in (q, next_onto p q among leads);
       completes = λ v first.
-          subst (First (Accepts a)) (sym (append_assoc word (k ∷ []) v))
+          subst (First (Accepts a)) (sym (ap (λ w. w ++ v) pushed ∙ append_assoc word (k ∷ []) v))
           (is.completes (k ∷ v) (first_same (AcceptsFromAny a half) (AcceptsFromAny a layer) (k ∷ v)
           (λ u (p, among, accepts). spread_back (all_spread (LeadsTo a d left None) left old layer mid half is.listed closes p among) u accepts)
           (λ u (p, among, accepts). (p, (half_listed p).1 (closes.kept p left ((is.listed p).0 among)), accepts))

@@ -1,5 +1,5 @@
 -- The edges out of a state, and the steps that they allow.
-use Rattle.std.proofs.Common.{◌≡◌, ℕ, zero, suc, not, ◌+◌, ◌<◌, ◌≤◌, ◌⊎◌, ◌↔◌, Bool, true, false, List, [], ◌∷◌, ◌++◌, length, get_or, map, take, Option, None, Some, refl, sym, ap, ◌∙◌, subst, inl, inr, arith}
+use Rattle.std.proofs.Common.{◌≡◌, ℕ, zero, suc, not, ◌<◌, ◌⊎◌, ◌↔◌, Bool, true, false, List, [], ◌∷◌, length, map, Option, None, Some, refl, sym, ap, ◌∙◌, subst, inl, inr, arith}
 use Rattle.std.specs.Prelude.{IsTrue}
 use Rattle.std.specs.List.{Contains}
 use Rattle.std.proofs.lemmas.Bool.{cases_lt, false≢true}
@@ -10,11 +10,10 @@ use Rattle.rela_nfa.specs.Reading.{takes}
 use Rattle.rela_nfa.specs.Runs.{StepIn, HasStep}
 use Rattle.rela_nfa.specs.Stored.{move_of}
 use Rattle.rela_nfa.specs.declared.edge.Edge.{Edge}
-use Rattle.rela_witness.specs.Labels.{IsOf, HasEdge}
-use Rattle.rela_witness.specs.Linked.{IsLinked}
+use Rattle.rela_witness.specs.Labels.{IsOfKind, HasEdge}
 use Rattle.rela_witness.specs.declared.sources.Kind.{Kind}
 use Rattle.rela_witness.specs.declared.sources.Kind.TheVariants.{Silent, Lettered}
-use Rattle.rela_witness.proofs.Members.{Contains-nil, Contains-map, Contains-map_back, taken_cases, taken_before, taken_last, taken_all, taken_within}
+use Rattle.rela_witness.proofs.Members.{Contains-nil, Contains-map, Contains-map_back}
 
 move_of_step : (moves : List Move) (letter : Option ℕ) (q : ℕ) → StepIn moves letter q → (m : Move) × Contains moves m × (takes m.label letter ≡ true) × (m.to ≡ q)
 move_of_step moves None q step = (record { label = None; to = q }, step, refl, refl)
@@ -37,19 +36,19 @@ step_within a ok p q letter step = elim (cases_lt p (length a.edges)) [
   | inr past ↦ absurd (no_step letter q (subst (λ (l : List Move). StepIn l letter q) (get_or_past a.edges p [] past) step))
 ]
 
-silent_taken : (label : Option (List Bool)) → takes label None ≡ true → IsOf Silent label
+silent_taken : (label : Option (List Bool)) → takes label None ≡ true → IsOfKind Silent label
 silent_taken None taken = tt
 silent_taken (Some set) taken = absurd (false≢true taken)
 
-silent_takes : (label : Option (List Bool)) → IsOf Silent label → takes label None ≡ true
+silent_takes : (label : Option (List Bool)) → IsOfKind Silent label → takes label None ≡ true
 silent_takes None of = refl
 silent_takes (Some set) of = absurd of
 
-lettered_taken : (label : Option (List Bool)) (k : ℕ) → takes label (Some k) ≡ true → IsOf Lettered label
+lettered_taken : (label : Option (List Bool)) (k : ℕ) → takes label (Some k) ≡ true → IsOfKind Lettered label
 lettered_taken None k taken = absurd (false≢true taken)
 lettered_taken (Some set) k taken = (k, taken)
 
-lettered_takes : (label : Option (List Bool)) → IsOf Lettered label → (k : ℕ) × (takes label (Some k) ≡ true)
+lettered_takes : (label : Option (List Bool)) → IsOfKind Lettered label → (k : ℕ) × (takes label (Some k) ≡ true)
 lettered_takes None of = absurd of
 lettered_takes (Some set) of = of
 
@@ -64,11 +63,11 @@ module _ {L : Type 0} (letters : L → List Bool) (edges : List (Edge L)) (a : A
   step_of_edge letter edge among taken =
       taken_step (moves_of a p) (move_of letters edge).label edge.to letter taken (subst (λ (l : List Move). Contains l (move_of letters edge)) same (Contains-map (move_of letters) edges edge among))
 
-  pub edge_of_kind : (kind : Kind) (q : ℕ) → HasEdge a kind p q → (edge : Edge L) × Contains edges edge × IsOf kind (move_of letters edge).label × (edge.to ≡ q)
+  pub edge_of_kind : (kind : Kind) (q : ℕ) → HasEdge a kind p q → (edge : Edge L) × Contains edges edge × IsOfKind kind (move_of letters edge).label × (edge.to ≡ q)
   edge_of_kind Silent q step = let found = edge_of_step None q step in (found.0, found.1, silent_taken (move_of letters found.0).label found.2, found.3)
   edge_of_kind Lettered q (k, step) = let found = edge_of_step (Some k) q step in (found.0, found.1, lettered_taken (move_of letters found.0).label k found.2, found.3)
 
-  pub kind_of_edge : (kind : Kind) (edge : Edge L) → Contains edges edge → IsOf kind (move_of letters edge).label → HasEdge a kind p edge.to
+  pub kind_of_edge : (kind : Kind) (edge : Edge L) → Contains edges edge → IsOfKind kind (move_of letters edge).label → HasEdge a kind p edge.to
   kind_of_edge Silent edge among of = step_of_edge None edge among (silent_takes (move_of letters edge).label of)
   kind_of_edge Lettered edge among of = let some = lettered_takes (move_of letters edge).label of in (some.0, step_of_edge (Some some.0) edge among some.1)
 
@@ -85,7 +84,7 @@ some_letter (false ∷ set) = elim (some_letter set) [ inl none ↦ inl (no_more
     no_more rest none zero = refl
     no_more rest none (suc k) = none k
 
-pub lettered_unless_empty : (set : List Bool) (empty : Bool) → IsTrue empty ↔ ((k : ℕ) → has set k ≡ false) → IsTrue (not empty) ↔ IsOf Lettered (Some set)
+pub lettered_unless_empty : (set : List Bool) (empty : Bool) → IsTrue empty ↔ ((k : ℕ) → has set k ≡ false) → IsTrue (not empty) ↔ IsOfKind Lettered (Some set)
 lettered_unless_empty set true is = (λ no. absurd (false≢true no), λ (k, holds). absurd (false≢true (sym (is.0 refl k) ∙ holds)))
 lettered_unless_empty set false is = (
   λ _. elim (some_letter set) [ inl none ↦ absurd (false≢true (is.1 none)) | inr some ↦ some ],

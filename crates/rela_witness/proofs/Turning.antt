@@ -1,11 +1,11 @@
 -- Edges turned round: each is put on the list of the state to which it leads.
-use Rattle.std.proofs.Common.{◌≡◌, ℕ, ◌+◌, ◌<◌, ◌≤◌, ◌⊎◌, ◌↔◌, Bool, List, [], ◌∷◌, length, get_or, map, take, refl, sym, ap, ◌∙◌, subst, inl, inr, arith}
+use Rattle.std.proofs.Common.{◌≡◌, ℕ, ◌+◌, ◌<◌, ◌≤◌, ◌⊎◌, ◌↔◌, Bool, List, length, get_or, map, take, sym, ap, ◌∙◌, subst, inl, inr, arith}
 use Rattle.std.specs.List.{Contains}
-use Rattle.std.proofs.lemmas.Bool.{cases_lt, cases_eq}
+use Rattle.std.proofs.lemmas.Bool.{cases_eq}
 use Rattle.rela_nfa.specs.Automaton.{Automaton, IsAutomaton, moves_of, states}
 use Rattle.rela_nfa.specs.Stored.{move_of}
 use Rattle.rela_nfa.specs.declared.edge.Edge.{Edge}
-use Rattle.rela_witness.specs.Labels.{IsOf, HasEdge}
+use Rattle.rela_witness.specs.Labels.{IsOfKind, HasEdge}
 use Rattle.rela_witness.specs.Linked.{IsLinked}
 use Rattle.rela_witness.specs.declared.sources.Kind.{Kind}
 use Rattle.rela_witness.proofs.Members.{Contains-nil, taken_cases, taken_before, taken_last, taken_all, taken_within}
@@ -13,7 +13,7 @@ use Rattle.rela_witness.proofs.Steps.{edge_of_kind, kind_of_edge, kind_within}
 
 -- m is p, and one of the edges, of the kind, leads to q
 abbrev pub Leaves : {L : Type 0} → (L → List Bool) → Kind → ℕ → List (Edge L) → ℕ → ℕ → Type 0
-Leaves {L} letters kind p edges m q = (edge : Edge L) × (p ≡ m) × Contains edges edge × IsOf kind (move_of letters edge).label × (edge.to ≡ q)
+Leaves {L} letters kind p edges m q = (edge : Edge L) × (p ≡ m) × Contains edges edge × IsOfKind kind (move_of letters edge).label × (edge.to ≡ q)
 
 -- the links are the old ones, and these
 abbrev pub IsTurned : {L : Type 0} → (L → List Bool) → Kind → ℕ → List (Edge L) → List (List ℕ) → List (List ℕ) → Type 0
@@ -27,7 +27,7 @@ module _ {L : Type 0} (letters : L → List Bool) (kind : Kind) (p : ℕ) (edges
     before : (m q : ℕ) → Leaves letters kind p (take i edges) m q → Leaves letters kind p (take (i + 1) edges) m q
     before m q (e, same, among, of, to) = (e, same, taken_before edges i edge below is e among, of, to)
 
-    pub turned_more : (new : List (List ℕ)) → IsOf kind (move_of letters edge).label → ((m n : ℕ) → IsLinked new m n ↔ (IsLinked now m n ⊎ ((edge.to ≡ m) × (p ≡ n))))
+    pub turned_more : (new : List (List ℕ)) → IsOfKind kind (move_of letters edge).label → ((m n : ℕ) → IsLinked new m n ↔ (IsLinked now m n ⊎ ((edge.to ≡ m) × (p ≡ n))))
         → IsTurned letters kind p (take (i + 1) edges) old new
     turned_more new of added m q = (
       λ c. elim ((added q m).0 c) [
@@ -43,14 +43,14 @@ module _ {L : Type 0} (letters : L → List Bool) (kind : Kind) (p : ℕ) (edges
       ]),
     )
 
-    pub turned_past : ¬ IsOf kind (move_of letters edge).label → IsTurned letters kind p (take (i + 1) edges) old now
+    pub turned_past : ¬ IsOfKind kind (move_of letters edge).label → IsTurned letters kind p (take (i + 1) edges) old now
     turned_past other m q = (
       λ c. elim ((so_far m q).0 c) [ inl older ↦ inl older | inr leaves ↦ inr (before m q leaves) ],
       λ either. elim either [
         | inl older ↦ (so_far m q).1 (inl older)
         | inr (e, same, among, of, to) ↦ elim (taken_cases edges i edge below is e among) [
           | inl early ↦ (so_far m q).1 (inr (e, same, early, of, to))
-          | inr here ↦ absurd (other (subst (λ (x : Edge L). IsOf kind (move_of letters x).label) (sym here) of))
+          | inr here ↦ absurd (other (subst (λ (x : Edge L). IsOfKind kind (move_of letters x).label) (sym here) of))
         ]
       ],
     )

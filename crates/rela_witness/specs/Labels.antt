@@ -7,11 +7,11 @@ use Rattle.rela_witness.specs.declared.sources.Kind.{Kind}
 use Rattle.rela_witness.specs.declared.sources.Kind.TheVariants.{Silent, Lettered}
 
 -- no label, or one with a letter
-abbrev pub IsOf : Kind → Option (List Bool) → Type 0
-IsOf Silent None = Unit {0}
-IsOf Silent (Some set) = ⊥
-IsOf Lettered None = ⊥
-IsOf Lettered (Some set) = (k : ℕ) × (has set k ≡ true)
+abbrev pub IsOfKind : Kind → Option (List Bool) → Type 0
+IsOfKind Silent None = Unit {0}
+IsOfKind Silent (Some set) = ⊥
+IsOfKind Lettered None = ⊥
+IsOfKind Lettered (Some set) = (k : ℕ) × (has set k ≡ true)
 
 -- an edge leads from p to q silently, or by some letter
 abbrev pub HasEdge : Automaton → Kind → ℕ → ℕ → Type 0

@@ -104,15 +104,7 @@ pub(crate) fn layer_after<L: LabelSet>(
 {
     let mut next = Vec::new(alloc);
     for q in layer {
-        enter_ends(
-            a,
-            distances,
-            numbers,
-            &mut next,
-            *q,
-            Some(letter),
-            distance,
-        )?;
+        enter_ends(a, distances, numbers, &mut next, *q, Some(letter), distance)?;
     }
     Ok(next)
 }

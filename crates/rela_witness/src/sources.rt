@@ -2,7 +2,7 @@
 ghost use Rattle.std.specs.Prelude.{◌≡◌, ℕ, ◌<◌, ◌⊎◌, ◌↔◌, IsTrue, IfOk, OnOk, length};
 ghost use Rattle.rela_nfa.specs.Automaton.{states};
 ghost use Rattle.rela_nfa.specs.Stored.{move_of};
-ghost use Rattle.rela_witness.specs.Labels.{IsOf, HasEdge};
+ghost use Rattle.rela_witness.specs.Labels.{IsOfKind, HasEdge};
 ghost use Rattle.rela_witness.specs.Linked.{IsLinked};
 
 use crate::links::Links;
@@ -18,8 +18,8 @@ pub(crate) enum Kind {
 }
 
 /// Whether the edge is of the kind.
-fn is_of<L: LabelSet>(edge: &Edge<L>, kind: Kind) -> bool
-    ensures { IsTrue result ↔ IsOf kind (move_of L.letters edge.now).label }
+fn is_of_kind<L: LabelSet>(edge: &Edge<L>, kind: Kind) -> bool
+    ensures { IsTrue result ↔ IsOfKind kind (move_of L.letters edge.now).label }
 {
     match (&edge.label, kind) {
         (None, Kind::Silent) => true,
@@ -58,7 +58,7 @@ fn add_source<L: LabelSet>(
     ensures added { OnOk result ((m q : ℕ) → IsLinked links.new q m ↔ (IsLinked links.old q m ⊎ ((p ≡ m) × HasEdge a.now kind p q))) }
 {
     for edge in a.edges(p) {
-        if is_of(edge, kind) {
+        if is_of_kind(edge, kind) {
             links.add(edge.to, p)?;
         }
     }

@@ -1,5 +1,5 @@
 use super::*;
-use rela_labels::BlockSet;
+use rela_labels::{BlockSet, LabelSet};
 use rela_names::Word;
 use rela_nfa::Nfa;
 use std::test::Fail;
@@ -30,6 +30,17 @@ fn shorter_before_less(rt: HostRuntime) -> Result<(), Fail> {
 }
 
 #[test]
+fn least_of_one_length(rt: HostRuntime) -> Result<(), Fail> {
+    let alloc = rt.alloc();
+    let a: Table = Nfa::word(alloc, 3, &[0])?;
+    let b: Table = Nfa::word(alloc, 3, &[1])?;
+    assert!(rt; is(least_word(alloc, &b.union(alloc, &a)?)?, &[0]));
+    let pair = b.concat(alloc, &b.union(alloc, &a)?)?;
+    assert!(rt; is(least_word(alloc, &pair)?, &[1, 0]));
+    Ok(())
+}
+
+#[test]
 fn empty_word_and_none(rt: HostRuntime) -> Result<(), Fail> {
     let alloc = rt.alloc();
     let one: Table = Nfa::word(alloc, 3, &[1])?;
@@ -37,6 +48,9 @@ fn empty_word_and_none(rt: HostRuntime) -> Result<(), Fail> {
     assert!(rt; is(least_word(alloc, &one)?, &[1]));
     assert!(rt; is(least_word(alloc, &one.star(alloc)?)?, &[]));
     assert!(rt; least_word(alloc, &none)?.is_none());
+    let no_letter: BlockSet<1> = LabelSet::none(alloc, 3)?;
+    let unread: Table = Nfa::class(alloc, 3, &no_letter)?;
+    assert!(rt; least_word(alloc, &unread)?.is_none());
     assert!(rt; least_word(alloc, &one.concat(alloc, &none)?)?.is_none());
     Ok(())
 }

@@ -1,10 +1,10 @@
-use Rattle.std.proofs.Common.{◌≡◌, ◌≢◌, ◌+◌, ◌<◌, ◌≤◌, vec_len, ℕ, List, [], Option, None, length, replicate, arith, rules, sym, subst, ap, ◌∙◌}
+use Rattle.std.proofs.Common.{◌≡◌, ◌≢◌, ◌+◌, ◌<◌, ◌≤◌, vec_len, ℕ, List, [], None, length, replicate, arith, rules, sym, subst, ap, ◌∙◌}
 use Rattle.std.specs.List.{Contains}
 use Rattle.std.proofs.lemmas.Bool.{eqb-true, eqb-false}
 use Rattle.std.proofs.lemmas.List.{nil_from_length, length-replicate}
 use Rattle.rela_nfa.specs.Automaton.{IsFinal, states}
 use Rattle.rela_witness.specs.Linked.{IsLinked}
-use Rattle.rela_witness.specs.Numbered.{HasNumber, Grows, After, IsDone, unnumbered}
+use Rattle.rela_witness.specs.Numbered.{Grows, After, IsDone, unnumbered}
 use Rattle.rela_witness.proofs.Growing.{none_count}
 use Rattle.rela_witness.proofs.Searching.{Searching, searching_start, searching_more, half_listed, fewer_left, searched}
 use Rattle.rela_witness.proofs.distances.distances.Given.{Over}
@@ -36,9 +36,11 @@ loop-alloc-init g c =
 pub next_layer-requires-clause-layer : goal.next_layer-requires-clause-layer
 next_layer-requires-clause-layer g c = λ q among.
     let half = c.close.new.layer.items in
-    let in_half : Contains half q = subst (λ (l : List ℕ). Contains l q) c.deref.ensures.value among in
-    (c.loop-alloc.distance, (half_listed c.args.a.now c.loop-alloc.distance c.loop-alloc.numbers.items c.loop-alloc.layer.items c.loop-alloc.invariant.search c.in_ok-silent.silent
-    c.in_ok-silent.ensures.edges c.close.new.numbers.items half c.in_ok-close.ensures.grows c.in_ok-close.ensures.done q).0 in_half)
+    let in_half : Contains half q = subst (λ (l : List ℕ). Contains l q) c.deref.ensures.value among in (
+      c.loop-alloc.distance,
+      (half_listed c.args.a.now c.loop-alloc.distance c.loop-alloc.numbers.items c.loop-alloc.layer.items c.loop-alloc.invariant.search c.in_ok-silent.silent
+          c.in_ok-silent.ensures.edges c.close.new.numbers.items half c.in_ok-close.ensures.grows c.in_ok-close.ensures.done q).0 in_half,
+    )
 
 module _ (g : Over) (c : After-drop-layer-in-loop-alloc g) where
   grows : Grows (After (IsLinked c.in_ok-lettered.lettered) c.close.new.layer.items) (c.loop-alloc.distance + 1) c.close.new.numbers.items c.next_layer.new.numbers.items [] c.in_ok-layer.layer.items

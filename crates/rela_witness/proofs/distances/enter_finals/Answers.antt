@@ -1,6 +1,5 @@
-use Rattle.std.proofs.Common.{◌≤◌, ◌+◌, List, ℕ, Option, arith, sym, ap, subst}
+use Rattle.std.proofs.Common.{◌+◌, List, ℕ, Option, arith, sym, ap, subst}
 use Rattle.std.proofs.lemmas.Bool.{both_ways}
-use Rattle.rela_nfa.specs.Automaton.{states}
 use Rattle.rela_witness.proofs.Searching.{Entering, entering_none, entering_more, entering_past, entered_all}
 use Rattle.rela_witness.proofs.distances.enter_finals.Goals.{then-is_final+in_ok-enter, else-is_final}
 use Rattle.rela_witness.proofs.distances.enter_finals.Goals as goal

@@ -1,7 +1,5 @@
-use Rattle.std.proofs.Common.{◌+◌, Some, take, arith, sym, subst}
+use Rattle.std.proofs.Common.{Some, arith}
 use Rattle.rela_nfa.specs.Automaton.{states}
-use Rattle.rela_witness.specs.Labels.{IsLeast}
-use Rattle.rela_witness.specs.Numbered.{After}
 use Rattle.rela_witness.proofs.Leading.{EdgeGoes, edge_within, edges_least}
 use Rattle.rela_witness.proofs.Leasts.{least_none, least_more}
 use Rattle.rela_witness.proofs.letters.least_from.Goals as goal
@@ -19,9 +17,8 @@ pub loop-edge-preserved : goal.loop-edge-preserved
 loop-edge-preserved g c =
     let edges = c.edges-edge-items.result.now in
     let i = c.loop-edge.edge-index in
-    subst (IsLeast (After (λ edge k. EdgeGoes g.L.LabelSet.letters c.args.distances.now c.args.distance (Some k) edge) (take (i + 1) edges))) (sym c.lesser-least.ensures)
-    (least_more (λ edge k. EdgeGoes g.L.LabelSet.letters c.args.distances.now c.args.distance (Some k) edge) edges i c.edge-item.result c.loop-edge.least c.least_of.result
-    c.loop-edge-test.true c.edge-item.is c.loop-edge.invariant c.least_of.ensures)
+    least_more (λ edge k. EdgeGoes g.L.LabelSet.letters c.args.distances.now c.args.distance (Some k) edge) edges i c.edge-item.result c.loop-edge.least c.least_of.result
+    c.lesser-least.result c.loop-edge-test.true c.edge-item.is c.lesser-least.ensures c.loop-edge.invariant c.least_of.ensures
 
 pub returns : goal.returns
 returns g c =

@@ -1,7 +1,6 @@
-use Rattle.std.proofs.Common.{ℕ, ◌+◌, Some, take, get_or, sym, subst}
+use Rattle.std.proofs.Common.{ℕ, Some, get_or}
 use Rattle.std.proofs.lemmas.List.{get_or_default}
-use Rattle.rela_witness.specs.Finishing.{Continues, LeadsTo}
-use Rattle.rela_witness.specs.Labels.{IsLeast}
+use Rattle.rela_witness.specs.Finishing.{LeadsTo}
 use Rattle.rela_witness.proofs.Leasts.{least_none, least_more, least_all}
 use Rattle.rela_witness.proofs.letters.least_letter.Goals as goal
 
@@ -15,9 +14,8 @@ pub loop-q-preserved : goal.loop-q-preserved
 loop-q-preserved g c =
     let layer = c.args.layer.now in
     let i = c.loop-q.q-index in
-    subst (IsLeast (Continues c.args.a.now c.args.distances.now c.args.distance (take (i + 1) layer))) (sym c.lesser-least.ensures)
-    (least_more (λ p k. (q : ℕ) × LeadsTo c.args.a.now c.args.distances.now c.args.distance (Some k) p q) layer i (get_or layer i 0) c.loop-q.least c.least_from.result
-    c.loop-q-test.true (get_or_default layer i 0 (get_or layer i 0) c.loop-q-test.true) c.loop-q.invariant c.least_from.ensures)
+    least_more (λ p k. (q : ℕ) × LeadsTo c.args.a.now c.args.distances.now c.args.distance (Some k) p q) layer i (get_or layer i 0) c.loop-q.least c.least_from.result
+    c.lesser-least.result c.loop-q-test.true (get_or_default layer i 0 (get_or layer i 0) c.loop-q-test.true) c.lesser-least.ensures c.loop-q.invariant c.least_from.ensures
 
 pub returns : goal.returns
 returns g c =

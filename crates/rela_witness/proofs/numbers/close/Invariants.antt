@@ -1,4 +1,4 @@
-use Rattle.std.proofs.Common.{◌≡◌, ◌+◌, ◌-◌, length}
+use Rattle.std.proofs.Common.{◌+◌, ◌-◌, length}
 use Rattle.rela_witness.specs.Linked.{IsLinked}
 use Rattle.rela_witness.specs.Numbered.{unnumbered}
 use Rattle.rela_witness.proofs.Growing.{Closing}

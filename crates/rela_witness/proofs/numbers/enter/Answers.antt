@@ -1,4 +1,4 @@
-use Rattle.std.proofs.Common.{◌≡◌, ◌<◌, ◌++◌, ◌∷◌, [], List, ℕ, None, Some, length, set, arith, ap, sym, subst, ◌∙◌}
+use Rattle.std.proofs.Common.{◌≡◌, ◌<◌, List, ℕ, None, Some, length, set, arith, sym, subst, ◌∙◌}
 use Rattle.std.proofs.lemmas.List.{get_or_default, get_or-set_same}
 use Rattle.rela_witness.specs.Numbered.{number_of, Grows}
 use Rattle.rela_witness.proofs.Members.{none_from, some_from}

@@ -1,4 +1,4 @@
-use Rattle.std.proofs.Common.{◌≡◌, ◌<◌, ℕ, length, get_or, arith, refl, sym, subst}
+use Rattle.std.proofs.Common.{◌≡◌, get_or, arith, refl, subst}
 use Rattle.std.specs.List.{Contains}
 use Rattle.std.proofs.lemmas.List.{get_or_default}
 use Rattle.rela_witness.specs.Numbered.{After, HasNumber}

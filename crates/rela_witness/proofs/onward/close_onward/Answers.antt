@@ -1,4 +1,4 @@
-use Rattle.std.proofs.Common.{◌≡◌, ◌<◌, ℕ, None, length, arith, sym, ◌∙◌}
+use Rattle.std.proofs.Common.{◌<◌, None, length, arith, sym, ◌∙◌}
 use Rattle.std.specs.List.{Contains}
 use Rattle.std.proofs.lemmas.List.{get_or_default}
 use Rattle.rela_witness.specs.Finishing.{LeadsTo}
@@ -32,7 +32,7 @@ loop-done-smaller g c =
       arith,
       within g (goal.at.loop-done-smaller g c).After-index-q,
       closing_bounded (LeadsTo c.args.a.now c.args.distances.now c.args.distance None) c.args.distance c.args.numbers.now.items c.args.layer.now.items c.loop-done.numbers.items
-      c.loop-done.layer.items c.loop-done.done c.loop-done.invariant,
+          c.loop-done.layer.items c.loop-done.done c.loop-done.invariant,
     )
 
 pub loop-done-preserved : goal.loop-done-preserved

@@ -1,7 +1,7 @@
-use Rattle.std.proofs.Common.{◌≡◌, ◌<◌, ◌≤◌, ◌+◌, List, ℕ, Option, length, arith, sym, ap, subst}
+use Rattle.std.proofs.Common.{◌≡◌, ◌+◌, List, ℕ, Option, arith, sym, ap, subst}
 use Rattle.std.proofs.lemmas.Bool.{both_ways}
 use Rattle.rela_nfa.specs.Automaton.{states}
-use Rattle.rela_witness.specs.Numbered.{Grows, HasNumber}
+use Rattle.rela_witness.specs.Numbered.{HasNumber}
 use Rattle.rela_witness.proofs.Growing.{Passing, passing_none, passing_more, passing_past, grows_weaker}
 use Rattle.rela_witness.proofs.Leading.{EdgeLeads, edge_within, edges_entered}
 use Rattle.rela_witness.proofs.onward.enter_ends.Goals.{then-leads+in_ok-enter, else-leads}

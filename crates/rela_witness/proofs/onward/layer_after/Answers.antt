@@ -1,4 +1,4 @@
-use Rattle.std.proofs.Common.{◌≡◌, ◌<◌, ℕ, List, [], Some, length, get_or, arith, sym, subst}
+use Rattle.std.proofs.Common.{ℕ, List, [], Some, get_or, arith, sym, subst}
 use Rattle.std.proofs.lemmas.List.{get_or_default}
 use Rattle.rela_witness.specs.Finishing.{LeadsTo}
 use Rattle.rela_witness.proofs.Growing.{Passing, passing_none, passing_more, passed_all}

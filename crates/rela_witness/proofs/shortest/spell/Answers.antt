@@ -1,4 +1,4 @@
-use Rattle.std.proofs.Common.{◌≡◌, ◌≤◌, ◌<◌, ◌+◌, ◌-◌, ◌++◌, ◌∷◌, ℕ, List, [], Option, None, Some, length, get_or, replicate, arith, rules, sym, subst, ap, ◌∙◌}
+use Rattle.std.proofs.Common.{◌≡◌, ◌<◌, ◌+◌, ◌-◌, ℕ, List, [], None, Some, length, get_or, replicate, arith, rules, sym, subst, ap, ◌∙◌}
 use Rattle.std.specs.List.{All, Contains}
 use Rattle.std.proofs.lemmas.List.{length-replicate}
 use Rattle.std.proofs.lemmas.List.Elements.{Contains-get_or}
@@ -7,7 +7,7 @@ use Rattle.rela_witness.specs.Finishing.{Continues, LeadsTo}
 use Rattle.rela_witness.specs.Labels.{IsLeast}
 use Rattle.rela_witness.specs.Numbered.{HasNumber, Grows, Spread, After, IsDone}
 use Rattle.rela_witness.proofs.Growing.{layer_within}
-use Rattle.rela_witness.proofs.Spelling.{Choosing, choosing_start, choosing_more, some_continues, chosen}
+use Rattle.rela_witness.proofs.Spelling.{choosing_start, choosing_more, some_continues, chosen}
 use Rattle.rela_witness.proofs.shortest.spell.Given.{Over}
 use Rattle.rela_witness.proofs.shortest.spell.Goals.{In_ok-word, In_ok-close_onward, After-least_letter}
 use Rattle.rela_witness.proofs.shortest.spell.Goals as goal
@@ -26,9 +26,9 @@ pub loop-left-init : goal.loop-left-init
 loop-left-init g c = record {
   count = (first_layer g c).count ∙ ap length (none g c) ∙ length-replicate c.states.result None ∙ c.states.ensures.states;
   choosing =
-      subst (λ (w : List ℕ). Choosing c.args.a.now c.args.distances.now w c.args.len c.enter.new.numbers.items c.enter.new.layer.items) (sym c.in_ok-word.ensures.items)
-      (choosing_start c.args.a.now c.args.distances.now c.args.len c.states.result c.in_ok-numbers.numbers.items c.enter.new.numbers.items c.enter.new.layer.items (none g c) c.requires.len
-      (first_layer g c) (subst (λ n. HasNumber c.enter.new.numbers.items n) c.start.ensures.start c.in_ok-enter.ensures.entered));
+      choosing_start c.args.a.now c.args.distances.now c.in_ok-word.word.items c.args.len c.states.result c.in_ok-numbers.numbers.items c.enter.new.numbers.items c.enter.new.layer.items
+      c.in_ok-word.ensures.items (none g c) c.requires.len (first_layer g c)
+      (subst (λ n. HasNumber c.enter.new.numbers.items n) c.start.ensures.start c.in_ok-enter.ensures.entered);
 }
 
 -- the layer is of states alone
@@ -76,9 +76,8 @@ loop-left-preserved g c =
     record {
       count = grows.count ∙ c.in_ok-close_onward.ensures.grows.count ∙ c.loop-left.invariant.count;
       choosing =
-          subst (λ (w : List ℕ). Choosing a d w r new next) (sym c.in_ok-push.ensures.items)
-          (choosing_more a d c.requires.distances c.loop-left.word.items c.loop-left.left r is c.loop-left.numbers.items c.loop-left.layer.items c.loop-left.invariant.choosing mid half
-          c.in_ok-close_onward.ensures.grows c.in_ok-close_onward.ensures.done k least new next grows done);
+          choosing_more a d c.requires.distances c.loop-left.word.items c.loop-left.left r is c.loop-left.numbers.items c.loop-left.layer.items c.loop-left.invariant.choosing mid half
+          c.in_ok-close_onward.ensures.grows c.in_ok-close_onward.ensures.done k least new next grows done c.push.new.self.items c.in_ok-push.ensures.items;
     }
 
 pub returns : goal.returns

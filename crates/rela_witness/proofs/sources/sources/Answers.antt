@@ -1,4 +1,4 @@
-use Rattle.std.proofs.Common.{◌≤◌, arith, ap, ◌∙◌}
+use Rattle.std.proofs.Common.{◌≤◌, arith, ◌∙◌}
 use Rattle.rela_nfa.specs.Automaton.{states}
 use Rattle.rela_witness.proofs.Turning.{below_nothing, below_one_more, below_all}
 use Rattle.rela_witness.proofs.sources.sources.Goals as goal

@@ -1,4 +1,3 @@
-use Rattle.std.proofs.Common.{◌≡◌}
 use Rattle.rela_witness.specs.Linked.{lists_of}
 use Rattle.rela_witness.proofs.Linking.{no_links, no_links_ok}
 use Rattle.rela_witness.proofs.links.Links.new.Goals as goal
