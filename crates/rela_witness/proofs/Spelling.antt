@@ -8,7 +8,7 @@ use Rattle.std.proofs.lemmas.Option.{none-some, same_Some}
 use Rattle.rela_names.specs.Shortlex.{IsSmaller, IsBefore, First}
 use Rattle.rela_nfa.specs.Automaton.{Automaton, IsFinal}
 use Rattle.rela_nfa.specs.Runs.{Step, HasStep, Follow, spelled, Accepts}
-use Rattle.rela_witness.specs.Finishing.{AcceptsFrom, AcceptsFromAny, Finishes, AreDistances, LeadsTo, Continues}
+use Rattle.rela_witness.specs.Finishing.{AcceptsFrom, Finishes, AreDistances, LeadsTo, Continues}
 use Rattle.rela_witness.specs.Labels.{IsLeast}
 use Rattle.rela_witness.specs.Numbered.{number_of, HasNumber, IsLayer, Grows, Spread, here, step, After, IsDone}
 use Rattle.rela_witness.proofs.Growing.{none_number, layer_grown, all_spread}
@@ -116,6 +116,10 @@ module _ (a : Automaton) (d : List (Option ℕ)) (are : AreDistances a d) where
                   none_smaller v first u (subst FirstLetter run.2 (first_letter run.0 s accepts.0 in_s run.1 accepts.2 (ap length run.2 ∙ whole))) whole smaller
             ];
       }
+
+-- the word leads from one of the states to some final state
+abbrev pub AcceptsFromAny : Automaton → List ℕ → List ℕ → Type 0
+AcceptsFromAny a states word = (p : ℕ) × Contains states p × AcceptsFrom a p word
 
 -- the layer has states of the distance `left` alone, and with the word before it the first word from there on is the first of all
 pub record Choosing (a : Automaton) (d : List (Option ℕ)) (word : List ℕ) (left : ℕ) (numbers : List (Option ℕ)) (layer : List ℕ) : Type 0 where

@@ -8,10 +8,6 @@ use Rattle.rela_witness.specs.Numbered.{number_of}
 abbrev pub AcceptsFrom : Automaton → ℕ → List ℕ → Type 0
 AcceptsFrom a p word = (q : ℕ) × ((steps : List Step) × Follow a p steps q × (spelled steps ≡ word)) × IsFinal a q
 
--- it leads from one of the states to some final state
-abbrev pub AcceptsFromAny : Automaton → List ℕ → List ℕ → Type 0
-AcceptsFromAny a states word = (p : ℕ) × Contains states p × AcceptsFrom a p word
-
 -- a word of n letters leads from p to some final state
 abbrev pub Finishes : Automaton → ℕ → ℕ → Type 0
 Finishes a p n = (word : List ℕ) × AcceptsFrom a p word × (length word ≡ n)

@@ -13,8 +13,7 @@ use std::alloc::{AllocError, Global};
 
 /// For each state the distance to the final ones: the least number of letters of a word that leads from
 /// it to one of them, or none where no word does. The search goes back from the final states in
-/// layers of equal distance. A silent edge stays in a layer and any other leads to the next, so each
-/// edge is looked at once.
+/// layers of equal distance: a silent edge stays in a layer and any other leads to the next.
 pub(crate) fn distances<L: LabelSet>(
     alloc: Global,
     a: &Nfa<L>,

@@ -16,7 +16,7 @@ use std::alloc::{AllocError, Global};
 
 /// The first word in shortlex order that the automaton accepts: of its shortest words the least,
 /// letter by letter. `None` where it accepts no word. Each edge is looked at a constant number of
-/// times.
+/// times, so the search is linear in the automaton. Want of memory is the only error.
 pub fn least_word<L: LabelSet>(alloc: Global, a: &Nfa<L>) -> Result<Option<Word>, AllocError>
     ensures found { IfOk result (λ found. IfSome found (First (Accepts a.now))) }
     ensures none { IfOk result (λ found. IfNone found ((word : List ℕ) → ¬ Accepts a.now word)) }
