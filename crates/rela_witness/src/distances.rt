@@ -2,7 +2,7 @@ ghost use Rattle.std.specs.Prelude.{◌≡◌, ℕ, IfOk, OnOk, [], Contains, le
 ghost use Rattle.rela_nfa.specs.Automaton.{states, IsFinal};
 ghost use Rattle.rela_witness.specs.Finishing.{AreDistances};
 ghost use Rattle.rela_witness.specs.Linked.{IsLinked};
-ghost use Rattle.rela_witness.specs.Numbered.{HasNumber, IsLayer, Grows, After, IsDone};
+ghost use Rattle.rela_witness.specs.Numbered.{HasNumber, Grows, After, IsDone};
 
 use crate::links::Links;
 use crate::numbers::{close, enter, enter_all};
