@@ -7,7 +7,7 @@ use Rattle.rela_nfa.specs.Automaton.{Automaton}
 use Rattle.rela_labels.specs.Letters.{has}
 use Rattle.rela_subset.specs.declared.arrival.Arrival.{Arrival}
 use Rattle.rela_subset.specs.Expansion.{Arrives}
-use Rattle.rela_subset.specs.Searching.{AreTraced, IsSearched, IsSpreadOver, arrivals_from}
+use Rattle.rela_subset.specs.Searching.{AreTraced, AreUnwanted, IsSearched, IsSpreadOver, arrivals_from}
 use Rattle.rela_subset.specs.Sets.{Lists, ReachedBy}
 use Rattle.rela_subset.proofs.Finding.{found_more, found_start, new_arrives, new_word, old_arrives, old_word, with_longer}
 
@@ -96,3 +96,8 @@ module _ (a : Automaton) (over : List Bool) (sets : List (List ℕ)) (arrivals :
               (to, subst (λ n. Arrives a new longer_words n k to) at (new_arrives a over sets is.words p is.found left new letters spread.2.grown k to comes))
         ];
       }
+
+  -- an old set is as it was
+  pub old_unwanted : (P : List ℕ → Type 0) → AreUnwanted P sets → (i : ℕ) → i < length sets → ¬ P (get_or new i [])
+  old_unwanted P unwanted i below has_it =
+      unwanted i below (subst P (ap (λ l. get_or l i []) spread.2.grown.appended ∙ get_or_append_left sets spread.2.grown.more [] i below) has_it)

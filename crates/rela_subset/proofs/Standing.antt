@@ -117,9 +117,8 @@ module _ (a : Automaton) (over : List Bool) (sets words : List (List ℕ)) (left
     is_first number first = record {
       member = (is.read number first.within, (get_or sets number [], is.reached number first.within, first.here));
       least = λ u wanted before.
-          let (read, set, lists, has_it) = let all : IsOver over u × LeadsInto a P u = wanted in (all.0, all.1.0, all.1.1, all.1.2) in
-          let (other, others, lacks) = before_first number first u read before in
-          lacks (subst P (same_lists (ReachedBy a u) (ReachedBy a u) set other lists others (λ q. (λ r. r, λ r. r))) has_it);
+          let (other, others, lacks) = before_first number first u wanted.0 before in
+          lacks (subst P (same_lists (ReachedBy a u) (ReachedBy a u) wanted.1.0 other wanted.1.1 others (λ q. (λ r. r, λ r. r))) wanted.1.2);
     }
 
     pub none_first : length sets ≤ left → AreUnwanted P sets → (v : List ℕ) → IsOver over v → Avoids v

@@ -1,5 +1,4 @@
-use Rattle.std.proofs.Common.{◌≡◌, ℕ, ◌≤◌, List, [], ◌++◌, length, get_or}
-use Rattle.std.specs.List.{reverse}
+use Rattle.std.proofs.Common.{◌≡◌, ℕ, ◌≤◌, List, [], ◌++◌, length, get_or, reverse}
 use Rattle.rela_subset.specs.Searching.{AreTraced}
 use Rattle.rela_subset.proofs.search.word_of.Given as goal
 
