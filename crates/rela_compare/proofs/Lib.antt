@@ -1,0 +1,5 @@
+pub mod AcceptedLetters
+pub mod Copies
+pub mod Differences
+pub mod Dropping
+pub mod Results
