@@ -10,5 +10,5 @@ pub returns : goal.returns
 returns g c = (
   λ never. absurd (false≢true never),
   λ (q, (i, below, at), final).
-      c.loop-state.invariant i (omega (arith, below, c.loop-state-test.false)) (q, sym (get_or_default c.args.set.now i 0 (c.args.from + q) below ∙ at), final),
+      absurd (c.loop-state.invariant i (omega (arith, below, c.loop-state-test.false)) (q, sym (get_or_default c.args.set.now i 0 (c.args.from + q) below ∙ at), final)),
 )
