@@ -176,6 +176,14 @@ module _ (a : Automaton) (over : List Bool) (sets words : List (List ℕ)) (p : 
     ]);
   }
 
+  -- a letter after those by which sets were found leads past the words of all sets
+  pub past_all : (k : ℕ) → All (λ found. found < k) letters → (j : ℕ) → j < length new → IsBefore (get_or words' j []) (get_or words' p [] ++ k ∷ [])
+  past_all k ahead j within = subst (λ w. IsBefore (get_or words' j []) (w ++ k ∷ [])) (sym (old_word p left)) (elim (which j within) [
+    | inl old ↦ subst (λ w. IsBefore w (here ++ k ∷ [])) (sym (old_word j old)) (old_before j k old)
+    | inr (m, below, at) ↦
+        subst (λ w. IsBefore w (here ++ k ∷ [])) (sym (new_word j m below at)) (before_last here (get_or letters m 0) k (ahead m 0 below))
+  ])
+
 module _ (a : Automaton) (over : List Bool) (sets words : List (List ℕ)) (p : ℕ) (is : AreFound a over sets words p) where
   -- the states of a set are states
   pub found_within : IsAutomaton a → (i : ℕ) → i < length sets → All (λ q. q < states a) (get_or sets i [])

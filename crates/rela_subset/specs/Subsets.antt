@@ -26,12 +26,16 @@ pub record ReachSets (a : Automaton) (over : List Bool) (n : ℕ) : Type 0 where
 abbrev pub LeadsInto : Automaton → (List ℕ → Type 0) → List ℕ → Type 0
 LeadsInto a P word = (set : List ℕ) × Lists (ReachedBy a word) set × P set
 
--- the same of a word over the letters
-abbrev pub IsOverAndLeadsInto : Automaton → List Bool → (List ℕ → Type 0) → List ℕ → Type 0
-IsOverAndLeadsInto a over P word = IsOver over word × LeadsInto a P word
+-- the word is over the letters, and the set of the states that it reaches is wanted
+abbrev pub IsWantedWord : Automaton → List Bool → (List ℕ → Type 0) → List ℕ → Type 0
+IsWantedWord a over wants word = IsOver over word × LeadsInto a wants word
 
--- words over the letters reach at least n sets of states, before a set with the property: each word that
--- comes before one of those words leads to a set without it
-pub record ReachSetsBefore (a : Automaton) (over : List Bool) (P : List ℕ → Type 0) (n : ℕ) : Type 0 where
+-- the word leads to a set that is not wanted
+abbrev pub IsUnwantedWord : Automaton → (List ℕ → Type 0) → List ℕ → Type 0
+IsUnwantedWord a wants word = LeadsInto a (λ set. ¬ wants set) word
+
+-- words over the letters reach at least n sets of states, and none of these words comes after a wanted one: each
+-- word over the letters that is before one of them leads to a set that is not wanted
+pub record ReachSetsBefore (a : Automaton) (over : List Bool) (wants : List ℕ → Type 0) (n : ℕ) : Type 0 where
   pub sets : ReachSets a over n
-  pub early : All (λ w. (v : List ℕ) → IsOver over v → IsBefore v w → LeadsInto a (λ set. ¬ P set) v) sets.words
+  pub early : All (λ w. (v : List ℕ) → IsOver over v → IsBefore v w → IsUnwantedWord a wants v) sets.words

@@ -1,11 +1,11 @@
 //! The first word that leads to a set of states with a property.
-ghost use Rattle.std.specs.Prelude.{◌≡◌, ℕ, ◌+◌, ◌^◌, ◌<◌, ◌≤◌, List, [], IfOk, IfErr, IfSome, IfNone, length, slice_index_or};
+ghost use Rattle.std.specs.Prelude.{◌≡◌, ℕ, ◌+◌, ◌^◌, ◌<◌, ◌≤◌, Bool, List, [], IfOk, IfErr, IfSome, IfNone, length, slice_index_or};
 ghost use Rattle.rela_names.specs.Shortlex.{First, IsBefore};
 ghost use Rattle.rela_nfa.specs.Automaton.{IsAutomaton};
 ghost use Rattle.rela_subset.specs.Deterministic.{IsOver};
 ghost use Rattle.rela_subset.specs.Searching.{AreTraced, AreUnwanted, IsFirstAt, IsSearched};
 ghost use Rattle.rela_subset.specs.declared.arrival.Arrival.{Arrival};
-ghost use Rattle.rela_subset.specs.Subsets.{IsOverAndLeadsInto, LeadsInto, ReachSetsBefore};
+ghost use Rattle.rela_subset.specs.Subsets.{IsUnwantedWord, IsWantedWord, ReachSetsBefore};
 
 use crate::arrival::Arrival;
 use crate::closure::closure;
@@ -36,10 +36,10 @@ pub fn first_word<L: LabelSet, W: Wanted>(
 ) -> Result<Option<Word>, BuildError>
     requires letters { length (L.letters over.now) ≡ a.now.letters }
     requires limit { 1 ≤ limit }
-    ensures first { IfOk result (λ found. IfSome found (First (IsOverAndLeadsInto a.now (L.letters over.now) (W.wants wanted.now)))) }
+    ensures first { IfOk result (λ found. IfSome found (First (IsWantedWord a.now (L.letters over.now) (W.wants wanted.now)))) }
     ensures before { IfOk result (λ found. IfSome found (λ word. (v : List ℕ) → IsOver (L.letters over.now) v → IsBefore v word
-        → LeadsInto a.now (λ set. ¬ W.wants wanted.now set) v)) }
-    ensures none { IfOk result (λ found. IfNone found ((v : List ℕ) → IsOver (L.letters over.now) v → LeadsInto a.now (λ set. ¬ W.wants wanted.now set) v)) }
+        → IsUnwantedWord a.now (W.wants wanted.now) v)) }
+    ensures none { IfOk result (λ found. IfNone found ((v : List ℕ) → IsOver (L.letters over.now) v → IsUnwantedWord a.now (W.wants wanted.now) v)) }
     ensures limit { IfErr result (λ e. e ≡ BuildError.Limit → ReachSetsBefore a.now (L.letters over.now) (W.wants wanted.now) (limit + 1)) }
     ensures bounded { IfErr result (λ e. e ≡ BuildError.Limit → limit < 2 ^ 63) }
 {
@@ -70,11 +70,11 @@ fn search<L: LabelSet, W: Wanted>(
     requires automaton { IsAutomaton a.now }
     requires letters { length (L.letters over.now) ≡ a.now.letters }
     requires few { length sets.old ≤ limit }
-    requires searched { IsSearched a.now (L.letters over.now) sets.old arrivals.old.items 0 }
+    requires searched { IsSearched a.now (L.letters over.now) [] sets.old arrivals.old.items 0 }
     ensures found { IfOk result (λ found. IfSome found (λ number. IsFirstAt (W.wants wanted.now) sets.new number
-        × ((left : ℕ) × IsSearched a.now (L.letters over.now) sets.new arrivals.new.items left))) }
+        × ((left : ℕ) × (rest : List Bool) × IsSearched a.now (L.letters over.now) rest sets.new arrivals.new.items left))) }
     ensures none { IfOk result (λ found. IfNone found (AreUnwanted (W.wants wanted.now) sets.new
-        × IsSearched a.now (L.letters over.now) sets.new arrivals.new.items (length sets.new))) }
+        × IsSearched a.now (L.letters over.now) [] sets.new arrivals.new.items (length sets.new))) }
     ensures limit { IfErr result (λ e. e ≡ BuildError.Limit → ReachSetsBefore a.now (L.letters over.now) (W.wants wanted.now) (limit + 1)) }
     ensures bounded { IfErr result (λ e. e ≡ BuildError.Limit → limit < 2 ^ 63) }
 {
@@ -84,7 +84,7 @@ fn search<L: LabelSet, W: Wanted>(
     let mut number = 0;
     while number < sets.len() {
         let known = sets.len();
-        spread(alloc, a, over, sets, arrivals, number)?;
+        spread(alloc, a, over, sets, arrivals, number, limit)?;
         if let Some(found) = first_wanted(wanted, sets, known) {
             return Ok(Some(found));
         }

@@ -2,7 +2,7 @@
 ghost use Rattle.std.specs.Prelude.{◌≡◌, ◌≢◌, ℕ, ◌<◌, ◌++◌, List, [], IfOk, IfErr, length, slice_index_or};
 ghost use Rattle.std.specs.List.{All};
 ghost use Rattle.rela_nfa.specs.Automaton.{IsAutomaton, states};
-ghost use Rattle.rela_subset.specs.Searching.{HasArrived, IsSpreadOver, arrivals_from};
+ghost use Rattle.rela_subset.specs.Searching.{HasArrived, IsSpreadUpTo, arrivals_from};
 
 use crate::alike::alike;
 use crate::arrival::Arrival;
@@ -14,7 +14,8 @@ use std::alloc::Global;
 
 /// Numbers the sets that follow the set by a letter of `over`, and puts how each new one was found
 /// behind the arrivals. The letters are split by the labels of the edges out of the states of the
-/// set, and taken in blocks, that of the least letter first. Memory is the only error.
+/// set, and taken in blocks, that of the least letter first, until there are more sets than the
+/// limit. Memory is the only error.
 pub(crate) fn spread<L: LabelSet>(
     alloc: Global,
     a: &Nfa<L>,
@@ -22,18 +23,22 @@ pub(crate) fn spread<L: LabelSet>(
     sets: &mut StateSets,
     arrivals: &mut Vec<Arrival>,
     number: usize,
+    limit: usize,
 ) -> Result<(), BuildError>
     requires automaton { IsAutomaton a.now }
     requires number { number < length sets.old }
     requires states { All (λ q. q < states a.now) (slice_index_or sets.old number []) }
     requires letters { length (L.letters over.now) ≡ a.now.letters }
     ensures spread { IfOk result (λ _. (letters : List ℕ) × (arrivals.new.items ≡ arrivals.old.items ++ arrivals_from number letters)
-        × IsSpreadOver a.now (L.letters over.now) (slice_index_or sets.old number []) sets.old sets.new letters) }
+        × IsSpreadUpTo limit a.now (L.letters over.now) (slice_index_or sets.old number []) sets.old sets.new letters) }
     ensures memory { IfErr result (λ e. e ≢ BuildError.Limit) }
 {
     let set = Vec::from_slice(alloc, sets.get(number))?;
     let mut rest = over.copy(alloc)?;
     while let Some(letter) = rest.least() {
+        if sets.len() > limit {
+            return Ok(());
+        }
         let block = alike(alloc, a, &set, &rest, letter)?;
         rest = rest.minus(alloc, &block)?;
         let next = following(alloc, a, &set, letter)?;
