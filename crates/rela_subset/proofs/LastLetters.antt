@@ -1,5 +1,5 @@
 -- Words that get a last letter, in shortlex order.
-use Rattle.std.proofs.Common.{◌≡◌, ℕ, ◌<◌, ◌⊎◌, List, [], ◌∷◌, ◌++◌, length, refl, sym, ap, ◌∙◌, subst, inl, inr, arith}
+use Rattle.std.proofs.Common.{◌≡◌, ℕ, ◌<◌, List, [], ◌∷◌, ◌++◌, length, refl, sym, ap, ◌∙◌, subst, inl, inr, arith}
 use Rattle.std.proofs.lemmas.List.{length_push}
 use Rattle.rela_names.specs.Shortlex.{IsBefore, IsSmaller}
 use Rattle.rela_names.proofs.ShortlexLaws.{before_transitive}

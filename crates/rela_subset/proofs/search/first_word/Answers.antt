@@ -1,6 +1,6 @@
-use Rattle.std.proofs.Common.{◌≡◌, [], get_or, length, refl, subst, sym, arith}
+use Rattle.std.proofs.Common.{[], length, refl, subst, sym, arith}
 use Rattle.rela_names.specs.Shortlex.{First, IsBefore}
-use Rattle.rela_subset.specs.Searching.{AreTraced, AreUnwanted, IsFirstAt, IsSearched}
+use Rattle.rela_subset.specs.Searching.{AreTraced}
 use Rattle.rela_subset.specs.Subsets.{IsWantedWord}
 use Rattle.rela_subset.proofs.Determined.{first_alone}
 use Rattle.rela_subset.proofs.Reached.{reached_start}
