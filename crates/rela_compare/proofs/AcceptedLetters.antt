@@ -8,7 +8,7 @@ use Rattle.std.proofs.lemmas.List.Elements.{All-cons, All-contains, All-get_or, 
 use Rattle.rela_labels.specs.Letters.{has}
 use Rattle.rela_nfa.specs.Automaton.{Automaton, IsAutomaton, IsMove, Move, moves_of, states}
 use Rattle.rela_nfa.specs.Runs.{Accepts, Follow, HasStep, Step, spelled}
-use Rattle.rela_nfa.proofs.Moves.{Contains-nil}
+use Rattle.rela_compare.proofs.Members.{Contains-nil}
 
 -- a letter of a set is below its size
 pub below_size : (set : List Bool) (k : ℕ) → has set k ≡ true → k < length set

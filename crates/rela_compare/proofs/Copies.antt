@@ -6,13 +6,12 @@ use Rattle.std.proofs.lemmas.Bool.{cases_Bool, cases_lt, false≢true}
 use Rattle.std.proofs.lemmas.List.{get_or_past}
 use Rattle.rela_nfa.specs.Automaton.{Automaton, IsFinal, states}
 use Rattle.rela_nfa.specs.Runs.{Accepts, Reach}
-use Rattle.rela_nfa.proofs.Moves.{Contains-cons_cases, Contains-nil}
 use Rattle.rela_subset.specs.Sets.{Lists, ReachedBy}
 use Rattle.rela_subset.specs.Subsets.{AreApart}
-use Rattle.rela_subset.proofs.Targets.{Contains-head, Contains-tail}
 use Rattle.rela_compare.specs.Halves.{AreCopied, HasFinalFrom, IsAgreed, IsSought}
 use Rattle.rela_compare.specs.declared.sought.Sought.{Sought}
 use Rattle.rela_compare.specs.declared.sought.Sought.TheVariants.{FirstAlone, EitherAlone}
+use Rattle.rela_compare.proofs.Members.{Contains-cons_cases, Contains-head, Contains-nil, Contains-tail}
 
 -- a final state is a state
 pub final_within : (a : Automaton) (q : ℕ) → IsFinal a q → q < states a

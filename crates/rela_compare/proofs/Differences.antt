@@ -8,7 +8,7 @@ use Rattle.rela_nfa.specs.Automaton.{Automaton, IsAutomaton, states}
 use Rattle.rela_nfa.specs.Runs.{Accepts}
 use Rattle.rela_subset.specs.Deterministic.{IsOver}
 use Rattle.rela_subset.specs.Sets.{Lists, ReachedBy}
-use Rattle.rela_subset.specs.Subsets.{AreApart, IsOverAndLeadsInto, LeadsInto, ReachSetsBefore}
+use Rattle.rela_subset.specs.Subsets.{AreApart, IsUnwantedWord, IsWantedWord, ReachSetsBefore}
 use Rattle.rela_compare.specs.Comparison.{ReachPairsBefore}
 use Rattle.rela_compare.specs.Halves.{AreCopied, Differs, HasFinalFrom, IsAgreed, IsSought}
 use Rattle.rela_compare.specs.declared.sought.Sought.{Sought}
@@ -35,9 +35,6 @@ module _ (sought : Sought) (a b u : Automaton) (over : List Bool) (split : ℕ) 
   abbrev Wants : List ℕ → Type 0
   Wants set = IsSought sought (HasFinalFrom a 1 set) (HasFinalFrom b split set)
 
-  abbrev Avoids : List ℕ → Type 0
-  Avoids word = LeadsInto u (λ set. ¬ Wants set) word
-
   second_from_split : (word set : List ℕ) → Lists (ReachedBy u word) set → HasFinalFrom b split set ↔ Accepts b word
   second_from_split word set lists = subst (λ n. HasFinalFrom b n set ↔ Accepts b word) (sym joined.split_at) (second_accepts a b u joined.copied word set lists)
 
@@ -63,7 +60,7 @@ module _ (sought : Sought) (a b u : Automaton) (over : List Bool) (split : ℕ) 
   differs_over : (word : List ℕ) → Differs sought a b word → IsOver over word
   differs_over word differs = over_all word (one_of_them sought (Accepts a word) (Accepts b word) differs)
 
-  pub first_differs : (word : List ℕ) → First (IsOverAndLeadsInto u over Wants) word → ((v : List ℕ) → IsOver over v → IsBefore v word → Avoids v) → First (Differs sought a b) word
+  pub first_differs : (word : List ℕ) → First (IsWantedWord u over Wants) word → ((v : List ℕ) → IsOver over v → IsBefore v word → IsUnwantedWord u Wants v) → First (Differs sought a b) word
   first_differs word first before = record {
     member = let (read, (set, lists, wanted)) = first.member in only_if_wanted word set lists wanted;
     least = λ x differs earlier.
@@ -71,7 +68,7 @@ module _ (sought : Sought) (a b u : Automaton) (over : List Bool) (split : ℕ) 
         unwanted (wanted_if x set lists differs);
   }
 
-  pub none_differs : ((v : List ℕ) → IsOver over v → Avoids v) → (word : List ℕ) → IsAgreed sought (Accepts a word) (Accepts b word)
+  pub none_differs : ((v : List ℕ) → IsOver over v → IsUnwantedWord u Wants v) → (word : List ℕ) → IsAgreed sought (Accepts a word) (Accepts b word)
   none_differs none word = agreed_if sought (Accepts a word) (Accepts b word) (λ either.
       let (set, lists, unwanted) = none word (over_all word either) in
       record {

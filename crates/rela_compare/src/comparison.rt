@@ -1,4 +1,4 @@
-ghost use Rattle.std.specs.Prelude.{◌≡◌, ℕ, ◌+◌, ◌^◌, ◌<◌, ◌≤◌, ◌↔◌, List, IfOk, IfErr};
+ghost use Rattle.std.specs.Prelude.{◌≡◌, ℕ, ◌+◌, ◌^◌, ◌<◌, ◌↔◌, List, IfOk, IfErr};
 ghost use Rattle.rela_names.specs.Shortlex.{First};
 ghost use Rattle.rela_nfa.specs.Runs.{Accepts};
 ghost use Rattle.rela_compare.specs.Comparison.{IfDiffer, IsInFirstAlone, IsInOneAlone, IsOnSide, ReachPairsBefore};
@@ -26,8 +26,7 @@ pub fn equal<L: LabelSet>(
     b: &Nfa<L>,
     limit: usize,
 ) -> Result<Verdict, BuildError>
-    requires letters { a.now.letters ≡ b.now.letters }
-    requires limit { 1 ≤ limit }
+    requires { a.now.letters ≡ b.now.letters }
     ensures same { IfOk result (λ verdict. (verdict ≡ Verdict.Same) ↔ ((word : List ℕ) → Accepts a.now word ↔ Accepts b.now word)) }
     ensures first { IfOk result (λ verdict. IfDiffer verdict (λ word side. First (IsInOneAlone a.now b.now) word)) }
     ensures side { IfOk result (λ verdict. IfDiffer verdict (λ word side. IsOnSide a.now b.now word side)) }
@@ -52,8 +51,7 @@ pub fn included<L: LabelSet>(
     b: &Nfa<L>,
     limit: usize,
 ) -> Result<Verdict, BuildError>
-    requires letters { a.now.letters ≡ b.now.letters }
-    requires limit { 1 ≤ limit }
+    requires { a.now.letters ≡ b.now.letters }
     ensures same { IfOk result (λ verdict. (verdict ≡ Verdict.Same) ↔ ((word : List ℕ) → Accepts a.now word → Accepts b.now word)) }
     ensures first { IfOk result (λ verdict. IfDiffer verdict (λ word side. First (IsInFirstAlone a.now b.now) word)) }
     ensures side { IfOk result (λ verdict. IfDiffer verdict (λ word side. side ≡ Which.First)) }

@@ -1,4 +1,4 @@
-ghost use Rattle.std.specs.Prelude.{◌≡◌, ℕ, ◌+◌, ◌^◌, ◌<◌, ◌≤◌, List, IfOk, IfErr, IfSome, IfNone};
+ghost use Rattle.std.specs.Prelude.{◌≡◌, ℕ, ◌+◌, ◌^◌, ◌<◌, List, IfOk, IfErr, IfSome, IfNone};
 ghost use Rattle.rela_names.specs.Shortlex.{First};
 ghost use Rattle.rela_nfa.specs.Runs.{Accepts};
 ghost use Rattle.rela_compare.specs.Comparison.{ReachPairsBefore};
@@ -21,8 +21,7 @@ pub(crate) fn first_difference<L: LabelSet>(
     sought: Sought,
     limit: usize,
 ) -> Result<Option<Word>, BuildError>
-    requires letters { a.now.letters ≡ b.now.letters }
-    requires limit { 1 ≤ limit }
+    requires { a.now.letters ≡ b.now.letters }
     ensures first { IfOk result (λ found. IfSome found (First (Differs sought a.now b.now))) }
     ensures none { IfOk result (λ found. IfNone found ((word : List ℕ) → IsAgreed sought (Accepts a.now word) (Accepts b.now word))) }
     ensures limit { IfErr result (λ e. e ≡ BuildError.Limit → ReachPairsBefore a.now b.now (Differs sought a.now b.now) (limit + 1)) }

@@ -1,7 +1,7 @@
 //! The words that are looked for, told by the states of a union that they reach.
 ghost use Rattle.std.specs.Prelude.{◌≡◌, ℕ, ◌+◌, ◌↔◌, IsTrue};
 ghost use Rattle.rela_nfa.specs.Automaton.{IsFinal};
-ghost use Rattle.rela_compare.specs.Halves.{HasFinalFrom, IsSought as is_looked_for};
+ghost use Rattle.rela_compare.specs.Halves.{HasFinalFrom, IsSought};
 
 use rela_labels::LabelSet;
 use rela_nfa::Nfa;
@@ -27,8 +27,6 @@ pub(crate) struct SoughtSets<'a, L: LabelSet> {
 }
 
 impl<'a, L: LabelSet> Wanted for SoughtSets<'a, L> {
-    ghost use Rattle.rela_compare.specs.Halves.{HasFinalFrom, IsSought};
-
     ghost wants = { λ sets set. IsSought sets.sought (HasFinalFrom sets.first.now 1 set) (HasFinalFrom sets.second.now sets.split set) };
 
     fn is_wanted(&self, set: &[usize]) -> bool {
@@ -40,7 +38,7 @@ impl<'a, L: LabelSet> Wanted for SoughtSets<'a, L> {
 
 /// Whether a word is sought that these of the two automata accept.
 fn is_sought(sought: Sought, in_first: bool, in_second: bool) -> bool
-    ensures { IsTrue result ↔ is_looked_for sought (IsTrue in_first) (IsTrue in_second) }
+    ensures { IsTrue result ↔ IsSought sought (IsTrue in_first) (IsTrue in_second) }
 {
     match sought {
         Sought::FirstAlone => in_first && !in_second,

@@ -12,9 +12,9 @@ pub enum Which {
 /// What a comparison of two automata tells.
 #[derive(Debug, Drop)]
 pub enum Verdict {
-    /// No word was found that one of them alone accepts.
+    /// No word tells them apart.
     Same,
-    /// One of them alone accepts a word.
+    /// A word tells them apart.
     Differ {
         /// The first such word, in shortlex order.
         word: Word,

@@ -5,7 +5,7 @@ use Rattle.rela_names.specs.Shortlex.{First, IsBefore}
 use Rattle.rela_nfa.specs.Runs.{Accepts}
 use Rattle.rela_nfa.specs.declared.BuildError.{BuildError}
 use Rattle.rela_subset.specs.Deterministic.{IsOver}
-use Rattle.rela_subset.specs.Subsets.{IsOverAndLeadsInto, LeadsInto, ReachSetsBefore}
+use Rattle.rela_subset.specs.Subsets.{IsUnwantedWord, IsWantedWord, ReachSetsBefore}
 use Rattle.rela_compare.specs.Comparison.{ReachPairsBefore}
 use Rattle.rela_compare.specs.Halves.{Differs, HasFinalFrom, IsAgreed, IsSought}
 use Rattle.rela_compare.proofs.Differences.{AreJoined, first_differs, none_differs, pairs_before}
@@ -29,7 +29,7 @@ module _ (g : Rattle.rela_compare.proofs.difference.first_difference.Given.Over)
     };
     first_ok = c.letters.ensures.automaton;
     second_ok = c.states-2.ensures.automaton;
-    same = c.requires.letters;
+    same = c.requires;
     size = c.in_ok-over.ensures.size ∙ c.letters.ensures.letters;
     all = λ k below. c.in_ok-over.ensures.all k (omega (arith, below, c.letters.ensures.letters));
     split_at = omega (arith, c.states.ensures.states, c.states-2.ensures.states, c.in_ok-both.ensures.states);
@@ -38,20 +38,17 @@ module _ (g : Rattle.rela_compare.proofs.difference.first_difference.Given.Over)
   abbrev wants : List ℕ → Type 0
   wants set = IsSought c.args.sought (HasFinalFrom c.args.a.now 1 set) (HasFinalFrom c.args.b.now split set)
 
-  abbrev avoids : List ℕ → Type 0
-  avoids word = LeadsInto c.in_ok-both.both (λ set. ¬ wants set) word
-
 pub returns-clause-first : goal.returns-clause-first
 returns-clause-first g c =
-    both_some c.first_word.result (First (IsOverAndLeadsInto c.in_ok-both.both (over g c) (wants g c)))
-    (λ word. (v : List ℕ) → IsOver (over g c) v → IsBefore v word → avoids g c v) (First (Differs c.args.sought c.args.a.now c.args.b.now))
+    both_some c.first_word.result (First (IsWantedWord c.in_ok-both.both (over g c) (wants g c)))
+    (λ word. (v : List ℕ) → IsOver (over g c) v → IsBefore v word → IsUnwantedWord c.in_ok-both.both (wants g c) v) (First (Differs c.args.sought c.args.a.now c.args.b.now))
     (first_differs c.args.sought c.args.a.now c.args.b.now c.in_ok-both.both (over g c) (split g c) (joined g c)) c.first_word.ensures.first c.first_word.ensures.before
 
 pub returns-clause-none : goal.returns-clause-none
 returns-clause-none g c =
-    IfOk-weaker c.first_word.result (λ found. IfNone found ((v : List ℕ) → IsOver (over g c) v → avoids g c v))
+    IfOk-weaker c.first_word.result (λ found. IfNone found ((v : List ℕ) → IsOver (over g c) v → IsUnwantedWord c.in_ok-both.both (wants g c) v))
     (λ found. IfNone found ((word : List ℕ) → IsAgreed c.args.sought (Accepts c.args.a.now word) (Accepts c.args.b.now word)))
-    (λ found. none_along found ((v : List ℕ) → IsOver (over g c) v → avoids g c v) ((word : List ℕ) → IsAgreed c.args.sought (Accepts c.args.a.now word) (Accepts c.args.b.now word))
+    (λ found. none_along found ((v : List ℕ) → IsOver (over g c) v → IsUnwantedWord c.in_ok-both.both (wants g c) v) ((word : List ℕ) → IsAgreed c.args.sought (Accepts c.args.a.now word) (Accepts c.args.b.now word))
     (none_differs c.args.sought c.args.a.now c.args.b.now c.in_ok-both.both (over g c) (split g c) (joined g c))) c.first_word.ensures.none
 
 pub returns-clause-limit : goal.returns-clause-limit
