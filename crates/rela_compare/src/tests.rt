@@ -27,7 +27,7 @@ fn zero_before(alloc: Global, places: u32) -> Result<Table, AllocError>
 {
     let any = class(alloc, &[0, 1, 2])?;
     let mut words = any.star(alloc)?.concat(alloc, &class(alloc, &[0])?)?;
-    for _ in 0..places {
+    'places: for _ in 0..places {
         words = words.concat(alloc, &any)?;
     }
     Ok(words)
