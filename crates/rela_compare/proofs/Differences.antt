@@ -1,6 +1,6 @@
 -- What a search through the sets of states of a union says of the two automata.
 use Rattle.std.proofs.Common.{◌≡◌, ℕ, ◌+◌, ◌<◌, ◌⊎◌, ◌↔◌, Bool, true, List, [], length, get_or, sym, subst, inl, inr, arith}
-use Rattle.std.specs.List.{All, AllPairs}
+use Rattle.std.specs.List.{All}
 use Rattle.std.proofs.lemmas.List.Elements.{All-from_get_or, All-weaker}
 use Rattle.rela_labels.specs.Letters.{has}
 use Rattle.rela_names.specs.Shortlex.{First, IsBefore}

@@ -1,5 +1,5 @@
 -- The members of a list.
-use Rattle.std.proofs.Common.{◌≡◌, ℕ, zero, suc, ◌⊎◌, List, [], ◌∷◌, refl, inl, inr, arith}
+use Rattle.std.proofs.Common.{◌≡◌, zero, suc, ◌⊎◌, List, [], ◌∷◌, refl, inl, inr, arith}
 use Rattle.std.specs.List.{Contains}
 
 pub Contains-nil : {X : Type 0} (x : X) → ¬ Contains [] x

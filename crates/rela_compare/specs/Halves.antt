@@ -1,6 +1,6 @@
 -- The sets of states of the union of two automata, in which the states of the first and then those of the second have copies.
 use Rattle.std.specs.Prelude.{◌≡◌, ℕ, ◌+◌, ◌<◌, ◌⊎◌, ◌↔◌, List, [], Contains}
-use Rattle.rela_nfa.specs.Automaton.{Automaton, IsAutomaton, IsFinal, states}
+use Rattle.rela_nfa.specs.Automaton.{Automaton, IsFinal, states}
 use Rattle.rela_nfa.specs.Runs.{Accepts, Reach}
 use Rattle.rela_compare.specs.declared.sought.Sought.{Sought}
 use Rattle.rela_compare.specs.declared.sought.Sought.TheVariants.{FirstAlone, EitherAlone}
