@@ -1,9 +1,9 @@
 -- What the automaton of a graph's walks reaches and accepts.
-use Rattle.std.proofs.Common.{◌≡◌, ◌≢◌, ℕ, zero, suc, ◌+◌, ◌<◌, ◌≤◌, ◌⊎◌, ◌↔◌, Result, Ok, Err, Bool, true, false, List, [], ◌∷◌, ◌++◌, length, get_or, map, Option, None, Some, refl, sym, ap, ◌∙◌, subst, inl, inr, arith, length-append}
+use Rattle.std.proofs.Common.{◌≡◌, ◌≢◌, ℕ, zero, suc, ◌+◌, ◌<◌, ◌⊎◌, ◌↔◌, Result, Ok, Err, Bool, true, false, List, [], ◌∷◌, ◌++◌, length, get_or, Option, None, Some, refl, sym, ap, ◌∙◌, subst, inl, inr, arith, length-append}
 use Rattle.std.specs.List.{All}
 use Rattle.std.specs.Option.{option_to_list}
 use Rattle.std.specs.Result.{IfOk}
-use Rattle.std.proofs.lemmas.Bool.{cases_lt, cases_eq, eq-eqb, ne_eqb, both_ways}
+use Rattle.std.proofs.lemmas.Bool.{cases_eq, eq-eqb, ne_eqb}
 use Rattle.std.proofs.lemmas.List.{append-nil, map_push, get_or_append_left, get_or_at}
 use Rattle.std.proofs.lemmas.List.Elements.{All-nil, All-cons, All-push}
 use Rattle.rela_names.specs.declared.level.Level.{Level}
@@ -16,9 +16,9 @@ use Rattle.rela_nfa.proofs.Parts.{get_or_last}
 use Rattle.rela_nfa.proofs.Reaching.{reach_start, reach_step, reach_silent, reach_each}
 use Rattle.rela_graph.specs.Alone.{StandsAlone}
 use Rattle.rela_graph.specs.Lettering.{letter_at, read_between}
-use Rattle.rela_graph.specs.Paths.{Paths, Undelivered, Arrives, IsEnding, base, locations}
+use Rattle.rela_graph.specs.Paths.{Paths, Undelivered, Arrives, base, locations}
 use Rattle.rela_graph.specs.Topology.{Topology, IsTopology, HasEdge, IsStart, IsDelivered}
-use Rattle.rela_graph.specs.Unrolled.{Begins, GoesOn, IsUnrolled, IsReader}
+use Rattle.rela_graph.specs.Unrolled.{IsUnrolled, IsReader}
 use Rattle.rela_graph.specs.Walk.{IsWalk, IsCyclic, IsDropNode}
 use Rattle.rela_graph.specs.declared.letters.Letters.{Letters}
 use Rattle.rela_graph.proofs.Arriving.{base_same, base_other, arrive_same, arrive_other}

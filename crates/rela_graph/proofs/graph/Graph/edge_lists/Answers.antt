@@ -1,4 +1,4 @@
-use Rattle.std.proofs.Common.{false, [], ◌∷◌, ◌++◌, map, length, ap, subst, sym, get_or, ◌∙◌, arith, ◌≡◌, ◌↔◌, IsTrue}
+use Rattle.std.proofs.Common.{false, map, length, ap, subst, sym, get_or, ◌∙◌, arith, ◌≡◌, ◌↔◌, IsTrue}
 use Rattle.std.proofs.lemmas.List.{get_or_default}
 use Rattle.rela_nfa.specs.Stored.{move_of, moves_in}
 use Rattle.rela_graph.specs.Walk.{IsCyclic}

@@ -1,4 +1,4 @@
-use Rattle.std.proofs.Common.{◌≡◌, ℕ, ◌+◌, ◌<◌, ◌↔◌, false, true, List, [], ◌∷◌, ◌++◌, length, ap, subst, sym, ◌∙◌, refl, arith}
+use Rattle.std.proofs.Common.{◌≡◌, ◌+◌, length, ◌∙◌, refl, arith}
 use Rattle.std.specs.Result.{IfOk}
 use Rattle.std.proofs.lemmas.Result.{IfOk-weaker}
 use Rattle.rela_labels.specs.Partition.{block_count}
@@ -9,7 +9,6 @@ use Rattle.rela_graph.specs.Unrolled.{IsReader}
 use Rattle.rela_graph.proofs.Blocked.{location_alone, location_within, letter_is}
 use Rattle.rela_graph.proofs.Reading.{IsLettered, read_result, read_begin, read_nodes, read_end, read_language}
 use Rattle.rela_graph.proofs.Unrolling.{reader_ok, reader_states}
-use Rattle.rela_graph.proofs.graph.Graph.to_nfa.Given.{Over}
 use Rattle.rela_graph.proofs.graph.Graph.to_nfa.Goals as goal
 
 pub from_parts-requires-clause-automaton : goal.from_parts-requires-clause-automaton
