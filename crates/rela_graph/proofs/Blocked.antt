@@ -1,12 +1,11 @@
 -- Words of symbols that are told by their blocks.
-use Rattle.std.proofs.Common.{◌≡◌, ℕ, ◌<◌, ◌≤◌, List, [], ◌∷◌, length, get_or, map, refl, sym, ap, ◌∙◌, subst, arith}
+use Rattle.std.proofs.Common.{◌≡◌, ℕ, ◌<◌, List, [], ◌∷◌, length, get_or, map, refl, sym, ap, ◌∙◌, subst, arith}
 use Rattle.std.specs.List.{All}
 use Rattle.std.proofs.lemmas.List.{get_or-map}
-use Rattle.std.proofs.lemmas.List.Elements.{All-head, All-tail, All-map}
+use Rattle.std.proofs.lemmas.List.Elements.{All-head, All-tail}
 use Rattle.rela_names.specs.declared.level.Level.{Level}
-use Rattle.rela_labels.specs.Partition.{block_of, block_count}
+use Rattle.rela_labels.specs.Partition.{block_of}
 use Rattle.rela_nfa.specs.Relabelling.{blocks_of}
-use Rattle.rela_nfa.proofs.Relabelled.{block_below}
 use Rattle.rela_graph.specs.Alone.{StandsAlone}
 use Rattle.rela_graph.specs.Paths.{locations}
 use Rattle.rela_graph.specs.Topology.{Topology, symbol_at}
@@ -24,27 +23,22 @@ same_word blocks (s ∷ u) (t ∷ v) alone within same =
     let others : u ≡ v = same_word blocks u v (All-tail (StandsAlone blocks) s u alone) (All-tail (λ s. s < length blocks) t v within) rest in
     cc
 
--- where each node's location has a block of its own
-module _ (g : Topology) (level : Level) (blocks : List ℕ) where
+-- the locations of nodes
+module _ (g : Topology) (level : Level) where
   abbrev nowhere : Node
   nowhere = record { interface = 0; device = 0; group = 0 }
 
   location_is : (n : ℕ) → n < length g.nodes → get_or (locations g level) n 0 ≡ symbol_at level (get_or g.nodes n nowhere)
   location_is n within = get_or-map (symbol_at level) g.nodes n nowhere 0 within
 
-  pub location_alone : All (λ node. StandsAlone blocks (symbol_at level node)) g.nodes → (n : ℕ) → n < length g.nodes → StandsAlone blocks (get_or (locations g level) n 0)
-  location_alone alone n within = subst (StandsAlone blocks) (sym (location_is n within)) (alone n nowhere within)
+  pub location_alone : (blocks : List ℕ) → All (λ node. StandsAlone blocks (symbol_at level node)) g.nodes → (n : ℕ) → n < length g.nodes → StandsAlone blocks (get_or (locations g level) n 0)
+  location_alone blocks alone n within = subst (StandsAlone blocks) (sym (location_is n within)) (alone n nowhere within)
 
-  pub location_within : (size : ℕ) → size ≤ length blocks → All (λ node. symbol_at level node < size) g.nodes → (n : ℕ) → n < length g.nodes
-      → get_or (locations g level) n 0 < length blocks
-  location_within size fits placed n within = omega (arith, placed n nowhere within, location_is n within)
+  pub location_below : (size : ℕ) → All (λ node. symbol_at level node < size) g.nodes → (n : ℕ) → n < length g.nodes → get_or (locations g level) n 0 < size
+  location_below size placed n within = omega (arith, placed n nowhere within, location_is n within)
 
-  pub letter_is : (labels : List ℕ) → labels ≡ map (λ node. block_of blocks (symbol_at level node)) g.nodes → (n : ℕ) → n < length g.nodes
+  pub letter_is : (blocks labels : List ℕ) → labels ≡ map (λ node. block_of blocks (symbol_at level node)) g.nodes → (n : ℕ) → n < length g.nodes
       → get_or labels n 0 ≡ block_of blocks (get_or (locations g level) n 0)
-  letter_is labels is n within =
+  letter_is blocks labels is n within =
       ap (λ l. get_or l n 0) is ∙ get_or-map (λ node. block_of blocks (symbol_at level node)) g.nodes n nowhere 0 within
       ∙ ap (block_of blocks) (sym (location_is n within))
-
-  pub letters_below : All (λ node. symbol_at level node < length blocks) g.nodes → All (λ k. k < block_count blocks) (map (λ node. block_of blocks (symbol_at level node)) g.nodes)
-  letters_below placed =
-      All-map (λ k. k < block_count blocks) (λ node. block_of blocks (symbol_at level node)) g.nodes (λ k d within. block_below blocks _ (placed k d within))

@@ -15,3 +15,4 @@ pub mod Lettered
 pub mod Unrolling
 pub mod Blocked
 pub mod Reading
+pub mod PathWords

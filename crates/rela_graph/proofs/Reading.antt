@@ -18,12 +18,13 @@ use Rattle.rela_graph.specs.Alone.{StandsAlone}
 use Rattle.rela_graph.specs.Lettering.{letter_at, read_between}
 use Rattle.rela_graph.specs.Paths.{Paths, Undelivered, Arrives, base, locations}
 use Rattle.rela_graph.specs.Topology.{Topology, IsTopology, HasEdge, IsStart, IsDelivered}
-use Rattle.rela_graph.specs.Unrolled.{IsUnrolled, IsReader}
+use Rattle.rela_graph.specs.Unrolled.{IsUnrolled}
 use Rattle.rela_graph.specs.Walk.{IsWalk, IsCyclic, IsDropNode}
 use Rattle.rela_graph.specs.declared.letters.Letters.{Letters}
 use Rattle.rela_graph.proofs.Arriving.{base_same, base_other, arrive_same, arrive_other}
 use Rattle.rela_graph.proofs.Blocked.{same_word}
 use Rattle.rela_graph.proofs.Flagged.{flag_within}
+use Rattle.rela_graph.proofs.Unrolling.{IsReader}
 use Rattle.rela_graph.proofs.Walking.{ending, walk_back}
 use Rattle.rela_graph.proofs.Ways.{edge_node, walk_node}
 

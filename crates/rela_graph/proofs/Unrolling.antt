@@ -1,5 +1,5 @@
 -- The edges of each state, as they are listed.
-use Rattle.std.proofs.Common.{◌≡◌, ℕ, zero, suc, ◌+◌, ◌<◌, ◌≤◌, ◌⊎◌, ◌↔◌, Bool, true, IsTrue, List, [], ◌∷◌, ◌++◌, length, get_or, map, Option, Some, sym, ap, ◌∙◌, Vec, subst, inl, inr, arith}
+use Rattle.std.proofs.Common.{◌≡◌, ℕ, zero, suc, ◌+◌, ◌<◌, ◌≤◌, ◌⊎◌, ◌↔◌, Bool, true, false, IsTrue, List, [], ◌∷◌, ◌++◌, length, get_or, map, Option, Some, sym, ap, ◌∙◌, Vec, subst, inl, inr, arith}
 use Rattle.std.specs.List.{All, Contains}
 use Rattle.std.proofs.lemmas.Bool.{cases_lt, cases_eq}
 use Rattle.std.proofs.lemmas.List.{get_or_append_left, get_or_at, get_or_default, length_push, map_push}
@@ -9,7 +9,7 @@ use Rattle.rela_nfa.specs.Stored.{move_of, moves_in}
 use Rattle.rela_nfa.specs.declared.edge.Edge.{Edge}
 use Rattle.rela_graph.specs.Lettering.{AreLetters, letter_at, read_between, by_letter, only_if, link_move}
 use Rattle.rela_graph.specs.Topology.{Topology, IsTopology, HasEdge, IsStart, IsEdgeFrom}
-use Rattle.rela_graph.specs.Unrolled.{LeadOn, Begins, GoesOn, IsUnrolled, IsReader}
+use Rattle.rela_graph.specs.Unrolled.{LeadOn, Begins, GoesOn, IsUnrolled}
 use Rattle.rela_graph.specs.Walk.{IsCyclic, IsDropNode}
 use Rattle.rela_graph.specs.declared.letters.Letters.{Letters}
 use Rattle.rela_graph.specs.declared.node.Link.{Link}
@@ -172,7 +172,13 @@ module _ (g : Topology) (letters : Letters) where
         last = ap (λ l. get_or l (1 + length g.nodes) []) is ∙ get_or_at old [] [] [] (1 + length g.nodes) (omega (arith, far.len, whole));
       }
 
--- what is built is an automaton
+-- the automaton of these edges, in which words are accepted at nodes that deliver and at the last state
+pub record IsReader (g : Topology) (letters : Letters) (r : Automaton) : Type 0 where
+  pub count : r.letters ≡ letters.count
+  pub start : r.start ≡ 0
+  pub finals : r.finals ≡ false ∷ (g.delivered ++ true ∷ [])
+  pub edges : IsUnrolled g letters r.edges
+
 module _ (g : Topology) (letters : Letters) (is : IsTopology g) (r : Automaton) (built : IsReader g letters r) where
   pub reader_states : states r ≡ length g.nodes + 2
   reader_states = omega (arith, ap length built.finals, length_push g.delivered true, is.delivered)

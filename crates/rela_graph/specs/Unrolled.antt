@@ -1,8 +1,8 @@
 -- The automaton that reads the walks of a graph. Words begin at state 0, state 1 + n stands at node n,
 -- and the last state is the end of a walk that drops or never leaves a cycle.
-use Rattle.std.specs.Prelude.{◌≡◌, ℕ, ◌+◌, ◌<◌, ◌⊎◌, ◌↔◌, true, false, List, [], ◌∷◌, ◌++◌, length, Option, Some, slice_index_or}
+use Rattle.std.specs.Prelude.{◌≡◌, ℕ, ◌+◌, ◌<◌, ◌⊎◌, ◌↔◌, List, [], length, Option, Some, slice_index_or}
 use Rattle.std.specs.List.{All}
-use Rattle.rela_nfa.specs.Automaton.{Automaton, Move, IsMove}
+use Rattle.rela_nfa.specs.Automaton.{Move, IsMove}
 use Rattle.rela_nfa.specs.Runs.{StepIn}
 use Rattle.rela_graph.specs.Lettering.{letter_at, read_between}
 use Rattle.rela_graph.specs.Topology.{Topology, HasEdge, IsStart}
@@ -31,10 +31,3 @@ pub record IsUnrolled (g : Topology) (letters : Letters) (edges : List (List Mov
   pub first : LeadOn letters.count (length g.nodes + 2) (slice_index_or edges 0 []) (Begins g letters)
   pub nodes : (n : ℕ) → n < length g.nodes → LeadOn letters.count (length g.nodes + 2) (slice_index_or edges (1 + n) []) (GoesOn g letters n)
   pub last : slice_index_or edges (1 + length g.nodes) [] ≡ []
-
--- words are accepted at nodes that deliver and at the last state
-pub record IsReader (g : Topology) (letters : Letters) (r : Automaton) : Type 0 where
-  pub count : r.letters ≡ letters.count
-  pub start : r.start ≡ 0
-  pub finals : r.finals ≡ false ∷ (g.delivered ++ true ∷ [])
-  pub edges : IsUnrolled g letters r.edges

@@ -50,6 +50,7 @@ impl Graph {
             → Reach nfa (1 + length self.now.nodes) (blocks_of blocks.now w) ↔ Undelivered self.now level alphabet.now w) }
         ensures language { IfOk result (λ nfa. (w : List ℕ) → All (λ s. s < length blocks.now) w
             → Accepts nfa (blocks_of blocks.now w) ↔ Paths self.now level alphabet.now w) }
+        ensures of_path_symbols { IfOk result (λ _. (w : List ℕ) → Paths self.now level alphabet.now w → All (λ s. s < path_symbols alphabet.now) w) }
     {
         let letters = Letters::new(alloc, self, level, alphabet, blocks)?;
         let finals = self.finals(alloc)?;
@@ -125,7 +126,7 @@ impl Graph {
         ensures { IfOk result (λ edges. LeadOn letters.now.count (length self.now.nodes + 2) (map (move_of L.letters) edges.items) (GoesOn self.now letters.now n)) }
     {
         let end = 1 + self.nodes().len();
-        let mut edges = letters.along_each(alloc, self.edges_from(n))?;
+        let mut edges = letters.edges_along(alloc, self.edges_from(n))?;
         letters.add_if(
             alloc,
             &mut edges,

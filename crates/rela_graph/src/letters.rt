@@ -54,7 +54,7 @@ impl Letters {
     }
 
     /// An edge by one letter.
-    fn edge<L: LabelSet>(
+    fn edge_by<L: LabelSet>(
         &self,
         alloc: Global,
         letter: u32,
@@ -86,14 +86,14 @@ impl Letters {
         ensures { OnOk result (map (move_of L.letters) edges.new.items ≡ map (move_of L.letters) edges.old.items ++ only_if is_wanted (by_letter self.now.count letter to)) }
     {
         if is_wanted {
-            edges.push(self.edge(alloc, letter, to)?)?;
+            edges.push(self.edge_by(alloc, letter, to)?)?;
         }
         Ok(())
     }
 
     /// The edge for one of the graph's: silent where both its nodes have one letter, else by that of
     /// the node to which it leads.
-    fn along<L: LabelSet>(&self, alloc: Global, link: &Link) -> Result<Edge<L>, AllocError>
+    fn edge_along<L: LabelSet>(&self, alloc: Global, link: &Link) -> Result<Edge<L>, AllocError>
         requires fits { L.fits self.now.count }
         requires each { All (λ k. k < self.now.count) self.now.nodes.items }
         requires joins { JoinsNodes (length self.now.nodes.items) link.now }
@@ -104,11 +104,11 @@ impl Letters {
         if self.nodes[link.a as usize] == letter {
             return Ok(Edge { label: None, to });
         }
-        self.edge(alloc, letter, to)
+        self.edge_by(alloc, letter, to)
     }
 
     /// The edge for each of the graph's.
-    pub(crate) fn along_each<L: LabelSet>(
+    pub(crate) fn edges_along<L: LabelSet>(
         &self,
         alloc: Global,
         links: &[Link],
@@ -120,7 +120,7 @@ impl Letters {
     {
         let mut edges = Vec::with_capacity(alloc, links.len())?;
         for link in links {
-            edges.push(self.along(alloc, link)?)?;
+            edges.push(self.edge_along(alloc, link)?)?;
         }
         Ok(edges)
     }

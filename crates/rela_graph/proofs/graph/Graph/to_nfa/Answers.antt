@@ -5,10 +5,10 @@ use Rattle.rela_labels.specs.Partition.{block_count}
 use Rattle.rela_nfa.specs.Automaton.{Automaton, states}
 use Rattle.rela_nfa.specs.Stored.{moves_in}
 use Rattle.rela_graph.specs.Paths.{locations}
-use Rattle.rela_graph.specs.Unrolled.{IsReader}
-use Rattle.rela_graph.proofs.Blocked.{location_alone, location_within, letter_is}
+use Rattle.rela_graph.proofs.Blocked.{location_alone, location_below, letter_is}
+use Rattle.rela_graph.proofs.PathWords.{path_symbols_only}
 use Rattle.rela_graph.proofs.Reading.{IsLettered, read_result, read_begin, read_nodes, read_end, read_language}
-use Rattle.rela_graph.proofs.Unrolling.{reader_ok, reader_states}
+use Rattle.rela_graph.proofs.Unrolling.{IsReader, reader_ok, reader_states}
 use Rattle.rela_graph.proofs.graph.Graph.to_nfa.Goals as goal
 
 pub from_parts-requires-clause-automaton : goal.from_parts-requires-clause-automaton
@@ -43,7 +43,7 @@ returns g c =
       nodes = letter_is graph level blocks letters.nodes.items c.in_ok-letters.ensures.nodes;
       drops = c.in_ok-letters.ensures.drops;
       loops = c.in_ok-letters.ensures.loops;
-      within = location_within graph level blocks (length alphabet) (omega (arith, c.requires.symbols)) c.requires.placed;
+      within = λ n below. omega (arith, location_below graph level (length alphabet) c.requires.placed n below, c.requires.symbols);
       alone = location_alone graph level blocks c.requires.alone_nodes;
       alone_drop = c.requires.alone_drop;
       alone_loop = c.requires.alone_loop;
@@ -55,4 +55,5 @@ returns g c =
       nodes = IfOk-weaker result (IsReader graph letters) _ (λ nfa is. read_nodes graph level alphabet blocks letters nfa topology lettered is) built;
       end = IfOk-weaker result (IsReader graph letters) _ (λ nfa is. read_end graph level alphabet blocks letters nfa topology lettered is) built;
       language = IfOk-weaker result (IsReader graph letters) _ (λ nfa is. read_language graph level alphabet blocks letters nfa topology lettered is) built;
+      of_path_symbols = IfOk-weaker result (IsReader graph letters) _ (λ nfa is. path_symbols_only graph topology level alphabet c.requires.placed) built;
     }

@@ -1,6 +1,6 @@
 use Rattle.std.proofs.Common.{Some, ap, ◌∙◌}
 use Rattle.rela_nfa.proofs.Chains.{letters_single}
-use Rattle.rela_graph.proofs.letters.Letters.edge.Goals as goal
+use Rattle.rela_graph.proofs.letters.Letters.edge_by.Goals as goal
 
 pub returns : goal.returns
 returns g c =
