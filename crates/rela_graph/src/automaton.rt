@@ -22,7 +22,8 @@ use std::alloc::{AllocError, Global};
 
 impl Graph {
     /// The automaton that accepts just the paths of the graph at the level, those of which
-    /// [`Graph::has_path`] tells, each symbol read as its block.
+    /// [`Graph::has_path`] tells, each symbol read as its block. The location of each node, `drop` and
+    /// `loop` have blocks of their own.
     ///
     /// State 0 is where words begin. State `1 + n` stands at node `n`: the words that reach it are the
     /// locations of the walks that end there, each run of equal neighbours written once. The last
