@@ -1,3 +1,4 @@
+pub mod Composition
 pub mod Construction
 pub mod Machine
 pub mod Relabelling

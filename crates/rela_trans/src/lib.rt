@@ -1,8 +1,10 @@
 //! Finite transducers with silent moves: the regular relations between words and their operations.
 #![tactic(auto)]
 
+mod compose;
 mod copying;
 mod inverse;
+mod joint;
 mod moves;
 mod operations;
 mod relabel;
@@ -10,6 +12,7 @@ mod tapes;
 mod transducer;
 
 pub use moves::{Move, MoveKind};
+pub use rela_pairs::BuildError;
 pub use transducer::Transducer;
 
 #[cfg(test)]
