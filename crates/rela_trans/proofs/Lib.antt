@@ -13,3 +13,4 @@ pub mod KindsTogether
 pub mod JointSteps
 pub mod NumberedMoves
 pub mod Composed
+pub mod WrittenWords

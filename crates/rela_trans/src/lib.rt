@@ -7,6 +7,7 @@ mod inverse;
 mod joint;
 mod moves;
 mod operations;
+mod outputs;
 mod relabel;
 mod tapes;
 mod transducer;
