@@ -188,21 +188,21 @@ module _ (read : ℕ → ℕ) (a b : Machine) where
   pub through_step : (x y : Pair) (u w input output : List ℕ) → ReachThrough read a b x u w → JointStep read a b x input output y → ReachThrough read a b y (u ++ input) (w ++ output)
   through_step x y u w input output (middle, one, two) step = elim step [
     | inl first ↦ (
-        middle,
-        subst (λ m. ReachR read a y.left (u ++ input) m) (append-nil middle) (reach_step read a x.left y.left u middle input [] one first.0),
-        subst_pair (ReachR read b y.right) refl (sym (append-nil w) ∙ ap (λ l. w ++ l) (sym first.2)) (subst (λ n. ReachR read b n middle w) first.1 two),
-      )
+      middle,
+      subst (λ m. ReachR read a y.left (u ++ input) m) (append-nil middle) (reach_step read a x.left y.left u middle input [] one first.0),
+      subst_pair (ReachR read b y.right) refl (sym (append-nil w) ∙ ap (λ l. w ++ l) (sym first.2)) (subst (λ n. ReachR read b n middle w) first.1 two),
+    )
     | inr others ↦ elim others [
       | inl second ↦ (
-          middle,
-          subst_pair (ReachR read a y.left) (sym (append-nil u) ∙ ap (λ l. u ++ l) (sym second.2)) refl (subst (λ n. ReachR read a n u middle) second.0 one),
-          subst (λ m. ReachR read b y.right m (w ++ output)) (append-nil middle) (reach_step read b x.right y.right middle w [] output two second.1),
-        )
+        middle,
+        subst_pair (ReachR read a y.left) (sym (append-nil u) ∙ ap (λ l. u ++ l) (sym second.2)) refl (subst (λ n. ReachR read a n u middle) second.0 one),
+        subst (λ m. ReachR read b y.right m (w ++ output)) (append-nil middle) (reach_step read b x.right y.right middle w [] output two second.1),
+      )
       | inr both ↦ (
-          middle ++ both.0 ∷ [],
-          reach_step read a x.left y.left u middle input (both.0 ∷ []) one both.1,
-          reach_step read b x.right y.right middle w (both.0 ∷ []) output two both.2,
-        )
+        middle ++ both.0 ∷ [],
+        reach_step read a x.left y.left u middle input (both.0 ∷ []) one both.1,
+        reach_step read b x.right y.right middle w (both.0 ∷ []) output two both.2,
+      )
     ]
   ]
 

@@ -14,3 +14,5 @@ pub mod JointSteps
 pub mod NumberedMoves
 pub mod Composed
 pub mod WrittenWords
+pub mod ImagePairs
+pub mod ReadLetters

@@ -213,7 +213,6 @@ module _ (t : Machine) (r : Automaton) (built : IsWritten t r) (ok : IsMachine t
       λ (u, (q, reach, final)). (q, on q u v reach, ap (λ l. get_or l q false) built.finals ∙ final),
     )
 
-
 -- an automaton of these parts
 pub from_its_parts : {E : Type 0} (t : Machine) (result : Result Automaton E) → IfOk result (λ r. r.letters ≡ t.letters) → IfOk result (λ r. r.start ≡ t.start)
     → IfOk result (λ r. r.finals ≡ t.finals) → IfOk result (λ r. r.edges ≡ map written_edges t.moves) → IfOk result (λ r. IsWritten t r)

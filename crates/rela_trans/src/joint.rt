@@ -22,11 +22,7 @@ pub(crate) struct JointMove<L> {
 fn unless_empty<L: LabelSet>(set: L) -> Option<L>
     ensures { option_map L.letters result ≡ unless_empty (L.letters set) }
 {
-    if set.is_empty() {
-        None
-    } else {
-        Some(set)
-    }
+    if set.is_empty() { None } else { Some(set) }
 }
 
 /// The letters that are in both sets, unless there are none.

@@ -3,6 +3,7 @@
 
 mod compose;
 mod copying;
+mod imaging;
 mod inverse;
 mod joint;
 mod moves;
@@ -12,6 +13,7 @@ mod relabel;
 mod tapes;
 mod transducer;
 
+pub use imaging::image;
 pub use moves::{Move, MoveKind};
 pub use rela_pairs::BuildError;
 pub use transducer::Transducer;
