@@ -27,7 +27,7 @@ some_unless f set k among =
 
 -- ---- words of one symbol
 
-pub no_symbol : (s : ℕ) → [] ≡ s ∷ [] → ⊥
+no_symbol : (s : ℕ) → [] ≡ s ∷ [] → ⊥
 no_symbol s e = absurd (omega (arith, ap length e))
 
 one_symbol : (read : ℕ → ℕ) (set : List Bool) (s : ℕ) → IsSymbolOf read set (s ∷ []) → has set (read s) ≡ true

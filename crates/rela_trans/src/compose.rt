@@ -1,4 +1,4 @@
-ghost use Rattle.std.specs.Prelude.{◌≡◌, ◌≢◌, ℕ, ◌<◌, ◌≤◌, ◌++◌, ◌↔◌, List, IfOk, IfErr, OnOk, map, length, vec_len};
+ghost use Rattle.std.specs.Prelude.{◌≡◌, ◌≢◌, ℕ, ◌<◌, ◌≤◌, ◌↔◌, List, IfOk, IfErr, map, length, vec_len};
 ghost use Rattle.std.specs.List.{All, range_with_len};
 ghost use Rattle.rela_pairs.specs.Exploration.{NumbersNext};
 ghost use Rattle.rela_pairs.specs.Reachable.{MoreThan};

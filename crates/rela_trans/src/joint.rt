@@ -1,7 +1,7 @@
-ghost use Rattle.std.specs.Prelude.{◌≡◌, ℕ, ◌<◌, ◌++◌, List, IfOk, OnOk, map, length};
+ghost use Rattle.std.specs.Prelude.{◌≡◌, ℕ, ◌<◌, ◌++◌, IfOk, OnOk, map, length};
 ghost use Rattle.std.specs.List.{All};
 ghost use Rattle.std.specs.Option.{option_map};
-ghost use Rattle.rela_nfa.specs.Meeting.{common, pair_of};
+ghost use Rattle.rela_nfa.specs.Meeting.{common};
 ghost use Rattle.rela_trans.specs.Composition.{unless_empty, first_alone, second_alone, after_out, after_same, both_by_letter, joint_of, made, first_moves, second_moves, moves_with};
 ghost use Rattle.rela_trans.specs.Machine.{IsSized};
 ghost use Rattle.rela_trans.specs.Stored.{kind_of, move_of};
