@@ -9,3 +9,10 @@ pub mod Stars
 pub mod Lifted
 pub mod Turned
 pub mod Relabelled
+pub mod KindsTogether
+pub mod JointSteps
+pub mod NumberedMoves
+pub mod Composed
+pub mod WrittenWords
+pub mod ImagePairs
+pub mod ReadLetters

@@ -1,4 +1,6 @@
+pub mod Composition
 pub mod Construction
+pub mod Images
 pub mod Machine
 pub mod Relabelling
 pub mod Relations

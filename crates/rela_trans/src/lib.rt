@@ -1,15 +1,21 @@
 //! Finite transducers with silent moves: the regular relations between words and their operations.
 #![tactic(auto)]
 
+mod compose;
 mod copying;
+mod imaging;
 mod inverse;
+mod joint;
 mod moves;
 mod operations;
+mod outputs;
 mod relabel;
 mod tapes;
 mod transducer;
 
+pub use imaging::image;
 pub use moves::{Move, MoveKind};
+pub use rela_pairs::BuildError;
 pub use transducer::Transducer;
 
 #[cfg(test)]

@@ -47,3 +47,45 @@ fn one_block_split(rt: HostRuntime) -> Result<(), Fail> {
     assert!(rt; !keeps(&split, 3));
     Ok(())
 }
+
+#[test]
+fn pairs_of_letters(rt: HostRuntime) -> Result<(), Fail> {
+    let alloc = rt.alloc();
+    let a = letter(alloc, 3, 0)?;
+    let b = letter(alloc, 3, 1)?;
+    let turned: Table = Transducer::product(alloc, &a, &b)?;
+    assert!(rt; turned.relates(alloc, &[0], &[1])?);
+    assert!(rt; !turned.relates(alloc, &[0], &[0])?);
+    assert!(rt; !turned.relates(alloc, &[3], &[1])?);
+    assert!(rt; turned.inverse(alloc)?.relates(alloc, &[1], &[0])?);
+    let repeated = turned.star(alloc)?;
+    assert!(rt; repeated.relates(alloc, &[0, 0], &[1, 1])?);
+    assert!(rt; repeated.relates(alloc, &[], &[])?);
+    let kept = Transducer::identity(alloc, &a)?;
+    assert!(rt; turned.union(alloc, &kept)?.relates(alloc, &[0], &[0])?);
+    assert!(rt;
+        turned
+            .concat(alloc, &turned)?
+            .relates(alloc, &[0, 0], &[1, 1])?
+    );
+    Ok(())
+}
+
+#[test]
+fn letters_in_the_middle(rt: HostRuntime) -> Result<(), Fail> {
+    let alloc = rt.alloc();
+    let a = letter(alloc, 3, 0)?;
+    let b = letter(alloc, 3, 1)?;
+    let turned: Table = Transducer::product(alloc, &a, &b)?;
+    let by_b = turned.compose(alloc, &Transducer::identity(alloc, &b)?, 100)?;
+    assert!(rt; by_b.relates(alloc, &[0], &[1])?);
+    let by_a = turned.compose(alloc, &Transducer::identity(alloc, &a)?, 100)?;
+    assert!(rt; !by_a.relates(alloc, &[0], &[1])?);
+    let written = image(alloc, &a, &turned, 100)?;
+    assert!(rt; written.accepts(alloc, &[1])?);
+    assert!(rt; !written.accepts(alloc, &[0])?);
+    assert!(rt; !written.accepts(alloc, &[])?);
+    let refused = image(alloc, &a, &turned, 1);
+    assert!(rt; refused.is_err_and(|e| e == BuildError::Limit));
+    Ok(())
+}

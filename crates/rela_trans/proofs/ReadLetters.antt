@@ -1,0 +1,52 @@
+-- Words that are read hold letters alone, and what one word's image accepts is what the word is related to.
+use Rattle.std.proofs.Common.{◌≡◌, ℕ, ◌<◌, ◌↔◌, Bool, true, List, [], ◌∷◌, ◌++◌, length, map, refl, sym, ap, ◌∙◌, subst, arith}
+use Rattle.std.specs.List.{All}
+use Rattle.std.proofs.lemmas.List.Elements.{All-nil, All-cons, All-append, All-contains}
+use Rattle.rela_nfa.specs.Automaton.{Automaton}
+use Rattle.rela_nfa.specs.Runs.{Accepts}
+use Rattle.rela_trans.specs.Composition.{Covers}
+use Rattle.rela_trans.specs.Machine.{Machine, Kind, IsMachine, IsMove, IsSized, moves_of, machine_states}
+use Rattle.rela_trans.specs.Runs.{IsSymbolOf, Does, HasStep, ReachR, Relates}
+use Rattle.rela_trans.specs.declared.moves.MoveKind.TheVariants.{Silent, In, Out, Same}
+use Rattle.rela_trans.proofs.Accessors.{moves_ok}
+use Rattle.rela_trans.proofs.ImagePairs.{map_same}
+use Rattle.rela_trans.proofs.KindsTogether.{has_below}
+use Rattle.rela_trans.proofs.Reaching.{reach_each}
+
+module _ (letters : ℕ) where
+  abbrev AreLetters : List ℕ → Type 0
+  AreLetters w = All (λ k. k < letters) w
+
+  no_letter : (w : List ℕ) → w ≡ [] → AreLetters w
+  no_letter w e = subst AreLetters (sym e) (All-nil (λ k. k < letters))
+
+  one_letter : (set : List Bool) (w : List ℕ) → length set ≡ letters → IsSymbolOf (λ k. k) set w → AreLetters w
+  one_letter set w size (s, among, e) = subst AreLetters (sym e) (All-cons (λ k. k < letters) s [] (omega (arith, has_below set s among, size)) (All-nil (λ k. k < letters)))
+
+  read_letters : (kind : Kind) (input output : List ℕ) → IsSized letters kind → Does (λ k. k) kind input output → AreLetters input
+  read_letters Silent input output size does = no_letter input does.0
+  read_letters (In set) input output size does = one_letter set input size does.0
+  read_letters (Out set) input output size does = no_letter input does.0
+  read_letters (Same set) input output size does = one_letter set input size does.0
+
+reached_letters : (t : Machine) → IsMachine t → (q : ℕ) (u v : List ℕ) → ReachR (λ k. k) t q u v → All (λ k. k < t.letters) u
+reached_letters t ok =
+    reach_each (λ k. k) t (λ q u v. All (λ k. k < t.letters) u)
+    (λ p q u v input output reach before step.
+    let move = All-contains (IsMove t.letters (machine_states t)) (moves_of t p) (record { kind = step.0; to = q }) (moves_ok t ok p) step.1 in
+    All-append (λ k. k < t.letters) u input before (read_letters t.letters step.0 input output move.sized step.2))
+    (All-nil (λ k. k < t.letters))
+
+pub related_letters : (t : Machine) → IsMachine t → (u v : List ℕ) → Relates (λ k. k) t u v → All (λ k. k < t.letters) u
+related_letters t ok u v (q, reach, final) = reached_letters t ok q u v reach
+
+-- the image of one word
+pub related_by_image : (t : Machine) (word image : Automaton) (u v : List ℕ) → ((w : List ℕ) → Accepts word w ↔ (w ≡ u))
+    → ((read : ℕ → ℕ) → Covers read word.letters → (w : List ℕ) → Accepts image (map read w) ↔ ((source : List ℕ) × Accepts word (map read source) × Relates read t source w))
+    → Accepts image v ↔ Relates (λ k. k) t u v
+related_by_image t word image u v only language = (
+  λ accepted.
+      let found = (language (λ k. k) (λ k below. (k, refl)) v).0 (subst (Accepts image) (sym (map_same v)) accepted) in
+      subst (λ w. Relates (λ k. k) t w v) (sym (map_same found.0) ∙ (only (map (λ k. k) found.0)).0 found.1) found.2,
+  λ related. subst (Accepts image) (map_same v) ((language (λ k. k) (λ k below. (k, refl)) v).1 (u, (only (map (λ k. k) u)).1 (map_same u), related)),
+)

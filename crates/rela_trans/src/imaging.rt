@@ -1,0 +1,73 @@
+ghost use Rattle.std.specs.Prelude.{◌≡◌, ◌≢◌, ℕ, ◌<◌, ◌≤◌, ◌↔◌, List, IsTrue, IfOk, IfErr, map};
+ghost use Rattle.std.specs.List.{All};
+ghost use Rattle.rela_nfa.specs.Automaton.{states};
+ghost use Rattle.rela_nfa.specs.Runs.{Accepts};
+ghost use Rattle.rela_pairs.specs.Reachable.{MoreThan};
+ghost use Rattle.rela_pairs.specs.declared.pair.Pair.{Pair};
+ghost use Rattle.rela_trans.specs.Composition.{Covers};
+ghost use Rattle.rela_trans.specs.Images.{IsImage, AreReachedFrom};
+ghost use Rattle.rela_trans.specs.Runs.{Relates};
+
+use crate::transducer::Transducer;
+use rela_labels::LabelSet;
+use rela_nfa::Nfa;
+use rela_pairs::BuildError;
+use std::alloc::{AllocError, Global};
+
+/// The words that the transducer writes where it reads a word of the automaton, the source. Each state
+/// is a pair of states that some source leads to, and is reached by just the words that are written
+/// from such a source.
+///
+/// # Errors
+///
+/// - `Limit` exactly where more than `limit` pairs are reached by one source; never for the greatest
+///   limit.
+/// - `Memory` where there isn't memory for them.
+pub fn image<L: LabelSet>(
+    alloc: Global,
+    a: &Nfa<L>,
+    transducer: &Transducer<L>,
+    limit: usize,
+) -> Result<Nfa<L>, BuildError>
+    requires letters { a.now.letters ≡ transducer.now.letters }
+    requires limit { 1 ≤ limit }
+    ensures letters { IfOk result (λ nfa. nfa.letters ≡ a.now.letters) }
+    ensures few { IfOk result (λ nfa. states nfa ≤ limit) }
+    ensures pairs { IfOk result (λ nfa. (pairs : List Pair) × IsImage a.now transducer.now pairs nfa) }
+    ensures language { IfOk result (λ nfa. (read : ℕ → ℕ) → Covers read a.now.letters
+        → (v : List ℕ) → Accepts nfa (map read v) ↔ ((source : List ℕ) × Accepts a.now (map read source) × Relates read transducer.now source v)) }
+
+    // The limit, exactly.
+    ensures within { IfOk result (λ _. ¬ MoreThan limit (AreReachedFrom a.now transducer.now)) }
+    ensures limit { IfErr result (λ e. e ≡ BuildError.Limit → MoreThan limit (AreReachedFrom a.now transducer.now)) }
+    ensures greatest { limit ≡ usize.MAX → IfErr result (λ e. e ≢ BuildError.Limit) }
+{
+    let source = Transducer::identity(alloc, a)?;
+    let composed = source.compose(alloc, transducer, limit)?;
+    let image = composed.into_outputs(alloc)?;
+    Ok(image)
+}
+
+/// Whether each number of the word is a letter.
+fn are_letters(word: &[u32], letters: u32) -> bool
+    ensures { IsTrue result ↔ All (λ k. k < letters) word.now }
+{
+    word.iter().all(|k| *k < letters)
+}
+
+impl<L: LabelSet> Transducer<L> {
+    /// Whether the pair of words of letters is related. None is with a number that is no letter.
+    pub fn relates(&self, alloc: Global, u: &[u32], v: &[u32]) -> Result<bool, AllocError>
+        ensures { IfOk result (λ related. IsTrue related ↔ Relates (λ k. k) self.now u.now v.now) }
+    {
+        if !are_letters(u, self.letters()) {
+            return Ok(false);
+        }
+        let word = Nfa::word(alloc, self.letters(), u)?;
+        match image(alloc, &word, self, usize::MAX) {
+            Ok(written) => written.accepts(alloc, v),
+            // With the greatest limit memory is the only error.
+            Err(_) => Err(AllocError),
+        }
+    }
+}
