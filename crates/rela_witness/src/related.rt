@@ -8,7 +8,8 @@ use crate::shortest::least_word;
 use rela_labels::LabelSet;
 use rela_names::Word;
 use rela_nfa::Nfa;
-use rela_trans::{BuildError, Transducer, are_letters, image};
+use rela_pairs::BuildError;
+use rela_trans::{Transducer, are_letters, image};
 use std::alloc::{AllocError, Global};
 
 /// The first word in shortlex order that the automaton accepts and for which the transducer writes `v`.
