@@ -6,7 +6,7 @@ use Rattle.rela_nfa.specs.Automaton.{Automaton}
 use Rattle.rela_nfa.specs.Runs.{Accepts}
 use Rattle.rela_trans.specs.Composition.{Covers}
 use Rattle.rela_trans.specs.Machine.{Machine, Kind, IsMachine, IsMove, IsSized, moves_of, machine_states}
-use Rattle.rela_trans.specs.Runs.{IsSymbolOf, Does, ReachR, Relates}
+use Rattle.rela_trans.specs.Runs.{IsSymbolOf, Does, HasStep, ReachR, Relates}
 use Rattle.rela_trans.specs.declared.moves.MoveKind.TheVariants.{Silent, In, Out, Same}
 use Rattle.rela_trans.proofs.Accessors.{moves_ok}
 use Rattle.rela_trans.proofs.ImagePairs.{map_same}
