@@ -1,6 +1,6 @@
 -- What an automaton and a transducer reach where the one's words are what the other reads: the automaton stands as
 -- the transducer of its words with themselves.
-use Rattle.std.proofs.Common.{◌≡◌, ℕ, ◌↔◌, List, [], ◌∷◌, length, get_or, map, refl, sym, ap, ◌∙◌, subst}
+use Rattle.std.proofs.Common.{◌≡◌, ℕ, ◌↔◌, List, [], ◌∷◌, get_or, map, refl, sym, ap, ◌∙◌, subst}
 use Rattle.rela_pairs.specs.Reachable.{MoreThan}
 use Rattle.rela_pairs.specs.declared.pair.Pair.{Pair}
 use Rattle.rela_nfa.specs.Automaton.{Automaton, states}

@@ -1,6 +1,6 @@
 -- Moves of two transducers, the second reading what the first writes.
-use Rattle.std.proofs.Common.{◌≡◌, ℕ, ◌<◌, ◌⊎◌, Bool, List, [], ◌∷◌, ◌++◌, length, Option, None, Some, refl, sym, ap, ◌∙◌, subst, inl, inr, arith, length-append}
-use Rattle.std.specs.List.{All, Contains, flat_map}
+use Rattle.std.proofs.Common.{◌≡◌, ℕ, ◌⊎◌, Bool, List, [], ◌∷◌, ◌++◌, length, Option, None, Some, refl, sym, ap, ◌∙◌, subst, inl, inr, arith, length-append}
+use Rattle.std.specs.List.{Contains, flat_map}
 use Rattle.std.proofs.lemmas.List.{append-nil, same_from_push}
 use Rattle.std.proofs.lemmas.List.Elements.{Contains-append_left, Contains-append_right, Contains-append_cases, All-contains}
 use Rattle.rela_pairs.specs.declared.pair.Pair.{Pair}
@@ -14,7 +14,7 @@ use Rattle.rela_trans.specs.declared.joint.JointMove.{JointMove}
 use Rattle.rela_trans.specs.declared.moves.Move.{Move}
 use Rattle.rela_trans.specs.declared.moves.MoveKind.TheVariants.{Silent, In, Out, Same}
 use Rattle.rela_trans.proofs.Accessors.{moves_ok}
-use Rattle.rela_trans.proofs.KindsTogether.{CanBeDone, no_symbol, first_does, second_does, both_does, first_made, second_made, both_made, first_can, second_can, both_can, first_sized, second_sized, both_sized}
+use Rattle.rela_trans.proofs.KindsTogether.{CanBeDone, first_does, second_does, both_does, first_made, second_made, both_made, first_can, second_can, both_can, first_sized, second_sized, both_sized}
 use Rattle.rela_trans.proofs.Reaching.{subst_pair, reach_start, reach_step, reach_each}
 
 -- ---- a joint step: one alone, or both by one symbol, which the first writes and the second reads

@@ -1,5 +1,5 @@
 -- The words that a transducer writes, and those that it writes where it reads the words of an automaton.
-use Rattle.std.specs.Prelude.{◌≡◌, ℕ, ◌↔◌, Bool, List, ◌++◌, length, map, Option, None, Some, Contains, slice_get, if◌then◌else◌}
+use Rattle.std.specs.Prelude.{◌≡◌, ℕ, ◌↔◌, Bool, List, length, map, Option, None, Some, Contains, slice_get, if◌then◌else◌}
 use Rattle.std.specs.List.{flat_map, list_any}
 use Rattle.std.specs.Option.{option_to_list}
 use Rattle.rela_pairs.specs.Reachable.{AreDistinct}

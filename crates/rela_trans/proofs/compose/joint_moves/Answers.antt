@@ -1,4 +1,4 @@
-use Rattle.std.proofs.Common.{◌≡◌, ℕ, ◌<◌, Bool, List, ◌++◌, map, ◌∙◌, sym, ap, subst, arith}
+use Rattle.std.proofs.Common.{Bool, List, ◌++◌, map, ◌∙◌, sym, ap, subst}
 use Rattle.std.specs.List.{All, flat_map}
 use Rattle.std.proofs.lemmas.List.{take_all}
 use Rattle.rela_trans.specs.Composition.{first_moves, second_moves, moves_with}

@@ -1,4 +1,3 @@
-use Rattle.std.proofs.Common.{sym}
 use Rattle.std.proofs.lemmas.Result.{err_from_is_err_and}
 use Rattle.rela_trans.proofs.ImagePairs.{more_from, more_through_source, image_of, image_language}
 use Rattle.rela_trans.proofs.imaging.image.Goals as goal

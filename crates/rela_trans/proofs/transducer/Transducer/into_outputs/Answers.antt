@@ -1,8 +1,8 @@
-use Rattle.std.proofs.Common.{◌≡◌, IfOk, ◌∙◌, map, refl, sym, ap, subst}
+use Rattle.std.proofs.Common.{IfOk, ◌∙◌, refl, subst}
 use Rattle.std.proofs.lemmas.Result.{IfOk-weaker}
 use Rattle.rela_nfa.specs.Automaton.{Automaton}
 use Rattle.rela_nfa.specs.Stored.{moves_in as edges_in}
-use Rattle.rela_trans.specs.Images.{written_edges, IsWritten}
+use Rattle.rela_trans.specs.Images.{IsWritten}
 use Rattle.rela_trans.specs.Machine.{Machine, IsMachine}
 use Rattle.rela_trans.specs.Stored.{moves_in}
 use Rattle.rela_trans.proofs.WrittenWords.{from_its_parts, written_ok, written_reached, written_language}
