@@ -1,5 +1,5 @@
 -- Words of symbols are related just as the words of their letters are.
-use Rattle.std.proofs.Common.{◌≡◌, ℕ, Bool, true, List, [], ◌∷◌, ◌++◌, length, map, refl, sym, ap, ◌∙◌, subst, arith}
+use Rattle.std.proofs.Common.{◌≡◌, ℕ, Bool, true, List, [], ◌∷◌, ◌++◌, map, refl, sym, ap, ◌∙◌, subst, arith}
 use Rattle.std.proofs.lemmas.List.{map-append}
 use Rattle.std.proofs.lemmas.List.Elements.{All-contains}
 use Rattle.rela_labels.specs.Letters.{has}
@@ -24,16 +24,16 @@ module _ (read : ℕ → ℕ) where
   does_letters (Out set) input output does = (ap (λ l. map read l) does.0, letter_of set output does.1)
   does_letters (Same set) input output does = (letter_of set input does.0, ap (λ l. map read l) does.1)
 
-  pub reached_letters : (t : Machine) (q : ℕ) (u v : List ℕ) → ReachR read t q u v → ReachR (λ k. k) t q (map read u) (map read v)
-  reached_letters t =
+  pub letters_reached : (t : Machine) (q : ℕ) (u v : List ℕ) → ReachR read t q u v → ReachR (λ k. k) t q (map read u) (map read v)
+  letters_reached t =
       reach_each read t (λ q u v. ReachR (λ k. k) t q (map read u) (map read v))
       (λ p q u v input output reach there step.
       subst_pair (ReachR (λ k. k) t q) (sym (map-append read u input)) (sym (map-append read v output))
       (reach_step (λ k. k) t p q (map read u) (map read v) (map read input) (map read output) there (step.0, step.1, does_letters step.0 input output step.2)))
       (reach_start (λ k. k) t)
 
-  pub related_letters : (t : Machine) (u v : List ℕ) → Relates read t u v → Relates (λ k. k) t (map read u) (map read v)
-  related_letters t u v (q, reach, final) = (q, reached_letters t q u v reach, final)
+  pub letters_related : (t : Machine) (u v : List ℕ) → Relates read t u v → Relates (λ k. k) t (map read u) (map read v)
+  letters_related t u v (q, reach, final) = (q, letters_reached t q u v reach, final)
 
   -- ---- from letters to symbols
 
@@ -74,12 +74,12 @@ module _ (read : ℕ → ℕ) where
               (reach_step read t p q before.0 parts.0 made.0 parts.1 before.2 (step.0, step.1, made.2)),
         )
 
-    pub reached_symbols : (q : ℕ) (letters v : List ℕ) → ReachR (λ k. k) t q letters (map read v) → (u : List ℕ) × (map read u ≡ letters) × ReachR read t q u v
-    reached_symbols q letters v reach =
+    pub symbols_reached : (q : ℕ) (letters v : List ℕ) → ReachR (λ k. k) t q letters (map read v) → (u : List ℕ) × (map read u ≡ letters) × ReachR read t q u v
+    symbols_reached q letters v reach =
         reach_each (λ k. k) t Lifted (λ p q letters written input output before lifted step. lifted_step p q letters written input output lifted step)
         (λ v e. ([], refl, subst (λ w. ReachR read t t.start [] w) (sym (no_word read v e)) (reach_start read t))) q letters (map read v) reach v refl
 
-    pub related_symbols : (letters v : List ℕ) → Relates (λ k. k) t letters (map read v) → (u : List ℕ) × (map read u ≡ letters) × Relates read t u v
-    related_symbols letters v (q, reach, final) =
-        let found = reached_symbols q letters v reach in
+    pub symbols_related : (letters v : List ℕ) → Relates (λ k. k) t letters (map read v) → (u : List ℕ) × (map read u ≡ letters) × Relates read t u v
+    symbols_related letters v (q, reach, final) =
+        let found = symbols_reached q letters v reach in
         (found.0, found.1, (q, found.2, final))

@@ -1,9 +1,9 @@
 -- What an automaton reads that stands for what a transducer writes.
 use Rattle.std.proofs.Common.{◌≡◌, ℕ, zero, suc, ◌<◌, ◌↔◌, Bool, true, false, if◌then◌else◌, List, [], ◌∷◌, ◌++◌, length, get_or, map, Option, None, Some, Result, Ok, Err, IfOk, refl, sym, ap, ◌∙◌, subst, inl, inr, arith, length-append}
-use Rattle.std.specs.List.{All, Contains, list_any, flat_map}
+use Rattle.std.specs.List.{All, Contains, list_any}
 use Rattle.std.specs.Option.{option_to_list}
-use Rattle.std.proofs.lemmas.Bool.{cases_Bool, cases_lt, false≢true}
-use Rattle.std.proofs.lemmas.List.{append-nil, get_or_past, length-map, map-append}
+use Rattle.std.proofs.lemmas.Bool.{false≢true}
+use Rattle.std.proofs.lemmas.List.{append-nil, length-map, map-append}
 use Rattle.std.proofs.lemmas.List.Elements.{All-map, All-weaker, Contains-get_or, All-contains}
 use Rattle.rela_labels.specs.Letters.{has}
 use Rattle.rela_nfa.specs.Automaton.{Automaton, Move as Edge, IsAutomaton, IsMove as IsEdge, moves_of as edges_of, states}
@@ -19,7 +19,7 @@ use Rattle.rela_trans.specs.Runs.{Does, HasStep, ReachR, Relates}
 use Rattle.rela_trans.specs.declared.moves.Move.{Move}
 use Rattle.rela_trans.specs.declared.moves.MoveKind.TheVariants.{Silent, In, Out, Same}
 use Rattle.rela_trans.proofs.Accessors.{moves_ok}
-use Rattle.rela_trans.proofs.KindsTogether.{no_symbol, has_below}
+use Rattle.rela_trans.proofs.KindsTogether.{has_below}
 use Rattle.rela_trans.proofs.MappedWords.{no_word}
 use Rattle.rela_trans.proofs.Reaching.{reach_start, reach_step, reach_each}
 
