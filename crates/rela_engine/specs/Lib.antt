@@ -1,0 +1,5 @@
+pub mod Reading
+pub mod Named
+pub mod Blocks
+pub mod Compilation
+pub mod Lettering
