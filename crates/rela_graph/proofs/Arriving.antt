@@ -12,13 +12,13 @@ use Rattle.rela_graph.proofs.Squeezing.{squeeze_same, squeeze_other, squeeze_las
 use Rattle.rela_graph.proofs.Walking.{ending, walk_on, walk_back}
 
 module _ (g : Topology) (places : List ℕ) where
-  base_same : (xs : List ℕ) (u n : ℕ) → slice_index places u ≡ slice_index places n → base places ((xs ++ u ∷ []) ++ n ∷ []) ≡ base places (xs ++ u ∷ [])
+  pub base_same : (xs : List ℕ) (u n : ℕ) → slice_index places u ≡ slice_index places n → base places ((xs ++ u ∷ []) ++ n ∷ []) ≡ base places (xs ++ u ∷ [])
   base_same xs u n e =
       let p : ℕ → ℕ = λ m. slice_index places m in
       let first : map p ((xs ++ u ∷ []) ++ n ∷ []) ≡ (map p xs ++ p u ∷ []) ++ p n ∷ [] = map_push p (xs ++ u ∷ []) n ∙ ap (λ l. l ++ p n ∷ []) (map_push p xs u) in
       ap squeeze first ∙ squeeze_same (map p xs) (p u) (p n) e ∙ ap squeeze (sym (map_push p xs u))
 
-  base_other : (xs : List ℕ) (u n : ℕ) → slice_index places u ≢ slice_index places n
+  pub base_other : (xs : List ℕ) (u n : ℕ) → slice_index places u ≢ slice_index places n
       → base places ((xs ++ u ∷ []) ++ n ∷ []) ≡ base places (xs ++ u ∷ []) ++ slice_index places n ∷ []
   base_other xs u n ne =
       let p : ℕ → ℕ = λ m. slice_index places m in
@@ -32,10 +32,10 @@ module _ (g : Topology) (places : List ℕ) where
       let last = squeeze_last (map p xs) (p n) in
       (last.0, ap squeeze (map_push p xs n) ∙ last.1)
 
-  arrive_same : (u n : ℕ) (w : List ℕ) → Arrives g places u w → HasEdge g u n → slice_index places u ≡ slice_index places n → Arrives g places n w
+  pub arrive_same : (u n : ℕ) (w : List ℕ) → Arrives g places u w → HasEdge g u n → slice_index places u ≡ slice_index places n → Arrives g places n w
   arrive_same u n w a e same = (a.0 ++ u ∷ [], walk_on g a.0 u n a.1 e, base_same a.0 u n same ∙ a.2)
 
-  arrive_other : (u n s : ℕ) (w : List ℕ) → Arrives g places u w → HasEdge g u n → slice_index places u ≢ s → slice_index places n ≡ s → Arrives g places n (w ++ s ∷ [])
+  pub arrive_other : (u n s : ℕ) (w : List ℕ) → Arrives g places u w → HasEdge g u n → slice_index places u ≢ s → slice_index places n ≡ s → Arrives g places n (w ++ s ∷ [])
   arrive_other u n s w a e other has =
       let apart : slice_index places u ≢ slice_index places n = λ same. other (same ∙ has) in
       (a.0 ++ u ∷ [], walk_on g a.0 u n a.1 e, base_other a.0 u n apart ∙ ap (λ l. l ++ slice_index places n ∷ []) a.2 ∙ ap (λ p. w ++ p ∷ []) has)

@@ -11,3 +11,8 @@ pub mod Cycling
 pub mod Claiming
 pub mod Entering
 pub mod Chaining
+pub mod Lettered
+pub mod Unrolling
+pub mod Blocked
+pub mod Reading
+pub mod PathWords

@@ -13,11 +13,11 @@ use Rattle.rela_graph.proofs.Arriving.{base_last}
 use Rattle.rela_graph.proofs.Flagged.{flag_within}
 use Rattle.rela_graph.proofs.Walking.{ending, walk_back}
 
-edge_node : (g : Topology) → IsTopology g → (a b : ℕ) → HasEdge g a b → b < length g.nodes
+pub edge_node : (g : Topology) → IsTopology g → (a b : ℕ) → HasEdge g a b → b < length g.nodes
 edge_node g is a b e = (All-contains (JoinsNodes (length g.nodes)) g.edges (record { a = a; b = b }) is.joins e).1
 
 -- a walk ends at a node
-walk_node : (g : Topology) → IsTopology g → (xs : List ℕ) (n : ℕ) → IsWalk g (xs ++ n ∷ []) → n < length g.nodes
+pub walk_node : (g : Topology) → IsTopology g → (xs : List ℕ) (n : ℕ) → IsWalk g (xs ++ n ∷ []) → n < length g.nodes
 walk_node g is [] n w = let within = flag_within g.starts n w.0 in let len = is.starts in omega arith
 walk_node g is (x ∷ xs) n w =
     let e = ending x xs in

@@ -1,10 +1,13 @@
 pub mod Adjacency
+pub mod Alone
 pub mod Component
 pub mod Incoming
+pub mod Lettering
 pub mod NodeSet
 pub mod Paths
 pub mod Spread
 pub mod Stored
 pub mod Topology
+pub mod Unrolled
 pub mod Visit
 pub mod Walk

@@ -1,5 +1,5 @@
 -- The words that the walks of a graph give.
-use Rattle.std.specs.Prelude.{◌≡◌, ℕ, ◌+◌, ◌⊎◌, ◌==◌, if◌then◌else◌, List, [], ◌∷◌, ◌++◌, length, map, slice_index}
+use Rattle.std.specs.Prelude.{◌≡◌, ◌≢◌, ℕ, ◌+◌, ◌⊎◌, ◌==◌, if◌then◌else◌, List, [], ◌∷◌, ◌++◌, length, map, slice_index}
 use Rattle.rela_names.specs.declared.level.Level.{Level}
 use Rattle.rela_graph.specs.Topology.{Topology, IsDelivered, symbol_at}
 use Rattle.rela_graph.specs.Walk.{IsWalk, IsCyclic, IsDropNode}
@@ -38,3 +38,9 @@ IsEnding g alphabet n ending =
 abbrev pub Paths : Topology → Level → List (List ℕ) → List ℕ → Type 0
 Paths g level alphabet word =
     (n : ℕ) × (front : List ℕ) × (ending : List ℕ) × Arrives g (locations g level) n front × IsEnding g alphabet n ending × (word ≡ front ++ ending)
+
+-- the paths that don't deliver: the base word of some walk, and then the `drop` or `loop` that its last
+-- node lets follow
+abbrev pub Undelivered : Topology → Level → List (List ℕ) → List ℕ → Type 0
+Undelivered g level alphabet word =
+    (n : ℕ) × (front : List ℕ) × (ending : List ℕ) × Arrives g (locations g level) n front × IsEnding g alphabet n ending × (ending ≢ []) × (word ≡ front ++ ending)

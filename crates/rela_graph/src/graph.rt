@@ -60,6 +60,7 @@ impl Graph {
         requires starts_exist { All (λ n. n < length nodes.items) starts.now }
         requires delivered_exist { All (λ n. n < length nodes.items) delivered.now }
         requires dropped_exist { All (λ n. n < length nodes.items) dropped.now }
+        ensures topology { IfOk result IsTopology }
         ensures nodes { IfOk result (λ graph. graph.nodes ≡ nodes.items) }
         ensures edges { IfOk result (λ graph. (a b : ℕ) → HasEdge graph a b ↔ Contains edges.now (record { a = a; b = b })) }
         ensures starts { IfOk result (λ graph. (n : ℕ) → IsStart graph n ↔ Contains starts.now n) }
@@ -120,6 +121,14 @@ impl Graph {
         ensures node { IsTrue result → n < length self.now.nodes }
     {
         self.dropped.get(n as usize).copied().unwrap_or(false)
+    }
+
+    /// For each node whether it is listed as one that delivers.
+    pub(crate) fn delivered(&self) -> &[bool]
+        ensures delivered { result.now ≡ self.now.delivered }
+        ensures topology { IsTopology self.now }
+    {
+        self.delivered.as_slice()
     }
 
     /// The edges, by the node that they come from and then by the node that they lead to.

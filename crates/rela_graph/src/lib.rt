@@ -1,12 +1,14 @@
 //! Forwarding graphs: their walks, their cycles and the paths that they allow.
 #![tactic(auto)]
 
+mod automaton;
 mod claimed;
 mod component;
 mod cycle;
 mod graph;
 mod incoming;
 mod leaving;
+mod letters;
 mod node;
 mod node_set;
 mod path;

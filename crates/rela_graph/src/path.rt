@@ -63,7 +63,7 @@ impl Graph {
 
     /// Whether traffic is dropped at the node: it is listed as one that drops, or has no edge out and
     /// isn't listed as one that delivers.
-    fn is_drop_node(&self, n: u32) -> bool
+    pub(crate) fn is_drop_node(&self, n: u32) -> bool
         requires { n < length self.now.nodes }
         ensures { IsTrue result ↔ IsDropNode self.now n }
     {

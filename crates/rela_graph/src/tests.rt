@@ -1,10 +1,13 @@
 ghost use Rattle.std.specs.Prelude.{◌≡◌, ◌<◌, ◌≤◌, IfOk, length};
+ghost use Rattle.std.specs.Bool.{OnTrue};
 ghost use Rattle.std.specs.List.{All};
-ghost use Rattle.rela_graph.specs.Topology.{JoinsNodes};
+ghost use Rattle.rela_graph.specs.Topology.{JoinsNodes, symbol_at};
 
 use crate::node::symbol_at;
 use crate::{Graph, Link, Node};
+use rela_labels::{Partition, WideSet};
 use rela_names::{Alphabet, Level, Name, Symbol};
+use rela_nfa::Nfa;
 use std::alloc::Global;
 use std::test::Fail;
 
@@ -89,6 +92,17 @@ fn links(alloc: Global, pairs: &[(u32, u32)], count: usize) -> Result<Vec<Link>,
     Ok(links)
 }
 
+/// Whether the alphabet has each node's symbol.
+fn is_placed(graph: &Graph, level: Level, alphabet: &Alphabet) -> bool
+    ensures { OnTrue result (All (λ node. symbol_at level node < length alphabet.now) graph.now.nodes) }
+{
+    let locations = alphabet.drop_symbol();
+    graph
+        .nodes()
+        .iter()
+        .all(|node| symbol_at(node, level) < locations)
+}
+
 /// Whether the word is a path, where the alphabet has each node's symbol.
 fn is_path(
     alloc: Global,
@@ -97,12 +111,20 @@ fn is_path(
     alphabet: &Alphabet,
     word: &[Symbol],
 ) -> Result<bool, Fail> {
-    for node in graph.nodes() {
-        if symbol_at(node, level) >= alphabet.drop_symbol() {
-            return Ok(false);
-        }
+    if !is_placed(graph, level, alphabet) {
+        return Ok(false);
     }
     Ok(graph.has_path(alloc, level, alphabet, word)?)
+}
+
+/// Whether the automaton of the graph's devices accepts the word, where each symbol is a letter.
+fn reads(alloc: Global, graph: &Graph, alphabet: &Alphabet, word: &[Symbol]) -> Result<bool, Fail> {
+    if !is_placed(graph, Level::Device, alphabet) {
+        return Ok(false);
+    }
+    let blocks = Partition::finest(alloc, alphabet.len())?;
+    let nfa: Nfa<WideSet> = graph.to_nfa(alloc, Level::Device, alphabet, &blocks)?;
+    Ok(nfa.accepts(alloc, word)?)
 }
 
 #[test]
@@ -189,5 +211,31 @@ fn a_way_round_and_a_level(rt: HostRuntime) -> Result<(), Fail> {
     )?;
     assert!(rt; is_path(alloc, &g, Level::Group, &groups, &[1, 0, 1])?);
     assert!(rt; !is_path(alloc, &g, Level::Group, &groups, &[1, 0, 0, 1])?);
+    Ok(())
+}
+
+#[test]
+fn automata(rt: HostRuntime) -> Result<(), Fail> {
+    let alloc = rt.alloc();
+    let devices = devices(alloc)?;
+    let nodes = [R1, R2, R4, R4_OUT];
+    let p2 = graph(alloc, &nodes, &[(0, 1), (1, 2), (2, 3)], 3)?;
+    assert!(rt; reads(alloc, &p2, &devices, &[0, 1, 3])?);
+    assert!(rt; !reads(alloc, &p2, &devices, &[0, 1])?);
+    assert!(rt; !reads(alloc, &p2, &devices, &[0, 1, 3, LOOP])?);
+    let c2 = graph(alloc, &nodes, &[(0, 1), (1, 2), (2, 3), (3, 2)], 3)?;
+    assert!(rt; reads(alloc, &c2, &devices, &[0, 1, 3, LOOP])?);
+    assert!(rt; !reads(alloc, &c2, &devices, &[0, 1, 3, DROP])?);
+    let x1 = graph(alloc, &[R1, R2], &[], 1)?;
+    assert!(rt; reads(alloc, &x1, &devices, &[0, DROP])?);
+    let no_start = Graph::new(
+        alloc,
+        Vec::from_slice(alloc, &[R1, R4])?,
+        &[Link { a: 0, b: 1 }],
+        &[],
+        &[1],
+        &[],
+    )?;
+    assert!(rt; !reads(alloc, &no_start, &devices, &[0, 3])?);
     Ok(())
 }

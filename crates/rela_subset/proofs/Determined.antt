@@ -17,7 +17,7 @@ use Rattle.rela_subset.specs.Expansion.{IsExplored, IsOut, IsUpTo}
 use Rattle.rela_subset.specs.Sets.{AreDistinct, HasFinal, Lists, NextFrom, ReachedBy}
 use Rattle.rela_subset.specs.Subsets.{AreApart, ReachSame, ReachSets}
 use Rattle.rela_subset.proofs.Ascending.{same_lists}
-use Rattle.rela_subset.proofs.Exploring.{before_upto, upto_push, upto_transitive}
+use Rattle.rela_subset.proofs.LastLetters.{before_upto, upto_push, upto_transitive}
 use Rattle.rela_subset.proofs.Reached.{reached_next}
 
 module _ (a : Automaton) (over : List Bool) (sets : List (List ℕ)) (d : Deterministic) (is : IsExplored a over sets d.edges)
@@ -32,7 +32,7 @@ module _ (a : Automaton) (over : List Bool) (sets : List (List ℕ)) (d : Determ
   determined = record {
     automaton = record {
       each = all ∙ sym each;
-      starts = let some = is.some in omega arith;
+      starts = let some = is.found.some in omega arith;
       moves = subst (λ n. All (All (IsMove (length d.over) n)) d.edges) (sym each)
           (subst (λ o. All (All (IsMove (length o) (length sets))) d.edges) (sym over_is) (each_edges (All (IsMove (length over) (length sets))) (λ q below. (out_of q below).edges.sized)));
     };
@@ -51,9 +51,9 @@ module _ (a : Automaton) (over : List Bool) (sets : List (List ℕ)) (d : Determ
       let lead = (out_of q below).leads k read in
       let at : lead.to ≡ next d q k = sym (ap (λ o. unwrap_or o 0) lead.by) in
       record {
-        within = subst (λ n. n < length sets) at lead.within;
-        follows = subst (λ n. Lists (NextFrom a (get_or sets q []) k) (get_or sets n [])) at lead.follows;
-        early = subst (λ n. IsUpTo (get_or is.words n []) (get_or is.words q [] ++ k ∷ [])) at lead.early;
+        within = subst (λ n. n < length sets) at lead.arrives.within;
+        follows = subst (λ n. Lists (NextFrom a (get_or sets q []) k) (get_or sets n [])) at lead.arrives.follows;
+        early = subst (λ n. IsUpTo (get_or is.words n []) (get_or is.words q [] ++ k ∷ [])) at lead.arrives.early;
       }
 
   -- where a word has led
@@ -75,9 +75,9 @@ module _ (a : Automaton) (over : List Bool) (sets : List (List ℕ)) (d : Determ
 
   stands : (word : List ℕ) → IsOver over word → Stands (state_after d word) word
   stands word read = stands_on word d.start [] (subst (λ q. Stands q []) (sym start) (record {
-    within = is.some;
-    reached = subst (λ w. Lists (ReachedBy a w) (get_or sets 0 [])) is.first (is.reached 0 is.some);
-    early = inl is.first;
+    within = is.found.some;
+    reached = subst (λ w. Lists (ReachedBy a w) (get_or sets 0 [])) is.found.first (is.found.reached 0 is.found.some);
+    early = inl is.found.first;
   })) read
 
   -- sets that are the same have the same number
@@ -100,11 +100,11 @@ module _ (a : Automaton) (over : List Bool) (sets : List (List ℕ)) (d : Determ
   word_leads : (q : ℕ) → q < length sets → LeadsTo d q (get_or is.words q [])
   word_leads q below =
       let word = get_or is.words q [] in
-      let read = is.read q below in
+      let read = is.found.read q below in
       let at = stands word read in (
         subst (λ o. IsOver o word) (sym over_is) read,
         one_number (state_after d word) q at.within below
-            (same_lists (ReachedBy a word) (ReachedBy a word) (get_or sets (state_after d word) []) (get_or sets q []) at.reached (is.reached q below) (λ p. (λ r. r, λ r. r))),
+            (same_lists (ReachedBy a word) (ReachedBy a word) (get_or sets (state_after d word) []) (get_or sets q []) at.reached (is.found.reached q below) (λ p. (λ r. r, λ r. r))),
       )
 
   pub reachable : IsReachable d
@@ -117,7 +117,7 @@ module _ (a : Automaton) (over : List Bool) (sets : List (List ℕ)) (d : Determ
       let early : IsUpTo (get_or is.words q []) word = subst (λ n. IsUpTo (get_or is.words n []) word) leads.1 at.early in (
         get_or is.words p [],
         word_leads p (omega arith),
-        before_upto (get_or is.words p []) (get_or is.words q []) word (is.ascending p q before within) early,
+        before_upto (get_or is.words p []) (get_or is.words q []) word (is.found.ascending p q before within) early,
       )
 
   pub accepted : ((i : ℕ) → i < length sets → IsTrue (get_or d.finals i false) ↔ HasFinal a (get_or sets i [])) → (word : List ℕ) → IsAccepted d word ↔ (IsOver over word × Accepts a word)

@@ -1,4 +1,5 @@
 pub mod Ascending
+pub mod Blocks
 pub mod Bundling
 pub mod Closing
 pub mod Determined
@@ -6,11 +7,17 @@ pub mod Ends
 pub mod Expanding
 pub mod Exploring
 pub mod Fewer
+pub mod Finding
 pub mod Following
+pub mod Growing
+pub mod LastLetters
 pub mod Narrowing
 pub mod Placing
 pub mod Reached
+pub mod Searching
 pub mod SetsFound
+pub mod SetsSpread
+pub mod Standing
 pub mod Targets
 pub mod Views
 pub mod Visiting

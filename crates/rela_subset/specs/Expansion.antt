@@ -37,13 +37,17 @@ pub record HasGrown (a : Automaton) (over : List Bool) (set : List ℕ) (old new
   pub read : All (λ letter. has over letter ≡ true) letters
   pub found : (i : ℕ) → i < length letters → Lists (NextFrom a set (slice_index letters i)) (slice_index_or more i [])
 
--- the letter leads to the set that follows by it: an old one, or one found by that letter or an earlier one
-pub record Leads (a : Automaton) (set : List ℕ) (old new : List (List ℕ)) (letters : List ℕ) (moves : List Move) (letter : ℕ) : Type 0 where
-  pub to : ℕ
-  pub by : target moves letter ≡ Some to
+-- the letter leads from the set to the one of this number: an old one, or one found by that letter or an earlier one
+pub record Comes (a : Automaton) (set : List ℕ) (old new : List (List ℕ)) (letters : List ℕ) (letter to : ℕ) : Type 0 where
   pub within : to < length new
   pub follows : Lists (NextFrom a set letter) (slice_index_or new to [])
   pub early : (to < length old) ⊎ ((i : ℕ) × (i < length letters) × (to ≡ length old + i) × (slice_index letters i ≤ letter))
+
+-- the edge by the letter leads to where it comes
+pub record Leads (a : Automaton) (set : List ℕ) (old new : List (List ℕ)) (letters : List ℕ) (moves : List Move) (letter : ℕ) : Type 0 where
+  pub to : ℕ
+  pub by : target moves letter ≡ Some to
+  pub comes : Comes a set old new letters letter to
 
 -- edges with labels of the size, to states below the number
 pub record AreLabelled (size states : ℕ) (moves : List Move) : Type 0 where
@@ -64,17 +68,21 @@ pub record IsExpanded (a : Automaton) (over rest : List Bool) (set : List ℕ) (
 abbrev pub IsExpandedOver : Automaton → List Bool → List ℕ → List (List ℕ) → List (List ℕ) → List Move → Type 0
 IsExpandedOver a over set old new moves = (rest : List Bool) × ((letter : ℕ) → has rest letter ≡ false) × IsExpanded a over rest set old new moves
 
--- the word is not before the other
+-- the word is not after the other
 abbrev pub IsUpTo : List ℕ → List ℕ → Type 0
 IsUpTo u v = (u ≡ v) ⊎ IsBefore u v
 
--- the letter leads from a set to the set that follows, which the word reached first that comes to it
-pub record Follows (a : Automaton) (sets words : List (List ℕ)) (i : ℕ) (moves : List Move) (letter : ℕ) : Type 0 where
-  pub to : ℕ
-  pub by : target moves letter ≡ Some to
+-- the letter leads from the set of one number to that of another, which the word reached first that comes to it
+pub record Arrives (a : Automaton) (sets words : List (List ℕ)) (i letter to : ℕ) : Type 0 where
   pub within : to < length sets
   pub follows : Lists (NextFrom a (slice_index_or sets i []) letter) (slice_index_or sets to [])
   pub early : IsUpTo (slice_index_or words to []) (slice_index_or words i [] ++ letter ∷ [])
+
+-- the edge by the letter leads to where it arrives
+pub record Follows (a : Automaton) (sets words : List (List ℕ)) (i : ℕ) (moves : List Move) (letter : ℕ) : Type 0 where
+  pub to : ℕ
+  pub by : target moves letter ≡ Some to
+  pub arrives : Arrives a sets words i letter to
 
 -- the edges out of the set of this number
 pub record IsOut (a : Automaton) (over : List Bool) (sets words : List (List ℕ)) (i : ℕ) (moves : List Move) : Type 0 where
@@ -82,9 +90,8 @@ pub record IsOut (a : Automaton) (over : List Bool) (sets words : List (List ℕ
   pub split : IsSplit over moves
   pub leads : (letter : ℕ) → has over letter ≡ true → Follows a sets words i moves letter
 
--- the sets so far, the word by which each was found, and the edges of those that have been left
-pub record IsExplored (a : Automaton) (over : List Bool) (sets : List (List ℕ)) (edges : List (List Move)) : Type 0 where
-  pub words : List (List ℕ)
+-- the sets so far and the word by which each was found, where those before `left` have been left by each letter
+pub record AreFound (a : Automaton) (over : List Bool) (sets words : List (List ℕ)) (left : ℕ) : Type 0 where
   pub each : length words ≡ length sets
   pub some : 0 < length sets
   pub first : slice_index_or words 0 [] ≡ []
@@ -92,6 +99,11 @@ pub record IsExplored (a : Automaton) (over : List Bool) (sets : List (List ℕ)
   pub reached : (i : ℕ) → i < length sets → Lists (ReachedBy a (slice_index_or words i [])) (slice_index_or sets i [])
   pub ascending : (i j : ℕ) → i < j → j < length sets → IsBefore (slice_index_or words i []) (slice_index_or words j [])
   pub grown : (i : ℕ) → 0 < i → i < length sets
-      → (p : ℕ) × (letter : ℕ) × (p < length edges) × (slice_index_or words i [] ≡ slice_index_or words p [] ++ letter ∷ [])
-  pub few : length edges ≤ length sets
+      → (p : ℕ) × (letter : ℕ) × (p < left) × (slice_index_or words i [] ≡ slice_index_or words p [] ++ letter ∷ [])
+  pub few : left ≤ length sets
+
+-- the sets so far, and the edges of those that have been left
+pub record IsExplored (a : Automaton) (over : List Bool) (sets : List (List ℕ)) (edges : List (List Move)) : Type 0 where
+  pub words : List (List ℕ)
+  pub found : AreFound a over sets words (length edges)
   pub out : (i : ℕ) → i < length edges → IsOut a over sets words i (slice_index_or edges i [])

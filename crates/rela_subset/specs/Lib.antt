@@ -1,5 +1,6 @@
 pub mod Deterministic
 pub mod Expansion
+pub mod Searching
 pub mod Sets
 pub mod Stored
 pub mod Subsets

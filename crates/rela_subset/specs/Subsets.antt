@@ -3,7 +3,9 @@ use Rattle.std.specs.Prelude.{◌≡◌, ℕ, ◌⊎◌, ◌↔◌, Bool, List, 
 use Rattle.std.specs.List.{All, AllPairs}
 use Rattle.rela_nfa.specs.Automaton.{Automaton}
 use Rattle.rela_nfa.specs.Runs.{Reach}
+use Rattle.rela_names.specs.Shortlex.{IsBefore}
 use Rattle.rela_subset.specs.Deterministic.{IsOver}
+use Rattle.rela_subset.specs.Sets.{Lists, ReachedBy}
 
 -- the two words reach the same states
 abbrev pub ReachSame : Automaton → List ℕ → List ℕ → Type 0
@@ -19,3 +21,21 @@ pub record ReachSets (a : Automaton) (over : List Bool) (n : ℕ) : Type 0 where
   pub count : length words ≡ n
   pub letters : All (IsOver over) words
   pub apart : AllPairs (AreApart a) words
+
+-- the set of the states that the word reaches has the property
+abbrev pub LeadsInto : Automaton → (List ℕ → Type 0) → List ℕ → Type 0
+LeadsInto a P word = (set : List ℕ) × Lists (ReachedBy a word) set × P set
+
+-- the word is over the letters, and the set of the states that it reaches is wanted
+abbrev pub IsWantedWord : Automaton → List Bool → (List ℕ → Type 0) → List ℕ → Type 0
+IsWantedWord a over wants word = IsOver over word × LeadsInto a wants word
+
+-- the word leads to a set that is not wanted
+abbrev pub IsUnwantedWord : Automaton → (List ℕ → Type 0) → List ℕ → Type 0
+IsUnwantedWord a wants word = LeadsInto a (λ set. ¬ wants set) word
+
+-- words over the letters reach at least n sets of states, and none of these words comes after a wanted one: each
+-- word over the letters that is before one of them leads to a set that is not wanted
+pub record ReachSetsBefore (a : Automaton) (over : List Bool) (wants : List ℕ → Type 0) (n : ℕ) : Type 0 where
+  pub sets : ReachSets a over n
+  pub early : All (λ w. (v : List ℕ) → IsOver over v → IsBefore v w → IsUnwantedWord a wants v) sets.words

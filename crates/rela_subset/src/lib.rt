@@ -1,7 +1,9 @@
-//! Deterministic automata: the sets of states that an automaton reaches, and the complement.
+//! Deterministic automata: the sets of states that an automaton reaches, the first word that reaches
+//! a wanted one, and the complement.
 #![tactic(auto)]
 
 mod alike;
+mod arrival;
 mod bundle;
 mod closure;
 mod construction;
@@ -9,12 +11,17 @@ mod copies;
 mod dfa;
 mod expansion;
 mod opposite;
+mod search;
+mod spreading;
 mod state_sets;
+mod wanted;
 
 pub use construction::determinise;
 pub use dfa::Dfa;
 pub use opposite::complement;
 pub use rela_nfa::BuildError;
+pub use search::first_word;
+pub use wanted::Wanted;
 
 #[cfg(test)]
 mod tests;

@@ -9,6 +9,19 @@ use std::test::Fail;
 
 type Letters = BlockSet<1>;
 
+/// The sets of this many states.
+struct OfSize {
+    size: usize,
+}
+
+impl Wanted for OfSize {
+    ghost wants = { λ of set. length set ≡ of.size };
+
+    fn is_wanted(&self, set: &[usize]) -> bool {
+        set.len() == self.size
+    }
+}
+
 fn set_of(alloc: Global, letters: &[u32]) -> Result<Letters, AllocError>
     ensures { IfOk result (λ set. length set ≡ 3) }
 {
@@ -73,5 +86,22 @@ fn as_many_states_as_the_limit(rt: HostRuntime) -> Result<(), Fail> {
     assert_eq!(rt; determinise(alloc, &words, &all, states)?.states(), states);
     let refused = determinise(alloc, &words, &all, states - 1);
     assert!(rt; matches!(refused, Err(BuildError::Limit)));
+    Ok(())
+}
+
+#[test]
+fn first_words(rt: HostRuntime) -> Result<(), Fail> {
+    let alloc = rt.alloc();
+    let all = set_of(alloc, &[0, 1, 2])?;
+    let word: Nfa<Letters> = Nfa::word(alloc, 3, &[1, 2])?;
+    // The sets are those of the empty word, of 0, of 1 and of 1 2.
+    let lost = first_word(alloc, &word, &all, &OfSize { size: 0 }, 1)?;
+    assert!(rt; lost.is_some_and(|found| found.as_slice() == [0].as_slice()));
+    assert!(rt; first_word(alloc, &word, &all, &OfSize { size: 2 }, 4)?.is_none());
+    let refused = first_word(alloc, &word, &all, &OfSize { size: 2 }, 3);
+    assert!(rt; matches!(refused, Err(BuildError::Limit)));
+    let last = word.union(alloc, &Nfa::word(alloc, 3, &[1, 2, 0])?)?;
+    let pair = first_word(alloc, &last, &all, &OfSize { size: 2 }, 100)?;
+    assert!(rt; pair.is_some_and(|found| found.as_slice() == [1].as_slice()));
     Ok(())
 }

@@ -1,6 +1,7 @@
 use Rattle.std.proofs.Common.{length, ap, sym, ◌∙◌}
 use Rattle.std.proofs.lemmas.Result.{err_from_is_err_and}
-use Rattle.rela_subset.proofs.Expanding.{expanded_none, expanded_more, grown_last, itself}
+use Rattle.rela_subset.proofs.Blocks.{itself}
+use Rattle.rela_subset.proofs.Expanding.{expanded_none, expanded_more, grown_last}
 use Rattle.rela_subset.proofs.Fewer.{fewer_left}
 use Rattle.rela_subset.proofs.expansion.expand.Goals as goal
 

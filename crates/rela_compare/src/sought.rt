@@ -1,0 +1,66 @@
+//! The words that are looked for, told by the states of a union that they reach.
+ghost use Rattle.std.specs.Prelude.{◌≡◌, ℕ, ◌+◌, ◌↔◌, IsTrue};
+ghost use Rattle.rela_nfa.specs.Automaton.{IsFinal};
+ghost use Rattle.rela_compare.specs.Halves.{HasFinalFrom, IsSought};
+
+use rela_labels::LabelSet;
+use rela_nfa::Nfa;
+use rela_subset::Wanted;
+
+/// Which words are looked for: those that the first of two automata alone accepts, or those that
+/// either one alone does.
+#[derive(Clone, Copy, Debug)]
+pub(crate) enum Sought {
+    FirstAlone,
+    EitherAlone,
+}
+
+/// The sets of states of the union of two automata that a sought word reaches.
+#[derive(Drop)]
+pub(crate) struct SoughtSets<'a, L: LabelSet> {
+    pub(crate) first: &'a Nfa<L>,
+    pub(crate) second: &'a Nfa<L>,
+    // the state of the union with which the copies of the second one's states begin; those of the
+    // first one's begin with state 1
+    pub(crate) split: usize,
+    pub(crate) sought: Sought,
+}
+
+impl<'a, L: LabelSet> Wanted for SoughtSets<'a, L> {
+    ghost wants = { λ sets set. IsSought sets.sought (HasFinalFrom sets.first.now 1 set) (HasFinalFrom sets.second.now sets.split set) };
+
+    fn is_wanted(&self, set: &[usize]) -> bool {
+        let in_first = has_final(self.first, 1, set);
+        let in_second = has_final(self.second, self.split, set);
+        is_sought(self.sought, in_first, in_second)
+    }
+}
+
+/// Whether a word is sought that these of the two automata accept.
+fn is_sought(sought: Sought, in_first: bool, in_second: bool) -> bool
+    ensures { IsTrue result ↔ IsSought sought (IsTrue in_first) (IsTrue in_second) }
+{
+    match sought {
+        Sought::FirstAlone => in_first && !in_second,
+        Sought::EitherAlone => in_first != in_second,
+    }
+}
+
+/// Whether a state of the set is the copy of a final one, where the copies begin with this number.
+fn has_final<L: LabelSet>(a: &Nfa<L>, from: usize, set: &[usize]) -> bool
+    ensures { IsTrue result ↔ HasFinalFrom a.now from set.now }
+{
+    for state in set {
+        if is_final_copy(a, from, *state) {
+            return true;
+        }
+    }
+    false
+}
+
+/// Whether the state is such a copy.
+fn is_final_copy<L: LabelSet>(a: &Nfa<L>, from: usize, state: usize) -> bool
+    ensures { IsTrue result ↔ ((q : ℕ) × (from + q ≡ state) × IsFinal a.now q) }
+{
+    state >= from && state - from < a.states() && a.is_final(state - from)
+}

@@ -1,0 +1,130 @@
+//! The first word that leads to a set of states with a property.
+ghost use Rattle.std.specs.Prelude.{◌≡◌, ℕ, ◌+◌, ◌^◌, ◌<◌, ◌≤◌, Bool, List, [], IfOk, IfErr, IfSome, IfNone, length, slice_index_or};
+ghost use Rattle.rela_names.specs.Shortlex.{First, IsBefore};
+ghost use Rattle.rela_nfa.specs.Automaton.{IsAutomaton};
+ghost use Rattle.rela_subset.specs.Deterministic.{IsOver};
+ghost use Rattle.rela_subset.specs.Searching.{AreTraced, AreUnwanted, IsFirstAt, IsSearched};
+ghost use Rattle.rela_subset.specs.declared.arrival.Arrival.{Arrival};
+ghost use Rattle.rela_subset.specs.Subsets.{IsUnwantedWord, IsWantedWord, ReachSetsBefore};
+
+use crate::arrival::Arrival;
+use crate::closure::closure;
+use crate::spreading::spread;
+use crate::state_sets::StateSets;
+use crate::wanted::Wanted;
+use rela_labels::LabelSet;
+use rela_names::Word;
+use rela_nfa::{BuildError, Nfa};
+use std::alloc::{AllocError, Global};
+
+/// The first word over these letters, in shortlex order, for which the set of the states that it
+/// reaches is wanted, and `None` where there is no such word. Sets are found as by
+/// [`determinise`](crate::determinise), and looked at as they are found: the search ends at the
+/// first that is wanted.
+///
+/// # Errors
+///
+/// - `Limit` only where words over the letters reach more than `limit` sets of states before a
+///   wanted one; never for the greatest limit.
+/// - `Memory` where there isn't memory for them.
+pub fn first_word<L: LabelSet, W: Wanted>(
+    alloc: Global,
+    a: &Nfa<L>,
+    over: &L,
+    wanted: &W,
+    limit: usize,
+) -> Result<Option<Word>, BuildError>
+    requires letters { length (L.letters over.now) ≡ a.now.letters }
+    requires limit { 1 ≤ limit }
+    ensures first { IfOk result (λ found. IfSome found (First (IsWantedWord a.now (L.letters over.now) (W.wants wanted.now)))) }
+    ensures before { IfOk result (λ found. IfSome found (λ word. (v : List ℕ) → IsOver (L.letters over.now) v → IsBefore v word
+        → IsUnwantedWord a.now (W.wants wanted.now) v)) }
+    ensures none { IfOk result (λ found. IfNone found ((v : List ℕ) → IsOver (L.letters over.now) v → IsUnwantedWord a.now (W.wants wanted.now) v)) }
+    ensures limit { IfErr result (λ e. e ≡ BuildError.Limit → ReachSetsBefore a.now (L.letters over.now) (W.wants wanted.now) (limit + 1)) }
+    ensures bounded { IfErr result (λ e. e ≡ BuildError.Limit → limit < 2 ^ 63) }
+{
+    prove!(a.start() < a.states());
+    let start = a.start();
+    let mut sets = StateSets::new(alloc);
+    let mut arrivals = Vec::new(alloc);
+    let first = closure(alloc, a, &[start])?;
+    sets.number(first, limit)?;
+    let found = search(alloc, a, over, wanted, &mut sets, &mut arrivals, limit)?;
+    match found {
+        Some(number) => Ok(Some(word_of(alloc, &arrivals, number)?)),
+        None => Ok(None),
+    }
+}
+
+/// The number of the first wanted set. The sets found on the way are put behind the others, and how
+/// they were found behind the arrivals.
+fn search<L: LabelSet, W: Wanted>(
+    alloc: Global,
+    a: &Nfa<L>,
+    over: &L,
+    wanted: &W,
+    sets: &mut StateSets,
+    arrivals: &mut Vec<Arrival>,
+    limit: usize,
+) -> Result<Option<usize>, BuildError>
+    requires automaton { IsAutomaton a.now }
+    requires letters { length (L.letters over.now) ≡ a.now.letters }
+    requires few { length sets.old ≤ limit }
+    requires searched { IsSearched a.now (L.letters over.now) [] sets.old arrivals.old.items 0 }
+    ensures found { IfOk result (λ found. IfSome found (λ number. IsFirstAt (W.wants wanted.now) sets.new number
+        × ((left : ℕ) × (rest : List Bool) × IsSearched a.now (L.letters over.now) rest sets.new arrivals.new.items left))) }
+    ensures none { IfOk result (λ found. IfNone found (AreUnwanted (W.wants wanted.now) sets.new
+        × IsSearched a.now (L.letters over.now) [] sets.new arrivals.new.items (length sets.new))) }
+    ensures limit { IfErr result (λ e. e ≡ BuildError.Limit → ReachSetsBefore a.now (L.letters over.now) (W.wants wanted.now) (limit + 1)) }
+    ensures bounded { IfErr result (λ e. e ≡ BuildError.Limit → limit < 2 ^ 63) }
+{
+    if let Some(found) = first_wanted(wanted, sets, 0) {
+        return Ok(Some(found));
+    }
+    let mut number = 0;
+    while number < sets.len() {
+        let known = sets.len();
+        spread(alloc, a, over, sets, arrivals, number, limit)?;
+        if let Some(found) = first_wanted(wanted, sets, known) {
+            return Ok(Some(found));
+        }
+        if sets.len() > limit {
+            return Err(BuildError::Limit);
+        }
+        number += 1;
+    }
+    Ok(None)
+}
+
+/// The number of the first wanted set from this number on.
+fn first_wanted<W: Wanted>(wanted: &W, sets: &StateSets, from: usize) -> Option<usize>
+    requires { from ≤ length sets.now }
+    ensures none { IfNone result ((i : ℕ) → from ≤ i → i < length sets.now → ¬ W.wants wanted.now (slice_index_or sets.now i [])) }
+    ensures within { IfSome result (λ number. number < length sets.now) }
+    ensures wanted { IfSome result (λ number. W.wants wanted.now (slice_index_or sets.now number [])) }
+    ensures before { IfSome result (λ number. (i : ℕ) → from ≤ i → i < number → ¬ W.wants wanted.now (slice_index_or sets.now i [])) }
+{
+    for number in from..sets.len() {
+        if wanted.is_wanted(sets.get(number)) {
+            return Some(number);
+        }
+    }
+    None
+}
+
+/// The word by which the set of this number was found, read back from the last letter to the first.
+fn word_of(alloc: Global, arrivals: &[Arrival], number: usize) -> Result<Word, AllocError>
+    requires number { number ≤ length arrivals.now }
+    requires earlier { (i : ℕ) (e : Arrival) → i < length arrivals.now → (slice_index_or arrivals.now i e).from ≤ i }
+    ensures { IfOk result (λ word. (words : List (List ℕ)) → AreTraced words arrivals.now → word ≡ slice_index_or words number []) }
+{
+    let mut letters = Vec::new(alloc);
+    let mut at = number;
+    while at > 0 {
+        let arrival = arrivals[at - 1];
+        letters.push(arrival.letter)?;
+        at = arrival.from;
+    }
+    letters.reverse();
+    Ok(Word::from_symbols(letters))
+}

@@ -1,0 +1,71 @@
+//! The sets that follow a set of states.
+ghost use Rattle.std.specs.Prelude.{◌≡◌, ◌≢◌, ℕ, ◌<◌, ◌++◌, List, [], IfOk, IfErr, length, slice_index_or};
+ghost use Rattle.std.specs.List.{All};
+ghost use Rattle.rela_nfa.specs.Automaton.{IsAutomaton, states};
+ghost use Rattle.rela_subset.specs.Searching.{HasArrived, IsSpreadUpTo, arrivals_from};
+
+use crate::alike::alike;
+use crate::arrival::Arrival;
+use crate::closure::following;
+use crate::state_sets::StateSets;
+use rela_labels::LabelSet;
+use rela_nfa::{BuildError, Nfa};
+use std::alloc::Global;
+
+/// Numbers the sets that follow the set by a letter of `over`, and puts how each new one was found
+/// behind the arrivals. The letters are split by the labels of the edges out of the states of the
+/// set, and taken in blocks, that of the least letter first, until there are more sets than the
+/// limit. Memory is the only error.
+pub(crate) fn spread<L: LabelSet>(
+    alloc: Global,
+    a: &Nfa<L>,
+    over: &L,
+    sets: &mut StateSets,
+    arrivals: &mut Vec<Arrival>,
+    number: usize,
+    limit: usize,
+) -> Result<(), BuildError>
+    requires automaton { IsAutomaton a.now }
+    requires number { number < length sets.old }
+    requires states { All (λ q. q < states a.now) (slice_index_or sets.old number []) }
+    requires letters { length (L.letters over.now) ≡ a.now.letters }
+    ensures spread { IfOk result (λ _. (letters : List ℕ) × (arrivals.new.items ≡ arrivals.old.items ++ arrivals_from number letters)
+        × IsSpreadUpTo limit a.now (L.letters over.now) (slice_index_or sets.old number []) sets.old sets.new letters) }
+    ensures memory { IfErr result (λ e. e ≢ BuildError.Limit) }
+{
+    let set = Vec::from_slice(alloc, sets.get(number))?;
+    let mut rest = over.copy(alloc)?;
+    while let Some(letter) = rest.least() {
+        if sets.len() > limit {
+            return Ok(());
+        }
+        let block = alike(alloc, a, &set, &rest, letter)?;
+        rest = rest.minus(alloc, &block)?;
+        let next = following(alloc, a, &set, letter)?;
+        let arrival = Arrival {
+            from: number,
+            letter,
+        };
+        arrive(sets, arrivals, next, arrival)?;
+    }
+    Ok(())
+}
+
+/// Numbers the set, and where it is new puts how it was found behind the arrivals. Memory is the
+/// only error.
+fn arrive(
+    sets: &mut StateSets,
+    arrivals: &mut Vec<Arrival>,
+    set: Vec<usize>,
+    arrival: Arrival,
+) -> Result<(), BuildError>
+    ensures arrived { IfOk result (λ _. HasArrived set.items arrival sets.old sets.new arrivals.old.items arrivals.new.items) }
+    ensures memory { IfErr result (λ e. e ≢ BuildError.Limit) }
+{
+    let known = sets.len();
+    let number = sets.number(set, usize::MAX)?;
+    if number == known {
+        arrivals.push(arrival)?;
+    }
+    Ok(())
+}

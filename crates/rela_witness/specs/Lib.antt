@@ -1,0 +1,4 @@
+pub mod Finishing
+pub mod Labels
+pub mod Linked
+pub mod Numbered
