@@ -16,3 +16,4 @@ pub mod Composed
 pub mod WrittenWords
 pub mod ImagePairs
 pub mod ReadLetters
+pub mod SymbolLetters

@@ -6,6 +6,7 @@ mod copying;
 mod imaging;
 mod inverse;
 mod joint;
+mod laws;
 mod moves;
 mod operations;
 mod outputs;
@@ -14,6 +15,7 @@ mod tapes;
 mod transducer;
 
 pub use imaging::image;
+pub use laws::{letters_give_symbols, symbols_give_letters};
 pub use moves::{Move, MoveKind};
 pub use rela_pairs::BuildError;
 pub use transducer::Transducer;
