@@ -3,3 +3,5 @@ pub mod Named
 pub mod Blocks
 pub mod Compilation
 pub mod Lettering
+pub mod RowOf
+pub mod Seen

@@ -1,0 +1,88 @@
+-- Blocks that are split by the locations of nodes.
+use Rattle.std.proofs.Common.{◌≡◌, ℕ, zero, suc, ◌+◌, ◌<◌, ◌≤◌, ◌↔◌, List, [], ◌∷◌, ◌++◌, length, get_or, take, refl, sym, ap, ◌∙◌, subst, arith}
+use Rattle.std.specs.List.{All}
+use Rattle.std.specs.Prelude.{Contains, Some}
+use Rattle.std.proofs.lemmas.List.{take_more, take_all}
+use Rattle.std.proofs.lemmas.List.Elements.{All-nil, All-push, All-pop, Contains-get_or}
+use Rattle.rela_graph.specs.Alone.{StandsAlone}
+use Rattle.rela_graph.specs.Topology.{Topology, symbol_at}
+use Rattle.rela_graph.specs.declared.node.Node.{Node}
+use Rattle.rela_labels.specs.Partition.{IsPartition, Together}
+use Rattle.rela_names.specs.declared.level.Level.{Level}
+use Rattle.rela_engine.specs.Seen.{AreAtAlike, AreFiner, NodesStandAlone}
+
+-- both are the location of the node, or neither
+abbrev AreBoth : Level → ℕ → ℕ → Node → Type 0
+AreBoth level s t node = (s ≡ symbol_at level node) ↔ (t ≡ symbol_at level node)
+
+contains_one : (k s : ℕ) → Contains (k ∷ []) s ↔ (s ≡ k)
+contains_one k s = (only, λ e. subst (Contains (k ∷ [])) (sym e) (Contains-get_or (k ∷ []) 0 0 (omega arith))) where
+  only : Contains (k ∷ []) s → s ≡ k
+  only (zero, below, at) = sym at
+  only (suc j, below, at) = absurd (omega (arith, below))
+
+both_one : (level : Level) (node : Node) (k s t : ℕ) → k ≡ symbol_at level node → (Contains (k ∷ []) s ↔ Contains (k ∷ []) t) ↔ AreBoth level s t node
+both_one level node k s t is = (
+  λ alike. (
+    λ e. (contains_one k t).0 (alike.0 ((contains_one k s).1 (e ∙ sym is))) ∙ is,
+    λ e. (contains_one k s).0 (alike.1 ((contains_one k t).1 (e ∙ sym is))) ∙ is,
+  ),
+  λ both. (
+    λ has. (contains_one k t).1 (both.0 ((contains_one k s).0 has ∙ is) ∙ sym is),
+    λ has. (contains_one k s).1 (both.1 ((contains_one k t).0 has ∙ is) ∙ sym is),
+  ),
+)
+
+pub nodes_none : (C : Type 0) (level : Level) (nodes : List Node) (s t : ℕ) → C ↔ (C × AreAtAlike level (take 0 nodes) s t)
+nodes_none C level nodes s t = (λ c. (c, All-nil (AreBoth level s t)), λ both. both.0)
+
+pub nodes_step : (A B C : Type 0) (level : Level) (nodes : List Node) (d : Node) (i k s t : ℕ) → i < length nodes → k ≡ symbol_at level (get_or nodes i d)
+    → (A ↔ (B × (Contains (k ∷ []) s ↔ Contains (k ∷ []) t))) → (B ↔ (C × AreAtAlike level (take i nodes) s t))
+    → A ↔ (C × AreAtAlike level (take (i + 1) nodes) s t)
+nodes_step A B C level nodes d i k s t within at split before =
+    let node = get_or nodes i d in
+    subst (λ (l : List Node). A ↔ (C × AreAtAlike level l s t)) (sym (take_more nodes i d within)) (
+      λ a. let now = split.0 a in let then = before.0 now.0 in
+          (then.0, All-push (AreBoth level s t) (take i nodes) node then.1 ((both_one level node k s t at).0 now.1)),
+      λ both.
+          let parts = All-pop (AreBoth level s t) (take i nodes ++ node ∷ []) (take i nodes) (Some node) refl both.1 in
+          split.1 (before.1 (both.0, parts.0), (both_one level node k s t at).1 parts.1),
+    )
+
+pub nodes_all : (A C : Type 0) (level : Level) (nodes : List Node) (i s t : ℕ) → length nodes ≤ i → (A ↔ (C × AreAtAlike level (take i nodes) s t))
+    → A ↔ (C × AreAtAlike level nodes s t)
+nodes_all A C level nodes i s t all told = subst (λ (l : List Node). A ↔ (C × AreAtAlike level l s t)) (take_all i nodes all) told
+
+-- what was split by the nodes of both graphs
+pub record IsSplit (coarse : List ℕ) (level : Level) (first second : List Node) (fine : List ℕ) : Type 0 where
+  pub same_symbols : length fine ≡ length coarse
+  pub together : (s t : ℕ) → s < length coarse → t < length coarse
+      → Together fine s t ↔ ((Together coarse s t × AreAtAlike level first s t) × AreAtAlike level second s t)
+
+module _ (coarse : List ℕ) (locations : ℕ) (level : Level) (pre post : Topology) (fine : List ℕ) (is : IsSplit coarse level pre.nodes post.nodes fine) where
+  parts : (s t : ℕ) → s < length coarse → t < length fine → Together fine s t → (Together coarse s t × AreAtAlike level pre.nodes s t) × AreAtAlike level post.nodes s t
+  parts s t s_below t_below together = (is.together s t s_below (omega (arith, t_below, is.same_symbols))).0 together
+
+  -- what stood alone still does
+  still_alone : (s : ℕ) → s < length coarse → StandsAlone coarse s → StandsAlone fine s
+  still_alone s below alone t t_below together =
+      alone t (omega (arith, t_below, is.same_symbols)) (parts s t below t_below together).0.0
+
+  pub finer : locations + 1 < length coarse → IsPartition fine → All (λ node. symbol_at level node < locations) pre.nodes
+      → All (λ node. symbol_at level node < locations) post.nodes → StandsAlone coarse locations → StandsAlone coarse (locations + 1)
+      → AreFiner coarse locations level pre post fine
+  finer few partition pre_placed post_placed drops loops = record {
+    partition = partition;
+    refines = record {
+      same_symbols = is.same_symbols;
+      together = λ s t s_below t_below together. (parts s t (omega (arith, s_below, is.same_symbols)) t_below together).0.0;
+    };
+    before = λ k d within t t_below together.
+        let below : symbol_at level (get_or pre.nodes k d) < length coarse = omega (arith, pre_placed k d within, few) in
+        sym (((parts (symbol_at level (get_or pre.nodes k d)) t below t_below together).0.1 k d within).0 refl);
+    after = λ k d within t t_below together.
+        let below : symbol_at level (get_or post.nodes k d) < length coarse = omega (arith, post_placed k d within, few) in
+        sym (((parts (symbol_at level (get_or post.nodes k d)) t below t_below together).1 k d within).0 refl);
+    drops = still_alone locations (omega (arith, few)) drops;
+    loops = still_alone (locations + 1) (omega (arith, few)) loops;
+  }

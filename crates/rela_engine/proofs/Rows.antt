@@ -1,0 +1,133 @@
+-- The row of a check, by what automata over blocks of symbols tell.
+use Rattle.std.proofs.Common.{◌≡◌, ℕ, suc, ◌+◌, ◌<◌, ◌≤◌, ◌⊎◌, ◌↔◌, Bool, true, false, List, [], ◌∷◌, length, map, refl, sym, ap, ◌∙◌, subst, inl, inr, arith}
+use Rattle.std.specs.List.{All}
+use Rattle.rela_labels.specs.Partition.{block_of, block_count, IsPartition, IsLeastOf}
+use Rattle.rela_names.specs.Shortlex.{IsBefore, First}
+use Rattle.rela_nfa.specs.Automaton.{Automaton}
+use Rattle.rela_nfa.specs.Runs.{Accepts}
+use Rattle.rela_rir.specs.Words.{WordSet, Relation, ImageOf}
+use Rattle.rela_trans.specs.Machine.{Machine}
+use Rattle.rela_trans.specs.Runs.{Relates}
+use Rattle.rela_trans.proofs.SymbolLetters.{related_letters, related_symbols}
+use Rattle.rela_translate.specs.Verdict.{AreMet, Offends}
+use Rattle.rela_engine.specs.Reading.{read_by, Recognises, Realises}
+use Rattle.rela_engine.specs.Seen.{AreSeen, AreLeast, IsSource, IsFirstSource}
+use Rattle.rela_engine.proofs.LeastWords.{IsLeast, before_letters, first_symbols, same_words}
+use Rattle.rela_engine.proofs.Readings.{covered}
+
+-- ---- images told by letters
+
+-- a relation with the same pairs
+pub same_pairs : (coarse fine : List ℕ) (pairs : Relation) (a b : Machine) → Realises coarse pairs a → Realises fine (Relates (read_by coarse) a) b → Realises fine pairs b
+same_pairs coarse fine pairs a b is same = record {
+  letters = same.letters;
+  relation = λ u v. (λ related. (is.relation u v).0 ((same.relation u v).0 related), λ pair. (same.relation u v).1 ((is.relation u v).1 pair));
+}
+
+-- what an automaton of an image recognises
+pub recognises_image : (blocks : List ℕ) (words : WordSet) (pairs : Relation) (a : Automaton) (t : Machine) (image : Automaton)
+    → Recognises blocks words a → Realises blocks pairs t → image.letters ≡ a.letters
+    → ((v : List ℕ) → Accepts image (map (read_by blocks) v) ↔ ((source : List ℕ) × Accepts a (map (read_by blocks) source) × Relates (read_by blocks) t source v))
+    → Recognises blocks (ImageOf words pairs) image
+recognises_image blocks words pairs a t image in_a in_t letters language = record {
+  letters = letters ∙ in_a.letters;
+  language = λ v. (
+    λ accepted.
+        let found = (language v).0 accepted in record {
+          source = found.0;
+          in_set = (in_a.language found.0).0 found.1;
+          related = (in_t.relation found.0 v).0 found.2;
+        },
+    λ is. (language v).1 (is.source, (in_a.language is.source).1 is.in_set, (in_t.relation is.source v).1 is.related),
+  );
+}
+
+pub image_of_same : (blocks : List ℕ) (words : WordSet) (pairs others : Relation) (image : Automaton) → ((u v : List ℕ) → pairs u v ↔ others u v)
+    → Recognises blocks (ImageOf words pairs) image → Recognises blocks (ImageOf words others) image
+image_of_same blocks words pairs others image same is = record {
+  letters = is.letters;
+  language = λ w. (
+    λ accepted. let found = (is.language w).0 accepted in
+        record { source = found.source; in_set = found.in_set; related = (same found.source w).0 found.related },
+    λ found. (is.language w).1 (record { source = found.source; in_set = found.in_set; related = (same found.source w).1 found.related }),
+  );
+}
+
+-- the automata of a relation are those of one with the same pairs
+pub seen_by_same : (blocks coarse : List ℕ) (words : WordSet) (pairs : Relation) (t : Machine) (paths : Automaton) (relation : Machine) (image : Automaton)
+    → Realises coarse pairs t → AreSeen blocks words (Relates (read_by coarse) t) paths relation image → AreSeen blocks words pairs paths relation image
+seen_by_same blocks coarse words pairs t paths relation image is seen = record {
+  of_paths = seen.of_paths;
+  of_relation = same_pairs coarse blocks pairs t relation is seen.of_relation;
+  of_image = image_of_same blocks words (Relates (read_by coarse) t) pairs image is.relation seen.of_image;
+  paths_ok = seen.paths_ok;
+  relation_ok = seen.relation_ok;
+  image_ok = seen.image_ok;
+}
+
+-- ---- the verdict
+
+module _ (blocks : List ℕ) (X Y : WordSet) (x y : Automaton) (in_x : Recognises blocks X x) (in_y : Recognises blocks Y y) where
+  pub met : (at_most : Bool) → AreMet at_most (Accepts x) (Accepts y) → AreMet at_most X Y
+  met false same =
+      λ w. (
+        λ is. (in_y.language w).0 ((same (map (read_by blocks) w)).0 ((in_x.language w).1 is)),
+        λ is. (in_x.language w).0 ((same (map (read_by blocks) w)).1 ((in_y.language w).1 is)),
+      )
+  met true within = λ w is. (in_x.language w).0 (within (map (read_by blocks) w) ((in_y.language w).1 is))
+
+  pub offends : (at_most : Bool) (w : List ℕ) → Offends at_most (Accepts x) (Accepts y) (map (read_by blocks) w) ↔ Offends at_most X Y w
+  offends false w = (
+    λ o. elim o [
+      | inl first ↦ inl ((in_x.language w).0 first.0, λ is. first.1 ((in_y.language w).1 is))
+      | inr second ↦ inr (λ is. second.0 ((in_x.language w).1 is), (in_y.language w).0 second.1)
+    ],
+    λ o. elim o [
+      | inl first ↦ inl ((in_x.language w).1 first.0, λ is. first.1 ((in_y.language w).0 is))
+      | inr second ↦ inr (λ is. second.0 ((in_x.language w).0 is), (in_y.language w).1 second.1)
+    ],
+  )
+  offends true w = (
+    λ o. ((in_y.language w).0 o.0, λ is. o.1 ((in_x.language w).1 is)),
+    λ o. ((in_y.language w).1 o.0, λ is. o.1 ((in_x.language w).0 is)),
+  )
+
+-- ---- the source
+
+module _ (blocks : List ℕ) (is : IsPartition blocks) (words : WordSet) (pairs : Relation) (paths : Automaton) (relation : Machine) (image : Automaton)
+    (seen : AreSeen blocks words pairs paths relation image) (each : (w : List ℕ) → words w → All (IsLeast blocks) w) where
+  -- a source by letters stands for a path
+  path_of : (letters word : List ℕ) → IsSource paths relation (map (read_by blocks) word) letters
+      → (u : List ℕ) × (map (read_by blocks) u ≡ letters) × words u × pairs u word
+  path_of letters word source =
+      let u = related_symbols (read_by blocks) relation seen.relation_ok
+      (subst (λ n. (k : ℕ) → k < n → (s : ℕ) × (read_by blocks s ≡ k)) (sym seen.of_relation.letters) (covered blocks is)) letters word source.1 in (
+        u.0,
+        u.1,
+        (seen.of_paths.language u.0).0 (subst (Accepts paths) (sym u.1) source.0),
+        (seen.of_relation.relation u.0 word).0 u.2,
+      )
+
+  -- and each path that is related to the word has letters that are a source
+  source_of : (u word : List ℕ) → words u → pairs u word → IsSource paths relation (map (read_by blocks) word) (map (read_by blocks) u)
+  source_of u word in_words related = (
+    (seen.of_paths.language u).1 in_words,
+    related_letters (read_by blocks) relation u word ((seen.of_relation.relation u word).1 related),
+  )
+
+  pub first_path : (word source : List ℕ) → IsFirstSource blocks paths relation (map (read_by blocks) word) source → First (λ u. words u × pairs u word) source
+  first_path word source found =
+      let path = path_of found.letters word found.first.member in
+      let same : path.0 ≡ source = same_words blocks path.0 source (each path.0 path.2) found.symbols_are.least (path.1 ∙ sym found.symbols_are.read) in
+      record {
+        member = subst (λ u. words u × pairs u word) same (path.2, path.3);
+        least = λ v is_source before.
+            found.first.least (map (read_by blocks) v) (source_of v word is_source.0 is_source.1)
+            (subst (IsBefore (map (read_by blocks) v)) found.symbols_are.read (before_letters blocks is v source found.symbols_are.least before));
+      }
+
+  -- each word of the image has a source
+  pub some_source : (word : List ℕ) → Accepts image (map (read_by blocks) word) → (source : List ℕ) × IsSource paths relation (map (read_by blocks) word) source
+  some_source word accepted =
+      let found = (seen.of_image.language word).0 accepted in
+      (map (read_by blocks) found.source, source_of found.source word found.in_set found.related)
