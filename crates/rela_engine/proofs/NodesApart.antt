@@ -1,7 +1,7 @@
 -- Blocks that are split by the locations of nodes.
 use Rattle.std.proofs.Common.{◌≡◌, ℕ, zero, suc, ◌+◌, ◌<◌, ◌≤◌, ◌↔◌, List, [], ◌∷◌, ◌++◌, length, get_or, take, refl, sym, ap, ◌∙◌, subst, arith}
 use Rattle.std.specs.List.{All}
-use Rattle.std.specs.Prelude.{Contains, Some}
+use Rattle.std.specs.Prelude.{Contains, Some, Result, Ok, Err, IfOk}
 use Rattle.std.proofs.lemmas.List.{take_more, take_all}
 use Rattle.std.proofs.lemmas.List.Elements.{All-nil, All-push, All-pop, Contains-get_or}
 use Rattle.rela_graph.specs.Alone.{StandsAlone}
@@ -86,3 +86,31 @@ module _ (coarse : List ℕ) (locations : ℕ) (level : Level) (pre post : Topol
     drops = still_alone locations (omega (arith, few)) drops;
     loops = still_alone (locations + 1) (omega (arith, few)) loops;
   }
+
+-- the partition of what was split by the nodes of one graph and then of the other
+pub finer_result : {E : Type 0} (coarse : List ℕ) (locations : ℕ) (level : Level) (pre post : Topology) (r : Result (List ℕ) E) (start first second : List ℕ) (firsts seconds : List Node)
+    → start ≡ coarse → firsts ≡ pre.nodes → seconds ≡ post.nodes → length first ≡ length start → length second ≡ length first
+    → ((s t : ℕ) → s < length start → t < length start → Together first s t ↔ (Together start s t × AreAtAlike level firsts s t))
+    → ((s t : ℕ) → s < length first → t < length first → Together second s t ↔ (Together first s t × AreAtAlike level seconds s t))
+    → IfOk r (λ fine. length fine ≡ length second) → IfOk r IsPartition
+    → IfOk r (λ fine. (s t : ℕ) → s < length second → t < length second → Together fine s t ↔ Together second s t)
+    → locations + 1 < length coarse → All (λ node. symbol_at level node < locations) pre.nodes → All (λ node. symbol_at level node < locations) post.nodes
+    → StandsAlone coarse locations → StandsAlone coarse (locations + 1) → IfOk r (AreFiner coarse locations level pre post)
+finer_result coarse locations level pre post (Err e) start first second firsts seconds is_start is_pre is_post one_len two_len one two same partition together few pre_placed post_placed drops loops = tt
+finer_result coarse locations level pre post (Ok fine) start first second firsts seconds is_start is_pre is_post one_len two_len one two same partition together few pre_placed post_placed drops loops =
+    let start_len : length start ≡ length coarse = ap length is_start in
+    finer coarse locations level pre post fine (record {
+      same_symbols = same ∙ two_len ∙ one_len ∙ start_len;
+      together = λ s t s_below t_below.
+          let once : Together first s t ↔ (Together coarse s t × AreAtAlike level pre.nodes s t) =
+          subst (λ (l : List ℕ). Together first s t ↔ (Together l s t × AreAtAlike level pre.nodes s t)) is_start
+          (subst (λ (l : List Node). Together first s t ↔ (Together start s t × AreAtAlike level l s t)) is_pre
+          (one s t (omega (arith, s_below, start_len)) (omega (arith, t_below, start_len)))) in
+          let twice : Together second s t ↔ (Together first s t × AreAtAlike level post.nodes s t) =
+          subst (λ (l : List Node). Together second s t ↔ (Together first s t × AreAtAlike level l s t)) is_post
+          (two s t (omega (arith, s_below, one_len, start_len)) (omega (arith, t_below, one_len, start_len))) in
+          let last = together s t (omega (arith, s_below, two_len, one_len, start_len)) (omega (arith, t_below, two_len, one_len, start_len)) in (
+            λ now. let then = twice.0 (last.0 now) in (once.0 then.0, then.1),
+            λ both. last.1 (twice.1 (once.1 both.0, both.1)),
+          );
+    }) few partition pre_placed post_placed drops loops

@@ -1,5 +1,5 @@
 //! The paths of a snapshot and what a relation makes of them, as automata.
-ghost use Rattle.std.specs.Prelude.{◌≡◌, ◌<◌, ◌≤◌, IfOk, All, length};
+ghost use Rattle.std.specs.Prelude.{◌≡◌, ◌+◌, ◌<◌, ◌≤◌, IfOk, All, length};
 ghost use Rattle.rela_graph.specs.Alone.{StandsAlone};
 ghost use Rattle.rela_graph.specs.Paths.{Paths};
 ghost use Rattle.rela_graph.specs.Topology.{symbol_at};
