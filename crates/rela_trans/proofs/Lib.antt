@@ -13,6 +13,7 @@ pub mod KindsTogether
 pub mod JointSteps
 pub mod NumberedMoves
 pub mod Composed
+pub mod MappedWords
 pub mod WrittenWords
 pub mod ImagePairs
 pub mod ReadLetters

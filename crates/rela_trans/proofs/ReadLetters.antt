@@ -1,4 +1,4 @@
--- Words that are read hold letters alone, and what one word's image accepts is what the word is related to.
+-- Related words hold letters alone, and what one word's image accepts is what the word is related to.
 use Rattle.std.proofs.Common.{◌≡◌, ℕ, ◌<◌, ◌↔◌, Bool, true, List, [], ◌∷◌, ◌++◌, length, map, refl, sym, ap, ◌∙◌, subst, arith}
 use Rattle.std.specs.List.{All}
 use Rattle.std.proofs.lemmas.List.Elements.{All-nil, All-cons, All-append, All-contains}
@@ -29,16 +29,30 @@ module _ (letters : ℕ) where
   read_letters (Out set) input output size does = no_letter input does.0
   read_letters (Same set) input output size does = one_letter set input size does.0
 
-reached_letters : (t : Machine) → IsMachine t → (q : ℕ) (u v : List ℕ) → ReachR (λ k. k) t q u v → All (λ k. k < t.letters) u
-reached_letters t ok =
-    reach_each (λ k. k) t (λ q u v. All (λ k. k < t.letters) u)
-    (λ p q u v input output reach before step.
-    let move = All-contains (IsMove t.letters (machine_states t)) (moves_of t p) (record { kind = step.0; to = q }) (moves_ok t ok p) step.1 in
-    All-append (λ k. k < t.letters) u input before (read_letters t.letters step.0 input output move.sized step.2))
-    (All-nil (λ k. k < t.letters))
+  written_letters : (kind : Kind) (input output : List ℕ) → IsSized letters kind → Does (λ k. k) kind input output → AreLetters output
+  written_letters Silent input output size does = no_letter output does.1
+  written_letters (In set) input output size does = no_letter output does.1
+  written_letters (Out set) input output size does = one_letter set output size does.1
+  written_letters (Same set) input output size does = subst AreLetters (sym does.1) (one_letter set input size does.0)
 
-pub related_letters : (t : Machine) → IsMachine t → (u v : List ℕ) → Relates (λ k. k) t u v → All (λ k. k < t.letters) u
-related_letters t ok u v (q, reach, final) = reached_letters t ok q u v reach
+module _ (t : Machine) (ok : IsMachine t) where
+  sized_step : (p q : ℕ) (input output : List ℕ) (step : HasStep (λ k. k) t p input output q) → IsSized t.letters step.0
+  sized_step p q input output step =
+      (All-contains (IsMove t.letters (machine_states t)) (moves_of t p) (record { kind = step.0; to = q }) (moves_ok t ok p) step.1).sized
+
+  pub related_letters : (u v : List ℕ) → Relates (λ k. k) t u v → All (λ k. k < t.letters) u
+  related_letters u v (q, reach, final) =
+      reach_each (λ k. k) t (λ q u v. All (λ k. k < t.letters) u)
+      (λ p q u v input output reach before step.
+      All-append (λ k. k < t.letters) u input before (read_letters t.letters step.0 input output (sized_step p q input output step) step.2))
+      (All-nil (λ k. k < t.letters)) q u v reach
+
+  pub related_letters_written : (u v : List ℕ) → Relates (λ k. k) t u v → All (λ k. k < t.letters) v
+  related_letters_written u v (q, reach, final) =
+      reach_each (λ k. k) t (λ q u v. All (λ k. k < t.letters) v)
+      (λ p q u v input output reach before step.
+      All-append (λ k. k < t.letters) v output before (written_letters t.letters step.0 input output (sized_step p q input output step) step.2))
+      (All-nil (λ k. k < t.letters)) q u v reach
 
 -- the image of one word
 pub related_by_image : (t : Machine) (word image : Automaton) (u v : List ℕ) → ((w : List ℕ) → Accepts word w ↔ (w ≡ u))

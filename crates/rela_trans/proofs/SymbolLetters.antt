@@ -9,28 +9,8 @@ use Rattle.rela_trans.specs.Runs.{IsSymbolOf, Does, HasStep, ReachR, Relates}
 use Rattle.rela_trans.specs.declared.moves.MoveKind.TheVariants.{Silent, In, Out, Same}
 use Rattle.rela_trans.proofs.Accessors.{moves_ok}
 use Rattle.rela_trans.proofs.KindsTogether.{has_below}
+use Rattle.rela_trans.proofs.MappedWords.{no_word, one_symbol, split_word}
 use Rattle.rela_trans.proofs.Reaching.{subst_pair, reach_start, reach_step, reach_each}
-
--- ---- words that were mapped
-
-no_word : (f : ℕ → ℕ) (w : List ℕ) → [] ≡ map f w → w ≡ []
-no_word f [] e = refl
-no_word f (s ∷ w) e = absurd (omega (arith, ap length e))
-
-one_symbol : (f : ℕ → ℕ) (w : List ℕ) (k : ℕ) → k ∷ [] ≡ map f w → (s : ℕ) × (w ≡ s ∷ []) × (f s ≡ k)
-one_symbol f [] k e = absurd (omega (arith, ap length e))
-one_symbol f (s ∷ []) k e = let same : k ≡ f s = cc in (s, refl, sym same)
-one_symbol f (s ∷ t ∷ w) k e = absurd (omega (arith, ap length e))
-
--- what a word in two parts was mapped from has two parts too
-split_word : (f : ℕ → ℕ) (x y w : List ℕ) → x ++ y ≡ map f w → (front : List ℕ) × (rest : List ℕ) × (w ≡ front ++ rest) × (x ≡ map f front) × (y ≡ map f rest)
-split_word f [] y w e = ([], w, refl, refl, e)
-split_word f (k ∷ x) y [] e = absurd (omega (arith, ap length e))
-split_word f (k ∷ x) y (s ∷ w) e =
-    let head : k ≡ f s = cc in
-    let tail : x ++ y ≡ map f w = cc in
-    let parts = split_word f x y w tail in
-    (s ∷ parts.0, parts.1, ap (λ l. s ∷ l) parts.2, (λ i. head i ∷ parts.3 i), parts.4)
 
 module _ (read : ℕ → ℕ) where
   -- ---- from symbols to letters

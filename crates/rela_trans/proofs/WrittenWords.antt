@@ -20,13 +20,10 @@ use Rattle.rela_trans.specs.declared.moves.Move.{Move}
 use Rattle.rela_trans.specs.declared.moves.MoveKind.TheVariants.{Silent, In, Out, Same}
 use Rattle.rela_trans.proofs.Accessors.{moves_ok}
 use Rattle.rela_trans.proofs.KindsTogether.{no_symbol, has_below}
+use Rattle.rela_trans.proofs.MappedWords.{no_word}
 use Rattle.rela_trans.proofs.Reaching.{reach_start, reach_step, reach_each}
 
 -- ---- words that were mapped
-
-no_word : (f : ℕ → ℕ) (w : List ℕ) → [] ≡ map f w → w ≡ []
-no_word f [] e = refl
-no_word f (s ∷ w) e = absurd (omega (arith, ap length e))
 
 -- the last of a word that was mapped
 map_last : (f : ℕ → ℕ) (w v : List ℕ) (j : ℕ) → v ++ j ∷ [] ≡ map f w → (front : List ℕ) × (s : ℕ) × (w ≡ front ++ s ∷ []) × (v ≡ map f front) × (j ≡ f s)

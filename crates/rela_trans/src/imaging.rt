@@ -49,7 +49,7 @@ pub fn image<L: LabelSet>(
 }
 
 /// Whether each number of the word is a letter.
-fn are_letters(word: &[u32], letters: u32) -> bool
+pub fn are_letters(word: &[u32], letters: u32) -> bool
     ensures { IsTrue result ↔ All (λ k. k < letters) word.now }
 {
     word.iter().all(|k| *k < letters)

@@ -14,7 +14,7 @@ mod relabel;
 mod tapes;
 mod transducer;
 
-pub use imaging::image;
+pub use imaging::{are_letters, image};
 pub use laws::{letters_give_symbols, symbols_give_letters};
 pub use moves::{Move, MoveKind};
 pub use rela_pairs::BuildError;

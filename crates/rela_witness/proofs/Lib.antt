@@ -7,3 +7,4 @@ pub mod Leasts
 pub mod Leading
 pub mod Searching
 pub mod Spelling
+pub mod Firsts

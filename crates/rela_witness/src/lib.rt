@@ -1,4 +1,5 @@
-//! The first word of a regular language: of the shortest ones the least by its letters.
+//! The first word of a regular language, of the shortest ones the least by its letters: of all its words,
+//! or of those that are related to a word.
 #![tactic(auto)]
 
 mod distances;
@@ -6,9 +7,11 @@ mod letters;
 mod links;
 mod numbers;
 mod onward;
+mod related;
 mod shortest;
 mod sources;
 
+pub use related::least_source;
 pub use shortest::least_word;
 
 #[cfg(test)]

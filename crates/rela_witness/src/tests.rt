@@ -2,6 +2,7 @@ use super::*;
 use rela_labels::{BlockSet, LabelSet};
 use rela_names::Word;
 use rela_nfa::Nfa;
+use rela_trans::Transducer;
 use std::test::Fail;
 
 type Table = Nfa<BlockSet<1>>;
@@ -52,5 +53,21 @@ fn empty_word_and_none(rt: HostRuntime) -> Result<(), Fail> {
     let unread: Table = Nfa::class(alloc, 3, &no_letter)?;
     assert!(rt; least_word(alloc, &unread)?.is_none());
     assert!(rt; least_word(alloc, &one.concat(alloc, &none)?)?.is_none());
+    Ok(())
+}
+
+#[test]
+fn sources_of_one_letter(rt: HostRuntime) -> Result<(), Fail> {
+    let alloc = rt.alloc();
+    let a: Table = Nfa::word(alloc, 3, &[0])?;
+    let b: Table = Nfa::word(alloc, 3, &[1])?;
+    let c: Table = Nfa::word(alloc, 3, &[2])?;
+    let either = b.union(alloc, &a)?;
+    let turned = Transducer::product(alloc, &either, &c)?;
+    assert!(rt; is(least_source(alloc, &either, &turned, &[2])?, &[0]));
+    assert!(rt; is(least_source(alloc, &b, &turned, &[2])?, &[1]));
+    assert!(rt; least_source(alloc, &c, &turned, &[2])?.is_none());
+    assert!(rt; least_source(alloc, &either, &turned, &[1])?.is_none());
+    assert!(rt; least_source(alloc, &either, &turned, &[3])?.is_none());
     Ok(())
 }
