@@ -1,17 +1,25 @@
 -- The row of a check, by what automata over blocks of symbols tell.
 use Rattle.std.proofs.Common.{◌≡◌, ℕ, suc, ◌+◌, ◌<◌, ◌≤◌, ◌⊎◌, ◌↔◌, Bool, true, false, List, [], ◌∷◌, length, map, refl, sym, ap, ◌∙◌, subst, inl, inr, arith}
 use Rattle.std.specs.List.{All}
+use Rattle.std.proofs.lemmas.List.Elements.{All-head, All-tail}
 use Rattle.rela_labels.specs.Partition.{block_of, block_count, IsPartition, IsLeastOf}
 use Rattle.rela_names.specs.Shortlex.{IsBefore, First}
-use Rattle.rela_nfa.specs.Automaton.{Automaton}
+use Rattle.rela_nfa.specs.Automaton.{Automaton, IsAutomaton}
 use Rattle.rela_nfa.specs.Runs.{Accepts}
+use Rattle.rela_report.specs.declared.rows.Row.{Row}
+use Rattle.rela_report.specs.declared.rows.Row.TheVariants.{Compliant, Violated, Undecided}
+use Rattle.rela_report.specs.declared.rows.Side.{Side}
+use Rattle.rela_report.specs.declared.rows.Side.TheVariants as side
 use Rattle.rela_rir.specs.Words.{WordSet, Relation, ImageOf}
 use Rattle.rela_trans.specs.Machine.{Machine}
 use Rattle.rela_trans.specs.Runs.{Relates}
 use Rattle.rela_trans.proofs.SymbolLetters.{related_letters, related_symbols}
+use Rattle.rela_translate.specs.Checked.{Checked}
 use Rattle.rela_translate.specs.Verdict.{AreMet, Offends}
+use Rattle.rela_compare.proofs.AcceptedLetters.{accepted_letters}
 use Rattle.rela_engine.specs.Reading.{read_by, Recognises, Realises}
-use Rattle.rela_engine.specs.Seen.{AreSeen, AreLeast, IsSource, IsFirstSource}
+use Rattle.rela_engine.specs.RowOf.{RowOf, IsOffence, relation_of}
+use Rattle.rela_engine.specs.Seen.{AreSeen, AreLeast, IsSource, IsFirstSource, TellsOf}
 use Rattle.rela_engine.proofs.LeastWords.{IsLeast, before_letters, first_symbols, same_words}
 use Rattle.rela_engine.proofs.Readings.{covered}
 
@@ -94,6 +102,17 @@ module _ (blocks : List ℕ) (X Y : WordSet) (x y : Automaton) (in_x : Recognise
 
 -- ---- the source
 
+word_for : (blocks : List ℕ) → IsPartition blocks → (letters : List ℕ) → All (λ k. k < block_count blocks) letters → (w : List ℕ) × (map (read_by blocks) w ≡ letters)
+word_for blocks is [] below = ([], refl)
+word_for blocks is (k ∷ letters) below =
+    let first = covered blocks is k (All-head (λ j. j < block_count blocks) k letters below) in
+    let rest = word_for blocks is letters (All-tail (λ j. j < block_count blocks) k letters below) in
+    (first.0 ∷ rest.0, λ i. first.1 i ∷ rest.1 i)
+
+-- what is accepted is a word of letters
+pub letters_below : (blocks : List ℕ) (a : Automaton) → IsAutomaton a → a.letters ≡ block_count blocks → (letters : List ℕ) → Accepts a letters → All (λ k. k < block_count blocks) letters
+letters_below blocks a ok count letters accepted = subst (λ n. All (λ k. k < n) letters) count (accepted_letters a ok letters accepted)
+
 module _ (blocks : List ℕ) (is : IsPartition blocks) (words : WordSet) (pairs : Relation) (paths : Automaton) (relation : Machine) (image : Automaton)
     (seen : AreSeen blocks words pairs paths relation image) (each : (w : List ℕ) → words w → All (IsLeast blocks) w) where
   -- a source by letters stands for a path
@@ -127,7 +146,59 @@ module _ (blocks : List ℕ) (is : IsPartition blocks) (words : WordSet) (pairs 
       }
 
   -- each word of the image has a source
-  pub some_source : (word : List ℕ) → Accepts image (map (read_by blocks) word) → (source : List ℕ) × IsSource paths relation (map (read_by blocks) word) source
-  some_source word accepted =
-      let found = (seen.of_image.language word).0 accepted in
-      (map (read_by blocks) found.source, source_of found.source word found.in_set found.related)
+  pub some_source : (letters : List ℕ) → Accepts image letters → (source : List ℕ) × IsSource paths relation letters source
+  some_source letters accepted =
+      let word = word_for blocks is letters (letters_below blocks image seen.image_ok seen.of_image.letters letters accepted) in
+      let found = (seen.of_image.language word.0).0 (subst (Accepts image) (sym word.1) accepted) in
+      (
+        map (read_by blocks) found.source,
+        subst (λ l. IsSource paths relation l (map (read_by blocks) found.source)) word.1 (source_of found.source word.0 found.in_set found.related),
+      )
+
+-- ---- the row
+
+module _ (blocks : List ℕ) (is : IsPartition blocks) (check : Checked) (locations : ℕ) (pre post : WordSet)
+    (pre_paths : Automaton) (pre_relation : Machine) (pre_image : Automaton)
+    (post_paths : Automaton) (post_relation : Machine) (post_image : Automaton)
+    (pre_seen : AreSeen blocks pre (relation_of side.Before check locations) pre_paths pre_relation pre_image)
+    (post_seen : AreSeen blocks post (relation_of side.After check locations) post_paths post_relation post_image)
+    (pre_least : (w : List ℕ) → pre w → All (IsLeast blocks) w) (post_least : (w : List ℕ) → post w → All (IsLeast blocks) w)
+    where
+  abbrev X : WordSet
+  X = ImageOf pre (relation_of side.Before check locations)
+
+  abbrev Y : WordSet
+  Y = ImageOf post (relation_of side.After check locations)
+
+  pub compliant_row : AreMet check.at_most (Accepts pre_image) (Accepts post_image) → RowOf check locations pre post Compliant
+  compliant_row = met blocks X Y pre_image post_image pre_seen.of_image post_seen.of_image check.at_most
+
+  first_word : (letters word : List ℕ) → First (Offends check.at_most (Accepts pre_image) (Accepts post_image)) letters → AreLeast blocks letters word
+      → First (Offends check.at_most X Y) word
+  first_word letters word first are =
+      first_symbols blocks is (Offends check.at_most (Accepts pre_image) (Accepts post_image)) (Offends check.at_most X Y)
+      (offends blocks X Y pre_image post_image pre_seen.of_image post_seen.of_image check.at_most) letters word are first
+
+  pub before_row : (letters : List ℕ) → First (Offends check.at_most (Accepts pre_image) (Accepts post_image)) letters → Accepts pre_image letters
+      → (row : Row) → TellsOf blocks pre_paths pre_relation letters side.Before row → RowOf check locations pre post row
+  before_row letters first accepted Compliant tells = absurd tells
+  before_row letters first accepted Undecided tells = absurd tells
+  before_row letters first accepted (Violated word of source) tells =
+      subst (λ (s : Side). IsOffence check locations pre post word s source) (sym tells.1) (record {
+        first = first_word letters word first tells.0;
+        in_image = (pre_seen.of_image.language word).0 (subst (Accepts pre_image) (sym tells.0.read) accepted);
+        first_source = first_path blocks is pre (relation_of side.Before check locations) pre_paths pre_relation pre_image pre_seen pre_least word source
+            (subst (λ l. IsFirstSource blocks pre_paths pre_relation l source) (sym tells.0.read) tells.2);
+      })
+
+  pub after_row : (letters : List ℕ) → First (Offends check.at_most (Accepts pre_image) (Accepts post_image)) letters → Accepts post_image letters
+      → (row : Row) → TellsOf blocks post_paths post_relation letters side.After row → RowOf check locations pre post row
+  after_row letters first accepted Compliant tells = absurd tells
+  after_row letters first accepted Undecided tells = absurd tells
+  after_row letters first accepted (Violated word of source) tells =
+      subst (λ (s : Side). IsOffence check locations pre post word s source) (sym tells.1) (record {
+        first = first_word letters word first tells.0;
+        in_image = (post_seen.of_image.language word).0 (subst (Accepts post_image) (sym tells.0.read) accepted);
+        first_source = first_path blocks is post (relation_of side.After check locations) post_paths post_relation post_image post_seen post_least word source
+            (subst (λ l. IsFirstSource blocks post_paths post_relation l source) (sym tells.0.read) tells.2);
+      })

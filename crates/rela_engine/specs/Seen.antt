@@ -9,6 +9,9 @@ use Rattle.rela_names.specs.declared.level.Level.{Level}
 use Rattle.rela_nfa.specs.Automaton.{Automaton, IsAutomaton}
 use Rattle.rela_nfa.specs.Relabelling.{Refines}
 use Rattle.rela_nfa.specs.Runs.{Accepts}
+use Rattle.rela_report.specs.declared.rows.Row.{Row}
+use Rattle.rela_report.specs.declared.rows.Row.TheVariants.{Compliant, Violated, Undecided}
+use Rattle.rela_report.specs.declared.rows.Side.{Side}
 use Rattle.rela_rir.specs.Words.{ImageOf}
 use Rattle.rela_trans.specs.Machine.{Machine, IsMachine}
 use Rattle.rela_trans.specs.Runs.{Relates}
@@ -54,3 +57,10 @@ pub record IsFirstSource (blocks : List ℕ) (paths : Automaton) (relation : Mac
   pub letters : List ℕ
   pub first : First (IsSource paths relation word) letters
   pub symbols_are : AreLeast blocks letters symbols
+
+-- the row tells of a violation on this side: the first word of symbols with these letters, and its first source
+abbrev pub TellsOf : List ℕ → Automaton → Machine → List ℕ → Side → Row → Type 0
+TellsOf blocks paths relation letters side Compliant = ⊥
+TellsOf blocks paths relation letters side (Violated word of source) =
+    AreLeast blocks letters word × (of ≡ side) × IsFirstSource blocks paths relation letters source
+TellsOf blocks paths relation letters side Undecided = ⊥

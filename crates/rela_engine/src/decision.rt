@@ -11,7 +11,7 @@ use crate::compiled::{Compiled, compile};
 use crate::finer_blocks::finer_blocks;
 use crate::offence::first_offence;
 use crate::seen::see;
-use crate::witnesses::{first_source, least_symbols};
+use crate::witnesses::violated_row;
 use rela_labels::{BlockSet, LabelSet, Partition, WideSet};
 use rela_names::Alphabet;
 use rela_report::{Row, Side};
@@ -94,18 +94,11 @@ fn row_over<L: LabelSet>(
     let coarse = compiled.blocks();
     let before = see::<L>(alloc, &pair.before, level, alphabet, compiled.before(), coarse, blocks)?;
     let after = see::<L>(alloc, &pair.after, level, alphabet, compiled.after(), coarse, blocks)?;
-    let found = first_offence(alloc, compiled.at_most(), &before.image, &after.image)?;
-    let Some(offence) = found else {
-        return Ok(Row::Compliant);
-    };
-    let letters = offence.letters.as_slice();
-    let source = match offence.side {
-        Side::Before => first_source(alloc, &before, letters, blocks)?,
-        Side::After => first_source(alloc, &after, letters, blocks)?,
-    };
-    Ok(Row::Violated {
-        word: least_symbols(alloc, blocks, letters)?,
-        side: offence.side,
-        source,
-    })
+    match first_offence(alloc, compiled.at_most(), &before.image, &after.image)? {
+        None => Ok(Row::Compliant),
+        Some(offence) => match offence.side {
+            Side::Before => violated_row(alloc, &offence, &before, blocks),
+            Side::After => violated_row(alloc, &offence, &after, blocks),
+        },
+    }
 }

@@ -1,19 +1,41 @@
-//! Words of letters as words of symbols, and the sources of words.
-ghost use Rattle.std.specs.Prelude.{◌≡◌, ℕ, ◌<◌, List, IfOk, IfNone, IfSome, All};
+//! What a violated row tells: words of letters as words of symbols, and the sources of words.
+ghost use Rattle.std.specs.Prelude.{◌≡◌, ◌<◌, ℕ, List, IfOk, All};
 ghost use Rattle.rela_labels.specs.Partition.{IsPartition, block_count};
-ghost use Rattle.rela_names.specs.Shortlex.{First};
 ghost use Rattle.rela_nfa.specs.Automaton.{IsAutomaton};
-ghost use Rattle.rela_engine.specs.Seen.{AreLeast, IsSource, IsFirstSource};
+ghost use Rattle.rela_engine.specs.Seen.{AreLeast, IsSource, IsFirstSource, TellsOf};
 
+use crate::offence::Offence;
 use crate::seen::Seen;
 use rela_labels::{LabelSet, Partition};
 use rela_names::Word;
-use rela_nfa::Nfa;
-use rela_trans::Transducer;
+use rela_report::Row;
+use rela_witness::least_source;
 use std::alloc::{AllocError, Global};
 
+/// The row of an offence, where its side is seen so.
+pub(crate) fn violated_row<L: LabelSet>(
+    alloc: Global,
+    offence: &Offence,
+    seen: &Seen<L>,
+    blocks: &Partition,
+) -> Result<Row, AllocError>
+    requires below { All (λ k. k < block_count blocks.now) offence.now.letters }
+    requires letters { seen.now.paths.letters ≡ block_count blocks.now }
+    requires same_letters { seen.now.relation.letters ≡ block_count blocks.now }
+    requires automaton { IsAutomaton seen.now.paths }
+    requires some { (source : List ℕ) × IsSource seen.now.paths seen.now.relation offence.now.letters source }
+    ensures { IfOk result (TellsOf blocks.now seen.now.paths seen.now.relation offence.now.letters offence.now.side) }
+{
+    let letters = offence.letters.as_slice();
+    Ok(Row::Violated {
+        word: least_symbols(alloc, blocks, letters)?,
+        side: offence.side,
+        source: first_source(alloc, seen, letters, blocks)?,
+    })
+}
+
 /// For each letter the least symbol of its block: of the words that are read so, the first.
-pub(crate) fn least_symbols(
+fn least_symbols(
     alloc: Global,
     blocks: &Partition,
     letters: &[u32],
@@ -29,7 +51,7 @@ pub(crate) fn least_symbols(
 }
 
 /// The first path that is related to the word, which is one of the image.
-pub(crate) fn first_source<L: LabelSet>(
+fn first_source<L: LabelSet>(
     alloc: Global,
     seen: &Seen<L>,
     word: &[u32],
@@ -45,18 +67,4 @@ pub(crate) fn first_source<L: LabelSet>(
         Some(source) => least_symbols(alloc, blocks, source.as_slice()),
         None => unreachable!(),
     }
-}
-
-fn least_source<L: LabelSet>(
-    _alloc: Global,
-    _paths: &Nfa<L>,
-    _relation: &Transducer<L>,
-    word: &[u32],
-) -> Result<Option<Word>, AllocError>
-    requires { _paths.now.letters ≡ _relation.now.letters }
-    ensures found { IfOk result (λ found. IfSome found (First (IsSource _paths.now _relation.now word.now))) }
-    ensures none { IfOk result (λ found. IfNone found ((source : List ℕ) → ¬ IsSource _paths.now _relation.now word.now source)) }
-{
-    let _word = word;
-    Err(AllocError)
 }

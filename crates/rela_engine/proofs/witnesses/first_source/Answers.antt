@@ -1,7 +1,9 @@
 use Rattle.std.proofs.Common.{◌≡◌, ℕ, ◌<◌, List, sym, subst}
 use Rattle.std.specs.List.{All}
+use Rattle.std.proofs.lemmas.Result.{IfOk-weaker}
 use Rattle.rela_compare.proofs.AcceptedLetters.{accepted_letters}
 use Rattle.rela_labels.specs.Partition.{block_count}
+use Rattle.rela_engine.specs.Seen.{AreLeast, IsFirstSource}
 use Rattle.rela_engine.proofs.witnesses.first_source.Goals as goal
 
 pub least_symbols-requires : goal.least_symbols-requires
@@ -13,3 +15,13 @@ least_symbols-requires g c =
 
 pub unreachable-requires : goal.unreachable-requires
 unreachable-requires g c = (rw c.in-None.is at c.in_ok-source.ensures.none) c.requires.some.0 c.requires.some.1
+
+pub returns : goal.returns
+returns g c =
+    let blocks = c.args.blocks.now in
+    IfOk-weaker c.least_symbols.result (AreLeast blocks c.as_slice.result.now) (IsFirstSource blocks c.args.seen.now.paths c.args.seen.now.relation c.args.word.now)
+    (λ symbols are. record {
+      letters = c.in-Some.source;
+      first = rw c.in-Some.is at c.in_ok-source.ensures.found;
+      symbols_are = subst (λ (w : List ℕ). AreLeast blocks w symbols) c.as_slice.ensures are;
+    }) c.least_symbols.ensures
