@@ -5,10 +5,15 @@ use Rattle.std.proofs.lemmas.Bool.{cases_lt}
 use Rattle.std.proofs.lemmas.List.{length-map, map-append, take_all, take_more}
 use Rattle.std.proofs.lemmas.List.Elements.{All-nil, All-push, All-head, All-tail, All-weaker}
 use Rattle.rela_graph.specs.Alone.{StandsAlone}
+use Rattle.rela_graph.specs.Paths.{Paths}
+use Rattle.rela_graph.specs.Topology.{Topology, IsTopology, symbol_at}
 use Rattle.rela_labels.specs.Partition.{block_of, block_count, IsPartition, IsLeastOf}
+use Rattle.rela_names.specs.Alphabet.{path_symbols}
+use Rattle.rela_names.specs.declared.level.Level.{Level}
 use Rattle.rela_names.specs.Shortlex.{IsSmaller, IsBefore, First}
 use Rattle.rela_engine.specs.Reading.{read_by}
-use Rattle.rela_engine.specs.Seen.{AreLeast}
+use Rattle.rela_engine.specs.Seen.{AreLeast, NodesStandAlone}
+use Rattle.rela_engine.proofs.PathLetters.{path_each}
 use Rattle.rela_engine.proofs.Readings.{read_symbol}
 
 abbrev pub IsLeast : List ℕ → ℕ → Type 0
@@ -107,3 +112,12 @@ least_taken blocks letters symbols i s below are least =
 
 pub least_all : (blocks letters symbols : List ℕ) (i : ℕ) → length letters ≤ i → AreLeast blocks (take i letters) symbols → AreLeast blocks letters symbols
 least_all blocks letters symbols i all are = subst (λ l. AreLeast blocks l symbols) (take_all i letters all) are
+
+-- the symbols of the paths of a graph whose nodes stand alone are the least of their blocks
+pub paths_least : (blocks : List ℕ) (g : Topology) (level : Level) (alphabet : List (List ℕ)) → IsTopology g → path_symbols alphabet ≤ length blocks
+    → All (λ node. symbol_at level node < length alphabet) g.nodes → NodesStandAlone blocks level g.nodes → StandsAlone blocks (length alphabet)
+    → StandsAlone blocks (length alphabet + 1) → (w : List ℕ) → Paths g level alphabet w → All (IsLeast blocks) w
+paths_least blocks g level alphabet is few placed alone drops loops =
+    path_each g is (IsLeast blocks) level
+    (λ k d within. alone_least blocks (symbol_at level (get_or g.nodes k d)) (omega (arith, placed k d within, few)) (alone k d within))
+    alphabet (alone_least blocks (length alphabet) (omega (arith, few)) drops) (alone_least blocks (length alphabet + 1) (omega (arith, few)) loops)

@@ -71,6 +71,7 @@ seen_by_same blocks coarse words pairs t paths relation image is seen = record {
   paths_ok = seen.paths_ok;
   relation_ok = seen.relation_ok;
   image_ok = seen.image_ok;
+  least = seen.least;
 }
 
 -- ---- the verdict
@@ -114,7 +115,7 @@ pub letters_below : (blocks : List ℕ) (a : Automaton) → IsAutomaton a → a.
 letters_below blocks a ok count letters accepted = subst (λ n. All (λ k. k < n) letters) count (accepted_letters a ok letters accepted)
 
 module _ (blocks : List ℕ) (is : IsPartition blocks) (words : WordSet) (pairs : Relation) (paths : Automaton) (relation : Machine) (image : Automaton)
-    (seen : AreSeen blocks words pairs paths relation image) (each : (w : List ℕ) → words w → All (IsLeast blocks) w) where
+    (seen : AreSeen blocks words pairs paths relation image) where
   -- a source by letters stands for a path
   path_of : (letters word : List ℕ) → IsSource paths relation (map (read_by blocks) word) letters
       → (u : List ℕ) × (map (read_by blocks) u ≡ letters) × words u × pairs u word
@@ -134,17 +135,6 @@ module _ (blocks : List ℕ) (is : IsPartition blocks) (words : WordSet) (pairs 
     related_letters (read_by blocks) relation u word ((seen.of_relation.relation u word).1 related),
   )
 
-  pub first_path : (word source : List ℕ) → IsFirstSource blocks paths relation (map (read_by blocks) word) source → First (λ u. words u × pairs u word) source
-  first_path word source found =
-      let path = path_of found.letters word found.first.member in
-      let same : path.0 ≡ source = same_words blocks path.0 source (each path.0 path.2) found.symbols_are.least (path.1 ∙ sym found.symbols_are.read) in
-      record {
-        member = subst (λ u. words u × pairs u word) same (path.2, path.3);
-        least = λ v is_source before.
-            found.first.least (map (read_by blocks) v) (source_of v word is_source.0 is_source.1)
-            (subst (IsBefore (map (read_by blocks) v)) found.symbols_are.read (before_letters blocks is v source found.symbols_are.least before));
-      }
-
   -- each word of the image has a source
   pub some_source : (letters : List ℕ) → Accepts image letters → (source : List ℕ) × IsSource paths relation letters source
   some_source letters accepted =
@@ -155,15 +145,52 @@ module _ (blocks : List ℕ) (is : IsPartition blocks) (words : WordSet) (pairs 
         subst (λ l. IsSource paths relation l (map (read_by blocks) found.source)) word.1 (source_of found.source word.0 found.in_set found.related),
       )
 
+  pub first_path : (word source : List ℕ) → IsFirstSource blocks paths relation (map (read_by blocks) word) source → First (λ u. words u × pairs u word) source
+  first_path word source found =
+      let path = path_of found.letters word found.first.member in
+      let same : path.0 ≡ source = same_words blocks path.0 source (seen.least path.0 path.2) found.symbols_are.least (path.1 ∙ sym found.symbols_are.read) in
+      record {
+        member = subst (λ u. words u × pairs u word) same (path.2, path.3);
+        least = λ v is_source before.
+            found.first.least (map (read_by blocks) v) (source_of v word is_source.0 is_source.1)
+            (subst (IsBefore (map (read_by blocks) v)) found.symbols_are.read (before_letters blocks is v source found.symbols_are.least before));
+      }
+
 -- ---- the row
 
-module _ (blocks : List ℕ) (is : IsPartition blocks) (check : Checked) (locations : ℕ) (pre post : WordSet)
-    (pre_paths : Automaton) (pre_relation : Machine) (pre_image : Automaton)
-    (post_paths : Automaton) (post_relation : Machine) (post_image : Automaton)
-    (pre_seen : AreSeen blocks pre (relation_of side.Before check locations) pre_paths pre_relation pre_image)
-    (post_seen : AreSeen blocks post (relation_of side.After check locations) post_paths post_relation post_image)
-    (pre_least : (w : List ℕ) → pre w → All (IsLeast blocks) w) (post_least : (w : List ℕ) → post w → All (IsLeast blocks) w)
-    where
+-- what is known of both sides
+pub record AreSides (blocks : List ℕ) (check : Checked) (locations : ℕ) (pre post : List ℕ → Type 0)
+    (pre_paths : Automaton) (pre_relation : Machine) (pre_image : Automaton) (post_paths : Automaton) (post_relation : Machine) (post_image : Automaton) : Type 0 where
+  pub partition : IsPartition blocks
+  pub pre_seen : AreSeen blocks pre (relation_of side.Before check locations) pre_paths pre_relation pre_image
+  pub post_seen : AreSeen blocks post (relation_of side.After check locations) post_paths post_relation post_image
+
+-- what is seen through a relation that was lent is seen through that relation
+pub seen_lent : (blocks coarse lent : List ℕ) (words : WordSet) (pairs : ℕ → Relation) (n locations : ℕ) (t lent_t : Machine) (paths : Automaton) (relation : Machine) (image : Automaton)
+    → lent ≡ coarse → lent_t ≡ t → n ≡ locations → Realises coarse (pairs locations) t
+    → AreSeen blocks words (Relates (read_by lent) lent_t) paths relation image → AreSeen blocks words (pairs n) paths relation image
+seen_lent blocks coarse lent words pairs n locations t lent_t paths relation image lent_is t_is same realises seen =
+    seen_by_same blocks coarse words (pairs n) t paths relation image (subst (λ m. Realises coarse (pairs m) t) (sym same) realises)
+    (subst (λ (l : List ℕ). AreSeen blocks words (Relates (read_by l) t) paths relation image) lent_is
+    (subst (λ (u : Machine). AreSeen blocks words (Relates (read_by lent) u) paths relation image) t_is seen))
+
+pub sides_of : (blocks coarse lent : List ℕ) (check : Checked) (n locations : ℕ) (pre post : WordSet) (before after lent_before lent_after : Machine)
+    (pre_paths : Automaton) (pre_relation : Machine) (pre_image : Automaton) (post_paths : Automaton) (post_relation : Machine) (post_image : Automaton)
+    → IsPartition blocks → lent ≡ coarse → lent_before ≡ before → lent_after ≡ after → n ≡ locations
+    → Realises coarse (relation_of side.Before check locations) before → Realises coarse (relation_of side.After check locations) after
+    → AreSeen blocks pre (Relates (read_by lent) lent_before) pre_paths pre_relation pre_image
+    → AreSeen blocks post (Relates (read_by lent) lent_after) post_paths post_relation post_image
+    → AreSides blocks check n pre post pre_paths pre_relation pre_image post_paths post_relation post_image
+sides_of blocks coarse lent check n locations pre post before after lent_before lent_after pre_paths pre_relation pre_image post_paths post_relation post_image
+    partition lent_is before_is after_is same before_realises after_realises pre_seen post_seen = record {
+      partition = partition;
+      pre_seen = seen_lent blocks coarse lent pre (relation_of side.Before check) n locations before lent_before pre_paths pre_relation pre_image lent_is before_is same before_realises pre_seen;
+      post_seen = seen_lent blocks coarse lent post (relation_of side.After check) n locations after lent_after post_paths post_relation post_image lent_is after_is same after_realises post_seen;
+    }
+
+module _ (blocks : List ℕ) (check : Checked) (locations : ℕ) (pre post : WordSet)
+    (pre_paths : Automaton) (pre_relation : Machine) (pre_image : Automaton) (post_paths : Automaton) (post_relation : Machine) (post_image : Automaton)
+    (sides : AreSides blocks check locations pre post pre_paths pre_relation pre_image post_paths post_relation post_image) where
   abbrev X : WordSet
   X = ImageOf pre (relation_of side.Before check locations)
 
@@ -171,13 +198,13 @@ module _ (blocks : List ℕ) (is : IsPartition blocks) (check : Checked) (locati
   Y = ImageOf post (relation_of side.After check locations)
 
   pub compliant_row : AreMet check.at_most (Accepts pre_image) (Accepts post_image) → RowOf check locations pre post Compliant
-  compliant_row = met blocks X Y pre_image post_image pre_seen.of_image post_seen.of_image check.at_most
+  compliant_row = met blocks X Y pre_image post_image sides.pre_seen.of_image sides.post_seen.of_image check.at_most
 
   first_word : (letters word : List ℕ) → First (Offends check.at_most (Accepts pre_image) (Accepts post_image)) letters → AreLeast blocks letters word
       → First (Offends check.at_most X Y) word
   first_word letters word first are =
-      first_symbols blocks is (Offends check.at_most (Accepts pre_image) (Accepts post_image)) (Offends check.at_most X Y)
-      (offends blocks X Y pre_image post_image pre_seen.of_image post_seen.of_image check.at_most) letters word are first
+      first_symbols blocks sides.partition (Offends check.at_most (Accepts pre_image) (Accepts post_image)) (Offends check.at_most X Y)
+      (offends blocks X Y pre_image post_image sides.pre_seen.of_image sides.post_seen.of_image check.at_most) letters word are first
 
   pub before_row : (letters : List ℕ) → First (Offends check.at_most (Accepts pre_image) (Accepts post_image)) letters → Accepts pre_image letters
       → (row : Row) → TellsOf blocks pre_paths pre_relation letters side.Before row → RowOf check locations pre post row
@@ -186,8 +213,8 @@ module _ (blocks : List ℕ) (is : IsPartition blocks) (check : Checked) (locati
   before_row letters first accepted (Violated word of source) tells =
       subst (λ (s : Side). IsOffence check locations pre post word s source) (sym tells.1) (record {
         first = first_word letters word first tells.0;
-        in_image = (pre_seen.of_image.language word).0 (subst (Accepts pre_image) (sym tells.0.read) accepted);
-        first_source = first_path blocks is pre (relation_of side.Before check locations) pre_paths pre_relation pre_image pre_seen pre_least word source
+        in_image = (sides.pre_seen.of_image.language word).0 (subst (Accepts pre_image) (sym tells.0.read) accepted);
+        first_source = first_path blocks sides.partition pre (relation_of side.Before check locations) pre_paths pre_relation pre_image sides.pre_seen word source
             (subst (λ l. IsFirstSource blocks pre_paths pre_relation l source) (sym tells.0.read) tells.2);
       })
 
@@ -198,7 +225,7 @@ module _ (blocks : List ℕ) (is : IsPartition blocks) (check : Checked) (locati
   after_row letters first accepted (Violated word of source) tells =
       subst (λ (s : Side). IsOffence check locations pre post word s source) (sym tells.1) (record {
         first = first_word letters word first tells.0;
-        in_image = (post_seen.of_image.language word).0 (subst (Accepts post_image) (sym tells.0.read) accepted);
-        first_source = first_path blocks is post (relation_of side.After check locations) post_paths post_relation post_image post_seen post_least word source
+        in_image = (sides.post_seen.of_image.language word).0 (subst (Accepts post_image) (sym tells.0.read) accepted);
+        first_source = first_path blocks sides.partition post (relation_of side.After check locations) post_paths post_relation post_image sides.post_seen word source
             (subst (λ l. IsFirstSource blocks post_paths post_relation l source) (sym tells.0.read) tells.2);
       })

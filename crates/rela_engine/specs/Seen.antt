@@ -34,7 +34,11 @@ pub record AreFiner (coarse : List ℕ) (locations : ℕ) (level : Level) (pre p
   pub drops : StandsAlone blocks locations
   pub loops : StandsAlone blocks (locations + 1)
 
--- the automaton of a set of words, the transducer of a relation, and the automaton of the image
+-- each symbol is the least of its block
+abbrev pub AreLeastSymbols : List ℕ → List ℕ → Type 0
+AreLeastSymbols blocks word = All (λ s. IsLeastOf blocks (block_of blocks s) s) word
+
+-- the automaton of a set of words, each of which has least symbols alone, the transducer of a relation, and the automaton of the image
 pub record AreSeen (blocks : List ℕ) (words : List ℕ → Type 0) (pairs : List ℕ → List ℕ → Type 0) (paths : Automaton) (relation : Machine) (image : Automaton) : Type 0 where
   pub of_paths : Recognises blocks words paths
   pub of_relation : Realises blocks pairs relation
@@ -42,11 +46,12 @@ pub record AreSeen (blocks : List ℕ) (words : List ℕ → Type 0) (pairs : Li
   pub paths_ok : IsAutomaton paths
   pub relation_ok : IsMachine relation
   pub image_ok : IsAutomaton image
+  pub least : (w : List ℕ) → words w → AreLeastSymbols blocks w
 
 -- the symbols are read as these letters, and each is the least of its block
 pub record AreLeast (blocks letters symbols : List ℕ) : Type 0 where
   pub read : map (read_by blocks) symbols ≡ letters
-  pub least : All (λ s. IsLeastOf blocks (block_of blocks s) s) symbols
+  pub least : AreLeastSymbols blocks symbols
 
 -- the word of letters is accepted, and related to the other
 abbrev pub IsSource : Automaton → Machine → List ℕ → List ℕ → Type 0

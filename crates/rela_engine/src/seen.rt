@@ -1,5 +1,5 @@
 //! The paths of a snapshot and what a relation makes of them, as automata.
-ghost use Rattle.std.specs.Prelude.{◌≡◌, ◌+◌, ◌<◌, ◌≤◌, IfOk, All, length};
+ghost use Rattle.std.specs.Prelude.{◌≡◌, ℕ, ◌+◌, ◌<◌, ◌≤◌, List, IfOk, All, length};
 ghost use Rattle.rela_graph.specs.Alone.{StandsAlone};
 ghost use Rattle.rela_graph.specs.Paths.{Paths};
 ghost use Rattle.rela_graph.specs.Topology.{symbol_at};
@@ -10,10 +10,10 @@ ghost use Rattle.rela_nfa.specs.Relabelling.{Refines};
 ghost use Rattle.rela_trans.specs.Machine.{IsMachine};
 ghost use Rattle.rela_trans.specs.Runs.{Relates};
 ghost use Rattle.rela_engine.specs.Reading.{read_by, Recognises, Realises};
-ghost use Rattle.rela_engine.specs.Seen.{AreSeen, NodesStandAlone};
+ghost use Rattle.rela_engine.specs.Seen.{AreLeastSymbols, AreSeen, NodesStandAlone};
 
 use crate::unlimited::unlimited;
-use rela_graph::Graph;
+use rela_graph::{Graph, MAX_NODES};
 use rela_labels::{LabelSet, Partition, WideSet};
 use rela_names::{Alphabet, Level};
 use rela_nfa::Nfa;
@@ -78,7 +78,9 @@ fn paths_over<L: LabelSet>(
     requires fits { L.fits (block_count blocks.now) }
     ensures paths { IfOk result (Recognises blocks.now (Paths graph.now level alphabet.now)) }
     ensures automaton { IfOk result IsAutomaton }
+    ensures least { IfOk result (λ _. (w : List ℕ) → Paths graph.now level alphabet.now w → AreLeastSymbols blocks.now w) }
 {
+    prove!(graph.nodes().len() <= MAX_NODES);
     let nfa = graph.to_nfa(alloc, level, alphabet, blocks)?;
     prove!(nfa.start() < nfa.states());
     Ok(nfa)

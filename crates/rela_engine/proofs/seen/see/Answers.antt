@@ -23,4 +23,5 @@ returns g c =
       paths_ok = c.in_ok-paths.ensures.automaton;
       relation_ok = c.in_ok-relation.ensures.machine;
       image_ok = c.start.ensures.automaton;
+      least = c.in_ok-paths.ensures.least;
     }
