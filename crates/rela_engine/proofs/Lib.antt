@@ -6,3 +6,4 @@ pub mod PathLetters
 pub mod LeastWords
 pub mod Rows
 pub mod NodesApart
+pub mod Placed

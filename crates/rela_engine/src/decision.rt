@@ -1,6 +1,5 @@
 ghost use Rattle.std.specs.Prelude.{◌≡◌, ◌<◌, IfOk, All, length};
 ghost use Rattle.rela_graph.specs.Paths.{Paths};
-ghost use Rattle.rela_graph.specs.Topology.{symbol_at};
 ghost use Rattle.rela_labels.specs.Partition.{block_count};
 ghost use Rattle.rela_names.specs.Alphabet.{path_symbols};
 ghost use Rattle.rela_snapshot.specs.PairsLocated.{IsPairLocated};
@@ -84,8 +83,7 @@ fn row_over<L: LabelSet>(
     blocks: &Partition,
 ) -> Result<Row, AllocError>
     requires alphabet { length alphabet.now ≡ compiled.now.locations }
-    requires before { All (λ node. symbol_at compiled.now.check.level node < length alphabet.now) pair.now.before.nodes }
-    requires after { All (λ node. symbol_at compiled.now.check.level node < length alphabet.now) pair.now.after.nodes }
+    requires located { IsPairLocated alphabet.now compiled.now.check.level pair.now }
     requires blocks { AreFiner compiled.now.blocks (length alphabet.now) compiled.now.check.level pair.now.before pair.now.after blocks.now }
     requires fits { L.fits (block_count blocks.now) }
     ensures { IfOk result (RowOf compiled.now.check (length alphabet.now) (Paths pair.now.before compiled.now.check.level alphabet.now) (Paths pair.now.after compiled.now.check.level alphabet.now)) }

@@ -1,4 +1,4 @@
-use Rattle.std.proofs.Common.{◌≡◌, ℕ, List, length, subst}
+use Rattle.std.proofs.Common.{◌≡◌, ℕ, List, length, refl, subst}
 use Rattle.std.proofs.lemmas.Result.{IfOk-weaker}
 use Rattle.rela_graph.specs.Paths.{Paths}
 use Rattle.rela_report.specs.declared.rows.Side.{Side}
@@ -6,6 +6,7 @@ use Rattle.rela_trans.specs.Runs.{Relates}
 use Rattle.rela_engine.specs.Reading.{read_by}
 use Rattle.rela_engine.specs.RowOf.{RowOf}
 use Rattle.rela_engine.specs.Seen.{TellsOf}
+use Rattle.rela_engine.proofs.Placed.{placed}
 use Rattle.rela_engine.proofs.Rows.{sides_of, compliant_row, before_row, after_row, letters_below, some_source}
 use Rattle.rela_engine.proofs.decision.row_over.Goals as goal
 
@@ -70,3 +71,11 @@ returns g c =
     (λ row tells. after_row c.args.blocks.now c.args.compiled.now.check (length c.args.alphabet.now) (Paths c.args.pair.now.before c.args.compiled.now.check.level c.args.alphabet.now) (Paths c.args.pair.now.after c.args.compiled.now.check.level c.args.alphabet.now) c.in_ok-before.before.paths c.in_ok-before.before.relation c.in_ok-before.before.image c.in_ok-after.after.paths c.in_ok-after.after.relation c.in_ok-after.after.image sides letters first accepted row
     (subst (λ (s : Side). TellsOf c.args.blocks.now c.in_ok-after.after.paths c.in_ok-after.after.relation letters s row) c.in-After.is tells))
     c.violated_row-in-After.ensures
+
+pub see-requires-clause-placed : goal.see-requires-clause-placed
+see-requires-clause-placed g c =
+    placed c.args.alphabet.now c.args.compiled.now.check.level c.level-level.result (length c.args.alphabet.now) c.args.pair.now.before c.level-level.ensures refl c.requires.located.0
+
+pub see-requires-2-clause-placed : goal.see-requires-2-clause-placed
+see-requires-2-clause-placed g c =
+    placed c.args.alphabet.now c.args.compiled.now.check.level c.level-level.result (length c.args.alphabet.now) c.args.pair.now.after c.level-level.ensures refl c.requires.located.1
