@@ -1,3 +1,13 @@
 pub mod Readings
 pub mod SplitWords
 pub mod ReadWords
+pub mod NamedForms
+pub mod NamedByChecks
+pub mod Languages
+pub mod Pairs
+pub mod Gathered
+pub mod ClassLetters
+pub mod SplitBlocks
+pub mod OwnLetters
+pub mod OtherWords
+pub mod CheckedRelations

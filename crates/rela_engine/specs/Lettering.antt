@@ -27,7 +27,7 @@ IsOwn l s = (l.locations ≤ s) × (s < symbols_of l.check l.locations)
 -- the letters of the path symbols, and those of each class
 pub record AreLetters (l : Lettering) (path : List Bool) (classes : List (List Bool)) : Type 0 where
   pub blocks : AreBlocks l.check l.locations l.blocks
-  pub path : HoldsJust l.blocks (λ s. s < path_symbols l.locations) path
+  pub of_path : HoldsJust l.blocks (λ s. s < path_symbols l.locations) path
   pub count : length classes ≡ length l.check.classes
   pub each : (k : ℕ) (set : List Bool) → slice_get classes k ≡ Some set → HoldsJust l.blocks (IsInClass (setting_of l) k) set
 

@@ -32,6 +32,11 @@ impl<'a> Model for Compiled<'a> {
 
     ghost Value = { Compilation };
 
+    ghost use Rattle.std.specs.Coded.{codes};
+    ghost use Rattle.rela_translate.specs.contracts.checks.Check as check_type;
+
+    ghost coded = { Prim.hlevel (codes, check_type.the_row.coded) };
+
     ghost view = { λ c. record {
       check = c.check.now;
       locations = c.locations;
@@ -49,8 +54,8 @@ impl<'a> Model for Compiled<'a> {
     }) };
 }
 
-/// Compiles the check under the alphabet of its level, whose path symbols the class table lists. The
-/// only error is want of memory.
+/// The check compiled under the alphabet of its level, of which its class table lists path symbols
+/// alone. The only error is want of memory.
 pub fn compile<'a>(
     alloc: Global,
     check: &'a Check,
@@ -61,19 +66,36 @@ pub fn compile<'a>(
     ensures locations { IfOk result (λ compiled. compiled.locations ≡ length alphabet.now) }
     ensures compiled { IfOk result IsCompiled }
 {
-    let locations = alphabet.drop_symbol();
     let blocks = blocks_of(alloc, check, alphabet)?;
-    let relations = translate(alloc, check, alphabet)?;
-    let letters = Letters::new(alloc, check, locations, &blocks)?;
-    let before = transducer(alloc, &relations.before, &letters)?;
-    let after = transducer(alloc, &relations.after, &letters)?;
+    let (before, after) = relations_over(alloc, check, alphabet, &blocks)?;
     Ok(Compiled {
         check,
-        locations,
+        locations: alphabet.drop_symbol(),
         blocks,
         before,
         after,
     })
+}
+
+/// The check's relations before and after the change over the blocks of its symbols.
+fn relations_over(
+    alloc: Global,
+    check: &Check,
+    alphabet: &Alphabet,
+    blocks: &Partition,
+) -> Result<(Transducer<WideSet>, Transducer<WideSet>), AllocError>
+    requires blocks { AreBlocks check.now (length alphabet.now) blocks.now }
+    requires listed { All (λ set. All (λ s. s < path_symbols alphabet.now) set.members) check.now.classes }
+    ensures before { IfOk result (λ pair. Realises blocks.now (Before check.now.classes (length alphabet.now) check.now.body) pair.0) }
+    ensures after { IfOk result (λ pair. Realises blocks.now (After check.now.classes (length alphabet.now) check.now.body) pair.1) }
+{
+    // By what each check keeps, its terms name drop and its markers alone, and no location.
+    let _ = check.body();
+    let relations = translate(alloc, check, alphabet)?;
+    let letters = Letters::new(alloc, check, alphabet, blocks)?;
+    let before = transducer(alloc, &relations.before, &letters)?;
+    let after = transducer(alloc, &relations.after, &letters)?;
+    Ok((before, after))
 }
 
 impl<'a> Compiled<'a> {

@@ -1,7 +1,8 @@
 ghost use Rattle.std.specs.Prelude.{◌≡◌, ℕ, ◌<◌, Bool, List, IfOk, IfNone, IfSome, All, length, slice_index_or};
-ghost use Rattle.rela_labels.specs.Partition.{block_count, IsPartition};
+ghost use Rattle.rela_labels.specs.Partition.{block_count};
 ghost use Rattle.rela_rir.specs.Meaning.{IsInClass};
 ghost use Rattle.rela_rir.specs.declared.set.SymbolSet.{SymbolSet};
+ghost use Rattle.rela_trans.specs.Composition.{Covers};
 ghost use Rattle.rela_translate.specs.Zones.{path_symbols};
 ghost use Rattle.rela_engine.specs.Blocks.{AreBlocks};
 ghost use Rattle.rela_engine.specs.Lettering.{AreClassLetters, IsOwn, setting_of};
@@ -9,7 +10,7 @@ ghost use Rattle.rela_engine.specs.Reading.{HoldsJust, read_by};
 
 use crate::letter_sets::{letters_below, letters_of};
 use rela_labels::{LabelSet, Partition, WideSet};
-use rela_names::Symbol;
+use rela_names::{Alphabet, Symbol};
 use rela_rir::SymbolSet;
 use rela_translate::Check;
 use std::alloc::{AllocError, Global};
@@ -31,24 +32,31 @@ impl<'a> Model for Letters<'a> {
 
     ghost Value = { Lettering };
 
+    ghost use Rattle.std.specs.Coded.{codes};
+    ghost use Rattle.rela_translate.specs.contracts.checks.Check as check_type;
+
+    ghost coded = { Prim.hlevel (codes, check_type.the_row.coded) };
+
     ghost view = { λ l. record { check = l.check.now; locations = l.locations; blocks = l.blocks.now } };
 
     ghost invariant = { λ l. AreLetters (record { check = l.check.now; locations = l.locations; blocks = l.blocks.now }) l.path l.classes.items };
 }
 
 impl<'a> Letters<'a> {
-    /// The letters of the check's automata, under a number of locations and the blocks of its symbols.
+    /// The letters of the check's automata, under the alphabet of its level and the blocks of its
+    /// symbols.
     pub(crate) fn new(
         alloc: Global,
         check: &'a Check,
-        locations: u32,
+        alphabet: &Alphabet,
         blocks: &'a Partition,
     ) -> Result<Letters<'a>, AllocError>
-        requires blocks { AreBlocks check.now locations blocks.now }
-        requires listed { All (λ set. All (λ s. s < path_symbols locations) set.members) check.now.classes }
-        ensures { IfOk result (λ letters. letters ≡ record { check = check.now; locations = locations; blocks = blocks.now }) }
+        requires blocks { AreBlocks check.now (length alphabet.now) blocks.now }
+        requires listed { All (λ set. All (λ s. s < path_symbols (length alphabet.now)) set.members) check.now.classes }
+        ensures { IfOk result (λ letters. letters ≡ record { check = check.now; locations = length alphabet.now; blocks = blocks.now }) }
     {
-        let path = letters_below(alloc, blocks, locations + 2)?;
+        let locations = alphabet.drop_symbol();
+        let path = letters_below(alloc, blocks, alphabet.len())?;
         let classes = letters_of_classes(alloc, check.classes(), blocks, &path)?;
         Ok(Letters {
             check,
@@ -61,11 +69,16 @@ impl<'a> Letters<'a> {
 
     /// How many letters there are.
     pub(crate) fn count(&self) -> u32
-        ensures count { result ≡ block_count self.now.blocks }
-        ensures partition { IsPartition self.now.blocks }
+        ensures { result ≡ block_count self.now.blocks }
+    {
+        self.blocks.blocks()
+    }
+
+    /// Each letter is that of some symbol. The call does nothing, and its contract is this law.
+    pub(crate) fn are_covered(&self)
+        ensures { Covers (read_by self.now.blocks) (block_count self.now.blocks) }
     {
         let _ = &self.path;
-        self.blocks.blocks()
     }
 
     /// The letter of a symbol that is a block of its own.

@@ -12,3 +12,6 @@ mod markers;
 mod unlimited;
 
 pub use compiled::{Compiled, compile};
+
+#[cfg(test)]
+mod tests;
