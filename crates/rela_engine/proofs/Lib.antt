@@ -7,3 +7,13 @@ pub mod LeastWords
 pub mod Rows
 pub mod NodesApart
 pub mod Placed
+pub mod NamedForms
+pub mod NamedByChecks
+pub mod Languages
+pub mod Pairs
+pub mod Gathered
+pub mod ClassLetters
+pub mod SplitBlocks
+pub mod OwnLetters
+pub mod OtherWords
+pub mod CheckedRelations

@@ -1,25 +1,20 @@
 -- Blocks that are split by the locations of nodes.
-use Rattle.std.proofs.Common.{◌≡◌, ℕ, zero, suc, ◌+◌, ◌<◌, ◌≤◌, ◌↔◌, List, [], ◌∷◌, ◌++◌, length, get_or, take, refl, sym, ap, ◌∙◌, subst, arith}
+use Rattle.std.proofs.Common.{◌≡◌, ℕ, ◌+◌, ◌<◌, ◌≤◌, ◌↔◌, List, [], ◌∷◌, ◌++◌, length, get_or, take, refl, sym, ap, ◌∙◌, subst, arith}
 use Rattle.std.specs.List.{All}
 use Rattle.std.specs.Prelude.{Contains, Some, Result, Ok, Err, IfOk}
 use Rattle.std.proofs.lemmas.List.{take_more, take_all}
-use Rattle.std.proofs.lemmas.List.Elements.{All-nil, All-push, All-pop, Contains-get_or}
+use Rattle.std.proofs.lemmas.List.Elements.{All-nil, All-push, All-pop}
 use Rattle.rela_graph.specs.Alone.{StandsAlone}
 use Rattle.rela_graph.specs.Topology.{Topology, symbol_at}
 use Rattle.rela_graph.specs.declared.node.Node.{Node}
 use Rattle.rela_labels.specs.Partition.{IsPartition, Together}
 use Rattle.rela_names.specs.declared.level.Level.{Level}
+use Rattle.rela_engine.proofs.SplitBlocks.{contains_one}
 use Rattle.rela_engine.specs.Seen.{AreAtAlike, AreFiner, NodesStandAlone}
 
 -- both are the location of the node, or neither
 abbrev AreBoth : Level → ℕ → ℕ → Node → Type 0
 AreBoth level s t node = (s ≡ symbol_at level node) ↔ (t ≡ symbol_at level node)
-
-contains_one : (k s : ℕ) → Contains (k ∷ []) s ↔ (s ≡ k)
-contains_one k s = (only, λ e. subst (Contains (k ∷ [])) (sym e) (Contains-get_or (k ∷ []) 0 0 (omega arith))) where
-  only : Contains (k ∷ []) s → s ≡ k
-  only (zero, below, at) = sym at
-  only (suc j, below, at) = absurd (omega (arith, below))
 
 both_one : (level : Level) (node : Node) (k s t : ℕ) → k ≡ symbol_at level node → (Contains (k ∷ []) s ↔ Contains (k ∷ []) t) ↔ AreBoth level s t node
 both_one level node k s t is = (

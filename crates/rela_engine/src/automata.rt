@@ -57,6 +57,7 @@ pub(crate) fn automaton(
         PathTerm::Image(set, relation) => {
             let words = automaton(alloc, set.get(), letters)?;
             let pairs = transducer(alloc, relation.get(), letters)?;
+            letters.are_covered();
             unlimited(image(alloc, &words, &pairs, usize::MAX))
         }
     }
@@ -96,6 +97,7 @@ pub(crate) fn transducer(
         RelTerm::Compose(a, b) => {
             let first = transducer(alloc, a.get(), letters)?;
             let second = transducer(alloc, b.get(), letters)?;
+            letters.are_covered();
             unlimited(first.compose(alloc, &second, usize::MAX))
         }
     }

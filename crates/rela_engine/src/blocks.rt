@@ -55,13 +55,14 @@ fn split_by_classes(
 }
 
 /// Makes each symbol from the first on and below the end a block of its own.
-fn set_apart(
+pub(crate) fn set_apart(
     alloc: Global,
     splitter: &mut Splitter,
     first: Symbol,
     end: Symbol,
 ) -> Result<(), AllocError>
-    requires { end ≤ length splitter.old }
+    requires order { first ≤ end }
+    requires symbols { end ≤ length splitter.old }
     ensures symbols { length splitter.new ≡ length splitter.old }
     ensures split { IfOk result (λ _. (s t : ℕ) → s < length splitter.old → t < length splitter.old
         → Together splitter.new s t ↔ (Together splitter.old s t × AreSetApart first end s t)) }

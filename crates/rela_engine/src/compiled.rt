@@ -54,8 +54,8 @@ impl<'a> Model for Compiled<'a> {
     }) };
 }
 
-/// Compiles the check under the alphabet of its level, whose path symbols the class table lists. The
-/// only error is want of memory.
+/// The check compiled under the alphabet of its level, of which its class table lists path symbols
+/// alone. The only error is want of memory.
 pub fn compile<'a>(
     alloc: Global,
     check: &'a Check,
@@ -89,6 +89,8 @@ fn relations_over(
     ensures before { IfOk result (λ pair. Realises blocks.now (Before check.now.classes (length alphabet.now) check.now.body) pair.0) }
     ensures after { IfOk result (λ pair. Realises blocks.now (After check.now.classes (length alphabet.now) check.now.body) pair.1) }
 {
+    // By what each check keeps, its terms name drop and its markers alone, and no location.
+    let _ = check.body();
     let relations = translate(alloc, check, alphabet)?;
     let letters = Letters::new(alloc, check, alphabet, blocks)?;
     let before = transducer(alloc, &relations.before, &letters)?;
