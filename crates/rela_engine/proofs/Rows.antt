@@ -1,0 +1,231 @@
+-- The row of a check, by what automata over blocks of symbols tell.
+use Rattle.std.proofs.Common.{◌≡◌, ℕ, suc, ◌+◌, ◌<◌, ◌≤◌, ◌⊎◌, ◌↔◌, Bool, true, false, List, [], ◌∷◌, length, map, refl, sym, ap, ◌∙◌, subst, inl, inr, arith}
+use Rattle.std.specs.List.{All}
+use Rattle.std.proofs.lemmas.List.Elements.{All-head, All-tail}
+use Rattle.rela_labels.specs.Partition.{block_of, block_count, IsPartition, IsLeastOf}
+use Rattle.rela_names.specs.Shortlex.{IsBefore, First}
+use Rattle.rela_nfa.specs.Automaton.{Automaton, IsAutomaton}
+use Rattle.rela_nfa.specs.Runs.{Accepts}
+use Rattle.rela_report.specs.declared.rows.Row.{Row}
+use Rattle.rela_report.specs.declared.rows.Row.TheVariants.{Compliant, Violated, Undecided}
+use Rattle.rela_report.specs.declared.rows.Side.{Side}
+use Rattle.rela_report.specs.declared.rows.Side.TheVariants as side
+use Rattle.rela_rir.specs.Words.{WordSet, Relation, ImageOf}
+use Rattle.rela_trans.specs.Machine.{Machine}
+use Rattle.rela_trans.specs.Runs.{Relates}
+use Rattle.rela_trans.proofs.SymbolLetters.{related_letters, related_symbols}
+use Rattle.rela_translate.specs.Checked.{Checked}
+use Rattle.rela_translate.specs.Verdict.{AreMet, Offends}
+use Rattle.rela_compare.proofs.AcceptedLetters.{accepted_letters}
+use Rattle.rela_engine.specs.Reading.{read_by, Recognises, Realises}
+use Rattle.rela_engine.specs.RowOf.{RowOf, IsOffence, relation_of}
+use Rattle.rela_engine.specs.Seen.{AreSeen, AreLeast, IsSource, IsFirstSource, TellsOf}
+use Rattle.rela_engine.proofs.LeastWords.{IsLeast, before_letters, first_symbols, same_words}
+use Rattle.rela_engine.proofs.Readings.{covered}
+
+-- ---- images told by letters
+
+-- a relation with the same pairs
+pub same_pairs : (coarse fine : List ℕ) (pairs : Relation) (a b : Machine) → Realises coarse pairs a → Realises fine (Relates (read_by coarse) a) b → Realises fine pairs b
+same_pairs coarse fine pairs a b is same = record {
+  letters = same.letters;
+  relation = λ u v. (λ related. (is.relation u v).0 ((same.relation u v).0 related), λ pair. (same.relation u v).1 ((is.relation u v).1 pair));
+}
+
+-- what an automaton of an image recognises
+pub recognises_image : (blocks : List ℕ) (words : WordSet) (pairs : Relation) (a : Automaton) (t : Machine) (image : Automaton)
+    → Recognises blocks words a → Realises blocks pairs t → image.letters ≡ a.letters
+    → ((v : List ℕ) → Accepts image (map (read_by blocks) v) ↔ ((source : List ℕ) × Accepts a (map (read_by blocks) source) × Relates (read_by blocks) t source v))
+    → Recognises blocks (ImageOf words pairs) image
+recognises_image blocks words pairs a t image in_a in_t letters language = record {
+  letters = letters ∙ in_a.letters;
+  language = λ v. (
+    λ accepted.
+        let found = (language v).0 accepted in record {
+          source = found.0;
+          in_set = (in_a.language found.0).0 found.1;
+          related = (in_t.relation found.0 v).0 found.2;
+        },
+    λ is. (language v).1 (is.source, (in_a.language is.source).1 is.in_set, (in_t.relation is.source v).1 is.related),
+  );
+}
+
+pub image_of_same : (blocks : List ℕ) (words : WordSet) (pairs others : Relation) (image : Automaton) → ((u v : List ℕ) → pairs u v ↔ others u v)
+    → Recognises blocks (ImageOf words pairs) image → Recognises blocks (ImageOf words others) image
+image_of_same blocks words pairs others image same is = record {
+  letters = is.letters;
+  language = λ w. (
+    λ accepted. let found = (is.language w).0 accepted in
+        record { source = found.source; in_set = found.in_set; related = (same found.source w).0 found.related },
+    λ found. (is.language w).1 (record { source = found.source; in_set = found.in_set; related = (same found.source w).1 found.related }),
+  );
+}
+
+-- the automata of a relation are those of one with the same pairs
+pub seen_by_same : (blocks coarse : List ℕ) (words : WordSet) (pairs : Relation) (t : Machine) (paths : Automaton) (relation : Machine) (image : Automaton)
+    → Realises coarse pairs t → AreSeen blocks words (Relates (read_by coarse) t) paths relation image → AreSeen blocks words pairs paths relation image
+seen_by_same blocks coarse words pairs t paths relation image is seen = record {
+  of_paths = seen.of_paths;
+  of_relation = same_pairs coarse blocks pairs t relation is seen.of_relation;
+  of_image = image_of_same blocks words (Relates (read_by coarse) t) pairs image is.relation seen.of_image;
+  paths_ok = seen.paths_ok;
+  relation_ok = seen.relation_ok;
+  image_ok = seen.image_ok;
+  least = seen.least;
+}
+
+-- ---- the verdict
+
+module _ (blocks : List ℕ) (X Y : WordSet) (x y : Automaton) (in_x : Recognises blocks X x) (in_y : Recognises blocks Y y) where
+  pub met : (at_most : Bool) → AreMet at_most (Accepts x) (Accepts y) → AreMet at_most X Y
+  met false same =
+      λ w. (
+        λ is. (in_y.language w).0 ((same (map (read_by blocks) w)).0 ((in_x.language w).1 is)),
+        λ is. (in_x.language w).0 ((same (map (read_by blocks) w)).1 ((in_y.language w).1 is)),
+      )
+  met true within = λ w is. (in_x.language w).0 (within (map (read_by blocks) w) ((in_y.language w).1 is))
+
+  pub offends : (at_most : Bool) (w : List ℕ) → Offends at_most (Accepts x) (Accepts y) (map (read_by blocks) w) ↔ Offends at_most X Y w
+  offends false w = (
+    λ o. elim o [
+      | inl first ↦ inl ((in_x.language w).0 first.0, λ is. first.1 ((in_y.language w).1 is))
+      | inr second ↦ inr (λ is. second.0 ((in_x.language w).1 is), (in_y.language w).0 second.1)
+    ],
+    λ o. elim o [
+      | inl first ↦ inl ((in_x.language w).1 first.0, λ is. first.1 ((in_y.language w).0 is))
+      | inr second ↦ inr (λ is. second.0 ((in_x.language w).0 is), (in_y.language w).1 second.1)
+    ],
+  )
+  offends true w = (
+    λ o. ((in_y.language w).0 o.0, λ is. o.1 ((in_x.language w).1 is)),
+    λ o. ((in_y.language w).1 o.0, λ is. o.1 ((in_x.language w).0 is)),
+  )
+
+-- ---- the source
+
+word_for : (blocks : List ℕ) → IsPartition blocks → (letters : List ℕ) → All (λ k. k < block_count blocks) letters → (w : List ℕ) × (map (read_by blocks) w ≡ letters)
+word_for blocks is [] below = ([], refl)
+word_for blocks is (k ∷ letters) below =
+    let first = covered blocks is k (All-head (λ j. j < block_count blocks) k letters below) in
+    let rest = word_for blocks is letters (All-tail (λ j. j < block_count blocks) k letters below) in
+    (first.0 ∷ rest.0, λ i. first.1 i ∷ rest.1 i)
+
+-- what is accepted is a word of letters
+pub letters_below : (blocks : List ℕ) (a : Automaton) → IsAutomaton a → a.letters ≡ block_count blocks → (letters : List ℕ) → Accepts a letters → All (λ k. k < block_count blocks) letters
+letters_below blocks a ok count letters accepted = subst (λ n. All (λ k. k < n) letters) count (accepted_letters a ok letters accepted)
+
+module _ (blocks : List ℕ) (is : IsPartition blocks) (words : WordSet) (pairs : Relation) (paths : Automaton) (relation : Machine) (image : Automaton)
+    (seen : AreSeen blocks words pairs paths relation image) where
+  -- a source by letters stands for a path
+  path_of : (letters word : List ℕ) → IsSource paths relation (map (read_by blocks) word) letters
+      → (u : List ℕ) × (map (read_by blocks) u ≡ letters) × words u × pairs u word
+  path_of letters word source =
+      let u = related_symbols (read_by blocks) relation seen.relation_ok
+      (subst (λ n. (k : ℕ) → k < n → (s : ℕ) × (read_by blocks s ≡ k)) (sym seen.of_relation.letters) (covered blocks is)) letters word source.1 in (
+        u.0,
+        u.1,
+        (seen.of_paths.language u.0).0 (subst (Accepts paths) (sym u.1) source.0),
+        (seen.of_relation.relation u.0 word).0 u.2,
+      )
+
+  -- and each path that is related to the word has letters that are a source
+  source_of : (u word : List ℕ) → words u → pairs u word → IsSource paths relation (map (read_by blocks) word) (map (read_by blocks) u)
+  source_of u word in_words related = (
+    (seen.of_paths.language u).1 in_words,
+    related_letters (read_by blocks) relation u word ((seen.of_relation.relation u word).1 related),
+  )
+
+  -- each word of the image has a source
+  pub some_source : (letters : List ℕ) → Accepts image letters → (source : List ℕ) × IsSource paths relation letters source
+  some_source letters accepted =
+      let word = word_for blocks is letters (letters_below blocks image seen.image_ok seen.of_image.letters letters accepted) in
+      let found = (seen.of_image.language word.0).0 (subst (Accepts image) (sym word.1) accepted) in
+      (
+        map (read_by blocks) found.source,
+        subst (λ l. IsSource paths relation l (map (read_by blocks) found.source)) word.1 (source_of found.source word.0 found.in_set found.related),
+      )
+
+  pub first_path : (word source : List ℕ) → IsFirstSource blocks paths relation (map (read_by blocks) word) source → First (λ u. words u × pairs u word) source
+  first_path word source found =
+      let path = path_of found.letters word found.first.member in
+      let same : path.0 ≡ source = same_words blocks path.0 source (seen.least path.0 path.2) found.symbols_are.least (path.1 ∙ sym found.symbols_are.read) in
+      record {
+        member = subst (λ u. words u × pairs u word) same (path.2, path.3);
+        least = λ v is_source before.
+            found.first.least (map (read_by blocks) v) (source_of v word is_source.0 is_source.1)
+            (subst (IsBefore (map (read_by blocks) v)) found.symbols_are.read (before_letters blocks is v source found.symbols_are.least before));
+      }
+
+-- ---- the row
+
+-- what is known of both sides
+pub record AreSides (blocks : List ℕ) (check : Checked) (locations : ℕ) (pre post : List ℕ → Type 0)
+    (pre_paths : Automaton) (pre_relation : Machine) (pre_image : Automaton) (post_paths : Automaton) (post_relation : Machine) (post_image : Automaton) : Type 0 where
+  pub partition : IsPartition blocks
+  pub pre_seen : AreSeen blocks pre (relation_of side.Before check locations) pre_paths pre_relation pre_image
+  pub post_seen : AreSeen blocks post (relation_of side.After check locations) post_paths post_relation post_image
+
+-- what is seen through a relation that was lent is seen through that relation
+pub seen_lent : (blocks coarse lent : List ℕ) (words : WordSet) (pairs : ℕ → Relation) (n locations : ℕ) (t lent_t : Machine) (paths : Automaton) (relation : Machine) (image : Automaton)
+    → lent ≡ coarse → lent_t ≡ t → n ≡ locations → Realises coarse (pairs locations) t
+    → AreSeen blocks words (Relates (read_by lent) lent_t) paths relation image → AreSeen blocks words (pairs n) paths relation image
+seen_lent blocks coarse lent words pairs n locations t lent_t paths relation image lent_is t_is same realises seen =
+    seen_by_same blocks coarse words (pairs n) t paths relation image (subst (λ m. Realises coarse (pairs m) t) (sym same) realises)
+    (subst (λ (l : List ℕ). AreSeen blocks words (Relates (read_by l) t) paths relation image) lent_is
+    (subst (λ (u : Machine). AreSeen blocks words (Relates (read_by lent) u) paths relation image) t_is seen))
+
+pub sides_of : (blocks coarse lent : List ℕ) (check : Checked) (n locations : ℕ) (pre post : WordSet) (before after lent_before lent_after : Machine)
+    (pre_paths : Automaton) (pre_relation : Machine) (pre_image : Automaton) (post_paths : Automaton) (post_relation : Machine) (post_image : Automaton)
+    → IsPartition blocks → lent ≡ coarse → lent_before ≡ before → lent_after ≡ after → n ≡ locations
+    → Realises coarse (relation_of side.Before check locations) before → Realises coarse (relation_of side.After check locations) after
+    → AreSeen blocks pre (Relates (read_by lent) lent_before) pre_paths pre_relation pre_image
+    → AreSeen blocks post (Relates (read_by lent) lent_after) post_paths post_relation post_image
+    → AreSides blocks check n pre post pre_paths pre_relation pre_image post_paths post_relation post_image
+sides_of blocks coarse lent check n locations pre post before after lent_before lent_after pre_paths pre_relation pre_image post_paths post_relation post_image
+    partition lent_is before_is after_is same before_realises after_realises pre_seen post_seen = record {
+      partition = partition;
+      pre_seen = seen_lent blocks coarse lent pre (relation_of side.Before check) n locations before lent_before pre_paths pre_relation pre_image lent_is before_is same before_realises pre_seen;
+      post_seen = seen_lent blocks coarse lent post (relation_of side.After check) n locations after lent_after post_paths post_relation post_image lent_is after_is same after_realises post_seen;
+    }
+
+module _ (blocks : List ℕ) (check : Checked) (locations : ℕ) (pre post : WordSet)
+    (pre_paths : Automaton) (pre_relation : Machine) (pre_image : Automaton) (post_paths : Automaton) (post_relation : Machine) (post_image : Automaton)
+    (sides : AreSides blocks check locations pre post pre_paths pre_relation pre_image post_paths post_relation post_image) where
+  abbrev X : WordSet
+  X = ImageOf pre (relation_of side.Before check locations)
+
+  abbrev Y : WordSet
+  Y = ImageOf post (relation_of side.After check locations)
+
+  pub compliant_row : AreMet check.at_most (Accepts pre_image) (Accepts post_image) → RowOf check locations pre post Compliant
+  compliant_row = met blocks X Y pre_image post_image sides.pre_seen.of_image sides.post_seen.of_image check.at_most
+
+  first_word : (letters word : List ℕ) → First (Offends check.at_most (Accepts pre_image) (Accepts post_image)) letters → AreLeast blocks letters word
+      → First (Offends check.at_most X Y) word
+  first_word letters word first are =
+      first_symbols blocks sides.partition (Offends check.at_most (Accepts pre_image) (Accepts post_image)) (Offends check.at_most X Y)
+      (offends blocks X Y pre_image post_image sides.pre_seen.of_image sides.post_seen.of_image check.at_most) letters word are first
+
+  pub before_row : (letters : List ℕ) → First (Offends check.at_most (Accepts pre_image) (Accepts post_image)) letters → Accepts pre_image letters
+      → (row : Row) → TellsOf blocks pre_paths pre_relation letters side.Before row → RowOf check locations pre post row
+  before_row letters first accepted Compliant tells = absurd tells
+  before_row letters first accepted Undecided tells = absurd tells
+  before_row letters first accepted (Violated word of source) tells =
+      subst (λ (s : Side). IsOffence check locations pre post word s source) (sym tells.1) (record {
+        first = first_word letters word first tells.0;
+        in_image = (sides.pre_seen.of_image.language word).0 (subst (Accepts pre_image) (sym tells.0.read) accepted);
+        first_source = first_path blocks sides.partition pre (relation_of side.Before check locations) pre_paths pre_relation pre_image sides.pre_seen word source
+            (subst (λ l. IsFirstSource blocks pre_paths pre_relation l source) (sym tells.0.read) tells.2);
+      })
+
+  pub after_row : (letters : List ℕ) → First (Offends check.at_most (Accepts pre_image) (Accepts post_image)) letters → Accepts post_image letters
+      → (row : Row) → TellsOf blocks post_paths post_relation letters side.After row → RowOf check locations pre post row
+  after_row letters first accepted Compliant tells = absurd tells
+  after_row letters first accepted Undecided tells = absurd tells
+  after_row letters first accepted (Violated word of source) tells =
+      subst (λ (s : Side). IsOffence check locations pre post word s source) (sym tells.1) (record {
+        first = first_word letters word first tells.0;
+        in_image = (sides.post_seen.of_image.language word).0 (subst (Accepts post_image) (sym tells.0.read) accepted);
+        first_source = first_path blocks sides.partition post (relation_of side.After check locations) post_paths post_relation post_image sides.post_seen word source
+            (subst (λ l. IsFirstSource blocks post_paths post_relation l source) (sym tells.0.read) tells.2);
+      })

@@ -1,0 +1,7 @@
+pub mod Reading
+pub mod Named
+pub mod Blocks
+pub mod Compilation
+pub mod Lettering
+pub mod RowOf
+pub mod Seen

@@ -1,0 +1,71 @@
+-- The paths of a snapshot and what a relation makes of them, as automata over blocks of symbols.
+use Rattle.std.specs.Prelude.{◌≡◌, ℕ, ◌+◌, ◌↔◌, List, length, map, All}
+use Rattle.rela_graph.specs.Alone.{StandsAlone}
+use Rattle.rela_graph.specs.Topology.{Topology, symbol_at}
+use Rattle.rela_graph.specs.declared.node.Node.{Node}
+use Rattle.rela_labels.specs.Partition.{block_of, IsPartition, IsLeastOf}
+use Rattle.rela_names.specs.Shortlex.{First}
+use Rattle.rela_names.specs.declared.level.Level.{Level}
+use Rattle.rela_nfa.specs.Automaton.{Automaton, IsAutomaton}
+use Rattle.rela_nfa.specs.Relabelling.{Refines}
+use Rattle.rela_nfa.specs.Runs.{Accepts}
+use Rattle.rela_report.specs.declared.rows.Row.{Row}
+use Rattle.rela_report.specs.declared.rows.Row.TheVariants.{Compliant, Violated, Undecided}
+use Rattle.rela_report.specs.declared.rows.Side.{Side}
+use Rattle.rela_rir.specs.Words.{ImageOf}
+use Rattle.rela_trans.specs.Machine.{Machine, IsMachine}
+use Rattle.rela_trans.specs.Runs.{Relates}
+use Rattle.rela_engine.specs.Reading.{read_by, Recognises, Realises}
+
+-- each node's location has a block of its own
+abbrev pub NodesStandAlone : List ℕ → Level → List Node → Type 0
+NodesStandAlone blocks level nodes = All (λ node. StandsAlone blocks (symbol_at level node)) nodes
+
+-- the location of each node is one of the two only where it is both
+abbrev pub AreAtAlike : Level → List Node → ℕ → ℕ → Type 0
+AreAtAlike level nodes s t = All (λ node. (s ≡ symbol_at level node) ↔ (t ≡ symbol_at level node)) nodes
+
+-- a finer partition, in which the locations of the nodes of two graphs stand alone, and so do `drop` and `loop`
+pub record AreFiner (coarse : List ℕ) (locations : ℕ) (level : Level) (pre post : Topology) (blocks : List ℕ) : Type 0 where
+  pub partition : IsPartition blocks
+  pub refines : Refines blocks coarse
+  pub before : NodesStandAlone blocks level pre.nodes
+  pub after : NodesStandAlone blocks level post.nodes
+  pub drops : StandsAlone blocks locations
+  pub loops : StandsAlone blocks (locations + 1)
+
+-- each symbol is the least of its block
+abbrev pub AreLeastSymbols : List ℕ → List ℕ → Type 0
+AreLeastSymbols blocks word = All (λ s. IsLeastOf blocks (block_of blocks s) s) word
+
+-- the automaton of a set of words, each of which has least symbols alone, the transducer of a relation, and the automaton of the image
+pub record AreSeen (blocks : List ℕ) (words : List ℕ → Type 0) (pairs : List ℕ → List ℕ → Type 0) (paths : Automaton) (relation : Machine) (image : Automaton) : Type 0 where
+  pub of_paths : Recognises blocks words paths
+  pub of_relation : Realises blocks pairs relation
+  pub of_image : Recognises blocks (ImageOf words pairs) image
+  pub paths_ok : IsAutomaton paths
+  pub relation_ok : IsMachine relation
+  pub image_ok : IsAutomaton image
+  pub least : (w : List ℕ) → words w → AreLeastSymbols blocks w
+
+-- the symbols are read as these letters, and each is the least of its block
+pub record AreLeast (blocks letters symbols : List ℕ) : Type 0 where
+  pub read : map (read_by blocks) symbols ≡ letters
+  pub least : AreLeastSymbols blocks symbols
+
+-- the word of letters is accepted, and related to the other
+abbrev pub IsSource : Automaton → Machine → List ℕ → List ℕ → Type 0
+IsSource paths relation word source = Accepts paths source × Relates (λ k. k) relation source word
+
+-- the letters of the symbols are the first source of the word
+pub record IsFirstSource (blocks : List ℕ) (paths : Automaton) (relation : Machine) (word symbols : List ℕ) : Type 0 where
+  pub letters : List ℕ
+  pub first : First (IsSource paths relation word) letters
+  pub symbols_are : AreLeast blocks letters symbols
+
+-- the row tells of a violation on this side: the first word of symbols with these letters, and its first source
+abbrev pub TellsOf : List ℕ → Automaton → Machine → List ℕ → Side → Row → Type 0
+TellsOf blocks paths relation letters side Compliant = ⊥
+TellsOf blocks paths relation letters side (Violated word of source) =
+    AreLeast blocks letters word × (of ≡ side) × IsFirstSource blocks paths relation letters source
+TellsOf blocks paths relation letters side Undecided = ⊥

@@ -1,0 +1,68 @@
+ghost use Rattle.std.specs.Prelude.{◌≡◌, IfOk, length};
+
+use crate::blocks::set_apart;
+use crate::complements::complement_over;
+use crate::letter_sets::{letters_below, letters_of};
+use rela_labels::{LabelSet, Partition, Splitter, WideSet};
+use rela_nfa::Nfa;
+use std::alloc::{AllocError, Global};
+use std::test::Fail;
+
+fn set_of(alloc: Global, letters: &[u32]) -> Result<WideSet, AllocError>
+    ensures { IfOk result (λ set. length set ≡ 3) }
+{
+    let mut set = WideSet::none(alloc, 3)?;
+    for letter in letters {
+        if *letter < 3 {
+            set.add(*letter);
+        }
+    }
+    Ok(set)
+}
+
+// Five symbols, of which the last two stand alone.
+fn five(alloc: Global) -> Result<Partition, AllocError>
+    ensures { IfOk result (λ blocks. length blocks ≡ 5) }
+{
+    let whole = Partition::new(alloc, 5)?;
+    let mut splitter = Splitter::of(alloc, &whole)?;
+    set_apart(alloc, &mut splitter, 3, 5)?;
+    splitter.into_partition(alloc)
+}
+
+#[test]
+fn the_last_stand_alone(rt: HostRuntime) -> Result<(), Fail> {
+    let alloc = rt.alloc();
+    let blocks = five(alloc)?;
+    assert_eq!(rt; blocks.blocks(), 3);
+    assert_eq!(rt; blocks.block_of(2), blocks.block_of(0));
+    assert_eq!(rt; blocks.block_of(4), 2);
+    Ok(())
+}
+
+#[test]
+fn letters_are_blocks(rt: HostRuntime) -> Result<(), Fail> {
+    let alloc = rt.alloc();
+    let blocks = five(alloc)?;
+    let path = letters_below(alloc, &blocks, 4)?;
+    assert!(rt; path.contains(0));
+    assert!(rt; path.contains(1));
+    assert!(rt; !path.contains(2));
+    let last = letters_of(alloc, &blocks, &[4])?;
+    assert!(rt; last.contains(2));
+    assert!(rt; !last.contains(0));
+    Ok(())
+}
+
+#[test]
+fn other_words_over_some_letters(rt: HostRuntime) -> Result<(), Fail> {
+    let alloc = rt.alloc();
+    let some = set_of(alloc, &[0, 2])?;
+    let word: Nfa<WideSet> = Nfa::word(alloc, 3, &[2])?;
+    let others = complement_over(alloc, &word, &some)?;
+    assert!(rt; others.accepts(alloc, &[])?);
+    assert!(rt; others.accepts(alloc, &[2, 0])?);
+    assert!(rt; !others.accepts(alloc, &[2])?);
+    assert!(rt; !others.accepts(alloc, &[1])?);
+    Ok(())
+}

@@ -1,0 +1,70 @@
+//! What a violated row tells: words of letters as words of symbols, and the sources of words.
+ghost use Rattle.std.specs.Prelude.{◌≡◌, ◌<◌, ℕ, List, IfOk, All};
+ghost use Rattle.rela_labels.specs.Partition.{IsPartition, block_count};
+ghost use Rattle.rela_nfa.specs.Automaton.{IsAutomaton};
+ghost use Rattle.rela_engine.specs.Seen.{AreLeast, IsSource, IsFirstSource, TellsOf};
+
+use crate::offence::Offence;
+use crate::seen::Seen;
+use rela_labels::{LabelSet, Partition};
+use rela_names::Word;
+use rela_report::Row;
+use rela_witness::least_source;
+use std::alloc::{AllocError, Global};
+
+/// The row of an offence, where its side is seen so.
+pub(crate) fn violated_row<L: LabelSet>(
+    alloc: Global,
+    offence: &Offence,
+    seen: &Seen<L>,
+    blocks: &Partition,
+) -> Result<Row, AllocError>
+    requires below { All (λ k. k < block_count blocks.now) offence.now.letters }
+    requires letters { seen.now.paths.letters ≡ block_count blocks.now }
+    requires same_letters { seen.now.relation.letters ≡ block_count blocks.now }
+    requires automaton { IsAutomaton seen.now.paths }
+    requires some { (source : List ℕ) × IsSource seen.now.paths seen.now.relation offence.now.letters source }
+    ensures { IfOk result (TellsOf blocks.now seen.now.paths seen.now.relation offence.now.letters offence.now.side) }
+{
+    let letters = offence.letters.as_slice();
+    Ok(Row::Violated {
+        word: least_symbols(alloc, blocks, letters)?,
+        side: offence.side,
+        source: first_source(alloc, seen, letters, blocks)?,
+    })
+}
+
+/// For each letter the least symbol of its block: of the words that are read so, the first.
+fn least_symbols(
+    alloc: Global,
+    blocks: &Partition,
+    letters: &[u32],
+) -> Result<Word, AllocError>
+    requires { All (λ k. k < block_count blocks.now) letters.now }
+    ensures { IfOk result (AreLeast blocks.now letters.now) }
+{
+    let mut symbols = Vec::with_capacity(alloc, letters.len())?;
+    for letter in letters {
+        symbols.push(blocks.representative(*letter))?;
+    }
+    Ok(Word::from_symbols(symbols))
+}
+
+/// The first path that is related to the word, which is one of the image.
+fn first_source<L: LabelSet>(
+    alloc: Global,
+    seen: &Seen<L>,
+    word: &[u32],
+    blocks: &Partition,
+) -> Result<Word, AllocError>
+    requires letters { seen.now.paths.letters ≡ block_count blocks.now }
+    requires same_letters { seen.now.relation.letters ≡ block_count blocks.now }
+    requires automaton { IsAutomaton seen.now.paths }
+    requires some { (source : List ℕ) × IsSource seen.now.paths seen.now.relation word.now source }
+    ensures { IfOk result (IsFirstSource blocks.now seen.now.paths seen.now.relation word.now) }
+{
+    match least_source(alloc, &seen.paths, &seen.relation, word)? {
+        Some(source) => least_symbols(alloc, blocks, source.as_slice()),
+        None => unreachable!(),
+    }
+}
