@@ -1,0 +1,4 @@
+//! The minimal automaton of a language.
+#![tactic(auto)]
+
+mod quotient;
