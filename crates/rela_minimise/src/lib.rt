@@ -1,4 +1,9 @@
 //! The minimal automaton of a language.
 #![tactic(auto)]
 
+mod predecessors;
 mod quotient;
+mod lists;
+mod refinement;
+mod signature;
+mod signatures;
