@@ -1,3 +1,6 @@
+pub mod OneByOne
+pub mod Rounds
+pub mod Signing
 pub mod Assigning
 pub mod Targeting
 pub mod Settling

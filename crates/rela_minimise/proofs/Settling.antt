@@ -1,11 +1,11 @@
 -- Classes that are given a state that is not stale.
 use Rattle.std.proofs.Common.{◌≡◌, ◌≢◌, ℕ, ◌+◌, ◌<◌, ◌≤◌, ◌⊎◌, Bool, true, false, List, [], ◌∷◌, ◌++◌, length, get_or, set, take, refl, sym, ap, ◌∙◌, subst, inl, inr, arith}
 use Rattle.std.specs.List.{All, Contains}
-use Rattle.std.proofs.lemmas.Bool.{cases_eq}
+use Rattle.std.proofs.lemmas.Bool.{cases_Bool, cases_eq, false≢true}
 use Rattle.std.proofs.lemmas.List.{get_or-set_other, get_or-set_same, length-set}
 use Rattle.std.proofs.lemmas.List.Elements.{All-more, All-weaker}
 use Rattle.rela_subset.specs.Deterministic.{Deterministic, states}
-use Rattle.rela_minimise.specs.Refining.{HasSettled, IsSettledIn, IsSound, Settles, Stage, class_of, is_stale, signature}
+use Rattle.rela_minimise.specs.Refining.{AreWaiting, HasSettled, IsSettledIn, IsSound, Settles, Stage, class_of, is_stale, signature}
 use Rattle.rela_minimise.proofs.Putting.{IsPut, is_put, put_here, put_kept, put_within}
 
 module _ (d : Deterministic) (letters : List ℕ) (s : Stage) (sound : IsSound d letters s) (class : ℕ) (class_in : class < length s.members) (list : List ℕ)
@@ -133,3 +133,13 @@ pub settled_more : (d : Deterministic) (letters : List ℕ) (s s' : Stage) (wait
     → All (HasSettled s') (take (i + 1) waiting)
 settled_more d letters s s' waiting i below settles before last =
     All-more (HasSettled s') waiting i 0 below (All-weaker (HasSettled s) (HasSettled s') (settled_kept d letters s s' settles) (take i waiting) before) last
+
+-- the stale states still wait
+pub still_waiting : (d : Deterministic) (letters : List ℕ) (s s' : Stage) (n : ℕ) (waiting : List ℕ) → Settles d letters s s' → AreWaiting n s.stale waiting → AreWaiting n s'.stale waiting
+still_waiting d letters s s' n waiting settles are = record {
+  listed = λ q stale. are.listed q (elim (cases_Bool (is_stale s.stale q)) [
+    | inl was ↦ was
+    | inr was_not ↦ absurd (false≢true (sym (settles.fewer q was_not) ∙ stale))
+  ]);
+  states = are.states;
+}

@@ -1,6 +1,7 @@
 //! The minimal automaton of a language.
 #![tactic(auto)]
 
+mod marking;
 mod predecessors;
 mod quotient;
 mod lists;

@@ -1,0 +1,76 @@
+-- States that are marked one after the other.
+use Rattle.std.proofs.Common.{◌≡◌, ◌≢◌, ℕ, ◌+◌, ◌<◌, ◌≤◌, ◌⊎◌, Bool, true, false, List, [], ◌∷◌, ◌++◌, length, get_or, set, take, refl, sym, ap, ◌∙◌, subst, inl, inr, arith}
+use Rattle.std.specs.List.{All, Contains}
+use Rattle.std.proofs.lemmas.Bool.{cases_Bool, cases_eq, cases_lt, false≢true}
+use Rattle.std.proofs.lemmas.List.{get_or-set_other, get_or-set_same, get_or_default, length-set, take_all, take_more}
+use Rattle.std.proofs.lemmas.List.Elements.{All-push, Contains-append_left, Contains-push, Contains-push_cases}
+use Rattle.rela_minimise.specs.Refining.{Marks, PrecedesNew, is_stale}
+
+pub marks_none : (P : ℕ → Type 0) (stale : List Bool) (waiting : List ℕ) → ((q : ℕ) → ¬ P q) → Marks P stale waiting stale waiting
+marks_none P stale waiting none = record {
+  each = refl;
+  kept = λ q marked. marked;
+  marked = λ q holds. absurd (none q holds);
+  listed = λ before. before;
+  states = λ within. within;
+}
+
+-- first the states of P, then those of Q
+pub marks_both : (P Q R : ℕ → Type 0) (stale : List Bool) (waiting : List ℕ) (stale' : List Bool) (waiting' : List ℕ) (stale'' : List Bool) (waiting'' : List ℕ) → Marks P stale waiting stale' waiting' → Marks Q stale' waiting' stale'' waiting''
+    → ((q : ℕ) → R q → P q ⊎ Q q) → Marks R stale waiting stale'' waiting''
+marks_both P Q R stale waiting stale' waiting' stale'' waiting'' first second covers = record {
+  each = second.each ∙ first.each;
+  kept = λ q was. second.kept q (first.kept q was);
+  marked = λ q holds. elim (covers q holds) [
+    | inl in_first ↦ second.kept q (first.marked q in_first)
+    | inr in_second ↦ second.marked q in_second
+  ];
+  listed = λ before. second.listed (first.listed before);
+  states = λ within. second.states (first.states within);
+}
+
+pub marks_fewer : (P R : ℕ → Type 0) (stale : List Bool) (waiting : List ℕ) (stale' : List Bool) (waiting' : List ℕ) → Marks P stale waiting stale' waiting' → ((q : ℕ) → R q → P q) → Marks R stale waiting stale' waiting'
+marks_fewer P R stale waiting stale' waiting' marks covers = record {
+  each = marks.each;
+  kept = marks.kept;
+  marked = λ q holds. marks.marked q (covers q holds);
+  listed = marks.listed;
+  states = marks.states;
+}
+
+-- a state that was stale
+pub marks_again : (q : ℕ) (stale : List Bool) (waiting : List ℕ) → is_stale stale q ≡ true → Marks (λ p. p ≡ q) stale waiting stale waiting
+marks_again q stale waiting was = record {
+  each = refl;
+  kept = λ p marked. marked;
+  marked = λ p here. ap (is_stale stale) here ∙ was;
+  listed = λ before. before;
+  states = λ within. within;
+}
+
+pub marks_one : (q : ℕ) (stale : List Bool) (waiting : List ℕ) (waiting' : List ℕ) → q < length stale → waiting' ≡ waiting ++ q ∷ [] → Marks (λ p. p ≡ q) stale waiting (set stale q true) waiting'
+marks_one q stale waiting waiting' below pushed =
+    let size = length-set stale q true in
+    let here : is_stale (set stale q true) q ≡ true = get_or-set_same stale q true false below in
+    record {
+      each = size;
+      kept = λ p was. elim (cases_eq p q) [
+        | inl same ↦ ap (is_stale (set stale q true)) same ∙ here
+        | inr other ↦ get_or-set_other stale q p true false other ∙ was
+      ];
+      marked = λ p same. ap (is_stale (set stale q true)) same ∙ here;
+      listed = λ before p is. subst (λ l. Contains l p) (sym pushed) (elim (cases_eq p q) [
+        | inl same ↦ subst (Contains (waiting ++ q ∷ [])) (sym same) (Contains-push waiting q)
+        | inr other ↦ Contains-append_left waiting (q ∷ []) p (before p (sym (get_or-set_other stale q p true false other) ∙ is))
+      ]);
+      states = λ within. subst (λ l. All (λ p. p < length (set stale q true)) l) (sym pushed)
+          (subst (λ n. All (λ p. p < n) (waiting ++ q ∷ [])) (sym size) (All-push (λ p. p < length stale) waiting q within below));
+    }
+
+-- one element of a list more
+pub in_take : (states : List ℕ) (i q : ℕ) → i < length states → Contains (take (i + 1) states) q → Contains (take i states) q ⊎ (q ≡ get_or states i 0)
+in_take states i q below among =
+    elim (Contains-push_cases (take i states) (get_or states i 0) q (subst (λ l. Contains l q) (take_more states i 0 below) among)) [
+      | inl earlier ↦ inl earlier
+      | inr last ↦ inr (sym last)
+    ]
