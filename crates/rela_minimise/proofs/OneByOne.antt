@@ -2,9 +2,12 @@
 use Rattle.std.proofs.Common.{◌≡◌, ◌≢◌, ℕ, ◌+◌, ◌<◌, ◌≤◌, ◌⊎◌, Bool, true, false, List, [], ◌∷◌, ◌++◌, length, get_or, set, take, refl, sym, ap, ◌∙◌, subst, inl, inr, arith}
 use Rattle.std.specs.List.{All, Contains}
 use Rattle.std.proofs.lemmas.Bool.{cases_Bool, cases_eq, cases_lt, false≢true}
-use Rattle.std.proofs.lemmas.List.{get_or-set_other, get_or-set_same, get_or_default, length-set, take_all, take_more}
+use Rattle.std.proofs.lemmas.List.{get_or-map, get_or-set_other, get_or-set_same, get_or_default, length-set, take_all, take_more}
 use Rattle.std.proofs.lemmas.List.Elements.{All-push, Contains-append_left, Contains-push, Contains-push_cases}
+use Rattle.std.specs.declared.vec.Vec.{Vec}
+use Rattle.rela_subset.proofs.Targets.{Contains-nil}
 use Rattle.rela_minimise.specs.Refining.{Marks, PrecedesNew, is_stale}
+use Rattle.rela_minimise.specs.Stored.{lists_of}
 
 pub marks_none : (P : ℕ → Type 0) (stale : List Bool) (waiting : List ℕ) → ((q : ℕ) → ¬ P q) → Marks P stale waiting stale waiting
 marks_none P stale waiting none = record {
@@ -74,3 +77,31 @@ in_take states i q below among =
       | inl earlier ↦ inl earlier
       | inr last ↦ inr (sym last)
     ]
+
+-- a list that was read is one of the lists
+pub list_read : {A : Type 0} (lists : List (Vec ℕ A)) (i : ℕ) (v : Vec ℕ A) (read : List ℕ) → i < length lists → v ≡ get_or lists i v → read ≡ v.items → read ≡ get_or (lists_of lists) i []
+list_read lists i v read below at is = is ∙ ap (λ (u : Vec ℕ _). u.items) at ∙ sym (get_or-map (λ (u : Vec ℕ _). u.items) lists i v [] below)
+
+-- the state is in the list of one of the states
+abbrev pub PrecedesOne : List (List ℕ) → List ℕ → ℕ → Type 0
+PrecedesOne lists states p = (q : ℕ) × Contains states q × Contains (get_or lists q []) p
+
+pub one_more : (lists : List (List ℕ)) (states : List ℕ) (i : ℕ) (read : List ℕ) → i < length states → read ≡ get_or lists (get_or states i 0) []
+    → (p : ℕ) → PrecedesOne lists (take (i + 1) states) p → PrecedesOne lists (take i states) p ⊎ Contains read p
+one_more lists states i read below is p (q, among, precedes) = elim (in_take states i q below among) [
+  | inl earlier ↦ inl (q, earlier, precedes)
+  | inr last ↦ inr (subst (λ l. Contains l p) (sym is) (subst (λ n. Contains (get_or lists n []) p) last precedes))
+]
+
+pub one_none : (lists : List (List ℕ)) (states : List ℕ) (p : ℕ) → ¬ PrecedesOne lists (take 0 states) p
+one_none lists states p (q, among, precedes) = Contains-nil q among
+
+pub new_more : (lists members : List (List ℕ)) (first i : ℕ) (read : List ℕ) → read ≡ get_or members i [] → (p : ℕ) → PrecedesNew lists members first (i + 1) p → PrecedesNew lists members first i p ⊎ PrecedesOne lists read p
+new_more lists members first i read is p (c, from, below, (q, among, precedes)) = elim (cases_lt c i) [
+  | inl earlier ↦ inl (c, from, earlier, (q, among, precedes))
+  | inr not_earlier ↦ let here : c ≡ i = omega arith in inr (q, subst (λ l. Contains l q) (sym is) (subst (λ n. Contains (get_or members n []) q) here among), precedes)
+]
+
+-- where the classes begin past the end, none precedes a new one; and else those before the end are all
+pub new_all : (lists members : List (List ℕ)) (first i end : ℕ) → end ≤ i → (p : ℕ) → PrecedesNew lists members first end p → PrecedesNew lists members first i p
+new_all lists members first i end all p (c, from, below, (q, among, precedes)) = (c, from, omega arith, (q, among, precedes))
