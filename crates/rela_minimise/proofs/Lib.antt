@@ -1,3 +1,5 @@
+pub mod Minimal
+pub mod Refined
 pub mod OneByOne
 pub mod Rounds
 pub mod Signing

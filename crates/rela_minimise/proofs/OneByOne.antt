@@ -105,3 +105,15 @@ new_more lists members first i read is p (c, from, below, (q, among, precedes)) 
 -- where the classes begin past the end, none precedes a new one; and else those before the end are all
 pub new_all : (lists members : List (List ℕ)) (first i end : ℕ) → end ≤ i → (p : ℕ) → PrecedesNew lists members first end p → PrecedesNew lists members first i p
 new_all lists members first i end all p (c, from, below, (q, among, precedes)) = (c, from, omega arith, (q, among, precedes))
+
+-- marks as they are read of the fields
+pub marks_read : (lists lists_now members members_now : List (List ℕ)) (first first_now end end_now : ℕ) (stale stale_now : List Bool) (waiting waiting_now : List ℕ) (stale' : List Bool) (waiting' : List ℕ)
+    → lists_now ≡ lists → members_now ≡ members → first_now ≡ first → end_now ≡ end → stale_now ≡ stale → waiting_now ≡ waiting
+    → Marks (PrecedesNew lists_now members_now first_now end_now) stale_now waiting_now stale' waiting' → Marks (PrecedesNew lists members first end) stale waiting stale' waiting'
+marks_read lists lists_now members members_now first first_now end end_now stale stale_now waiting waiting_now stale' waiting' lists_is members_is first_is end_is stale_is waiting_is marks =
+    subst (λ ls. Marks (PrecedesNew ls members first end) stale waiting stale' waiting') lists_is
+    (subst (λ ms. Marks (PrecedesNew lists_now ms first end) stale waiting stale' waiting') members_is
+    (subst (λ n. Marks (PrecedesNew lists_now members_now n end) stale waiting stale' waiting') first_is
+    (subst (λ n. Marks (PrecedesNew lists_now members_now first_now n) stale waiting stale' waiting') end_is
+    (subst (λ st. Marks (PrecedesNew lists_now members_now first_now end_now) st waiting stale' waiting') stale_is
+    (subst (λ ws. Marks (PrecedesNew lists_now members_now first_now end_now) stale_now ws stale' waiting') waiting_is marks)))))

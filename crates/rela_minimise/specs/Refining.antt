@@ -1,5 +1,5 @@
 -- Classes of states in the course of their refinement.
-use Rattle.std.specs.Prelude.{◌≡◌, ◌≢◌, ℕ, ◌+◌, ◌<◌, ◌≤◌, ◌⊎◌, ◌↔◌, Bool, true, false, List, [], ◌∷◌, ◌++◌, length, map, Contains, slice_index, slice_index_or, if◌then◌else◌}
+use Rattle.std.specs.Prelude.{◌≡◌, ◌≢◌, ℕ, ◌+◌, ◌<◌, ◌≤◌, ◌⊎◌, ◌↔◌, Bool, true, false, List, [], ◌∷◌, ◌++◌, length, map, replicate, Contains, slice_index, slice_index_or, if◌then◌else◌}
 use Rattle.std.specs.List.{All}
 use Rattle.rela_labels.specs.Letters.{has}
 use Rattle.rela_subset.specs.Deterministic.{Deterministic, moves_of, next, states}
@@ -169,3 +169,18 @@ pub record Marks (P : ℕ → Type 0) (stale : List Bool) (waiting : List ℕ) (
 abbrev pub PrecedesNew : List (List ℕ) → List (List ℕ) → ℕ → ℕ → ℕ → Type 0
 PrecedesNew lists members first end p =
     (c : ℕ) × (first ≤ c) × (c < end) × ((q : ℕ) × Contains (slice_index_or members c []) q × Contains (slice_index_or lists q []) p)
+
+-- one class of n states, each of which is stale
+pub record IsStart (n : ℕ) (s : Stage) : Type 0 where
+  pub classes : s.classes ≡ replicate n 0
+  pub members : s.members ≡ [] ∷ []
+  pub signatures : s.signatures ≡ [] ∷ []
+  pub stale : s.stale ≡ replicate n true
+
+-- what is known before each round, where there were `before` classes before the last
+pub record IsRefining (d : Deterministic) (letters : List ℕ) (before : ℕ) (s : Stage) (waiting : List ℕ) : Type 0 where
+  pub sound : IsSound d letters s
+  pub coarse : IsCoarse d letters s
+  pub waits : AreWaiting (states d) s.stale waiting
+  pub grown : before ≤ length s.members
+  pub stable : before ≡ length s.members → IsStable d letters s

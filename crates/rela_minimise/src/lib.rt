@@ -1,10 +1,14 @@
-//! The minimal automaton of a language.
+//! The minimal automaton of a language, by the refinement of classes of states.
 #![tactic(auto)]
 
+mod lists;
 mod marking;
+mod minimising;
 mod predecessors;
 mod quotient;
-mod lists;
 mod refinement;
+mod refining;
 mod signature;
 mod signatures;
+
+pub use minimising::minimise;
