@@ -2,7 +2,7 @@
 use Rattle.std.proofs.Common.{◌≡◌, ◌≢◌, ℕ, ◌+◌, ◌<◌, ◌≤◌, ◌⊎◌, Bool, true, false, List, [], ◌∷◌, ◌++◌, length, get_or, set, take, refl, sym, ap, ◌∙◌, subst, inl, inr, arith}
 use Rattle.std.specs.List.{All, Contains}
 use Rattle.std.proofs.lemmas.Bool.{cases_Bool, cases_eq, cases_lt, false≢true}
-use Rattle.std.proofs.lemmas.List.{get_or-map, get_or-set_other, get_or-set_same, get_or_default, length-set, take_all, take_more}
+use Rattle.std.proofs.lemmas.List.{get_or-map, get_or-set_other, get_or-set_same, get_or_default, length-set, take-append-le, take_all, take_more}
 use Rattle.std.proofs.lemmas.List.Elements.{All-push, Contains-append_left, Contains-push, Contains-push_cases}
 use Rattle.std.specs.declared.vec.Vec.{Vec}
 use Rattle.rela_subset.proofs.Targets.{Contains-nil}
@@ -117,3 +117,6 @@ marks_read lists lists_now members members_now first first_now end end_now stale
     (subst (λ n. Marks (PrecedesNew lists_now members_now first_now n) stale waiting stale' waiting') end_is
     (subst (λ st. Marks (PrecedesNew lists_now members_now first_now end_now) st waiting stale' waiting') stale_is
     (subst (λ ws. Marks (PrecedesNew lists_now members_now first_now end_now) stale_now ws stale' waiting') waiting_is marks)))))
+
+pub kept_flags : (n : ℕ) (xs ys : List Bool) → length xs ≡ n → take n (xs ++ ys) ≡ xs
+kept_flags n xs ys each = take-append-le n xs ys (omega arith) ∙ take_all n xs (omega arith)

@@ -1,11 +1,11 @@
-use Rattle.std.proofs.Common.{◌≡◌, ◌<◌, ◌≤◌, ◌+◌, ◌-◌, ℕ, [], List, length, get_or, refl, ap, subst, sym, ◌∙◌, arith}
+use Rattle.std.proofs.Common.{◌≡◌, ◌<◌, ◌≤◌, ◌+◌, ◌-◌, ℕ, [], ◌++◌, Bool, List, take, drop, length, get_or, refl, ap, subst, sym, ◌∙◌, arith}
 use Rattle.std.specs.List.{All}
 use Rattle.std.proofs.lemmas.List.{length-map}
 use Rattle.rela_subset.specs.Deterministic.{states}
 use Rattle.rela_minimise.specs.Classes.{AreClasses}
 use Rattle.rela_minimise.specs.Refining.{AreLetters, IsAfter, IsRefining, IsStart, Stage}
 use Rattle.rela_minimise.specs.Stored.{lists_of, stage_of}
-use Rattle.rela_minimise.proofs.OneByOne.{marks_read}
+use Rattle.rela_minimise.proofs.OneByOne.{kept_flags, marks_read}
 use Rattle.rela_minimise.proofs.Refined.{few_classes, refined_classes, refining_first, refining_next}
 use Rattle.rela_minimise.proofs.refining.refined.Goals as goal
 
@@ -41,12 +41,15 @@ loop-before-preserved g c =
     let before : c.len-before.result ≡ length (lists_of c.loop-before.refinement.members.items) = c.len-before.ensures ∙ c.loop-before.refinement.members.ok.0 ∙ sym count in
     let split = c.split.new.self in
     let made : Stage = record { classes = split.classes.items; members = lists_of split.members.items; signatures = lists_of split.signatures.items; stale = c.mark_before_new.new.stale } in
-    subst (λ n. IsRefining c.args.dfa.now c.in_ok-letters.letters.items n made c.mark_before_new.new.waiting.items) (sym before)
+    let flags : take split.stale.len (c.mark_before_new.new.stale ++ drop (length c.mark_before_new.new.stale) split.stale.items) ≡ c.mark_before_new.new.stale =
+    kept_flags split.stale.len c.mark_before_new.new.stale (drop (length c.mark_before_new.new.stale) split.stale.items) (c.in_ok-mark_before_new.ensures.each ∙ ap length c.deref_mut.ensures.value ∙ sym split.stale.ok.0) in
+    subst (λ (st : List Bool). IsRefining c.args.dfa.now c.in_ok-letters.letters.items c.len-before.result (record { classes = split.classes.items; members = lists_of split.members.items; signatures = lists_of split.signatures.items; stale = st }) c.mark_before_new.new.waiting.items) (sym flags)
+    (subst (λ n. IsRefining c.args.dfa.now c.in_ok-letters.letters.items n made c.mark_before_new.new.waiting.items) (sym before)
     (refining_next c.args.dfa.now c.requires c.in_ok-letters.letters.items are (stage_of c.loop-before.refinement) (stage_of c.split.new.self) c.mark_before_new.new.stale c.mark_before_new.new.waiting.items
     (lists_of c.in_ok-predecessors.predecessors.items) c.in_ok-predecessors.ensures
     (subst (λ (ls : List ℕ). IsAfter c.args.dfa.now ls (stage_of c.loop-before.refinement) (stage_of c.split.new.self)) c.deref.ensures.value c.in_ok-split.ensures)
     (marks_read _ _ _ _ _ _ _ _ _ _ _ _ _ _ (ap lists_of c.deref-in-loop-before-2.ensures.value) (ap lists_of c.deref-in-loop-before-3.ensures.value) before
-    (ap length c.deref-in-loop-before-3.ensures.value ∙ sym (length-map c.split.new.self.members.items (λ v. v.items))) c.deref_mut.ensures.value c.clear.ensures.items c.in_ok-mark_before_new.ensures))
+    (ap length c.deref-in-loop-before-3.ensures.value ∙ sym (length-map c.split.new.self.members.items (λ v. v.items))) c.deref_mut.ensures.value c.clear.ensures.items c.in_ok-mark_before_new.ensures)))
 
 pub returns : goal.returns
 returns g c =
