@@ -12,3 +12,6 @@ mod signature;
 mod signatures;
 
 pub use minimising::minimise;
+
+#[cfg(test)]
+mod tests;
