@@ -1,3 +1,5 @@
+pub mod Origins
+pub mod Swapping
 pub mod Minimal
 pub mod Refined
 pub mod OneByOne

@@ -3,13 +3,13 @@ use Rattle.std.proofs.Common.{◌≡◌, ◌≢◌, ℕ, ◌+◌, ◌-◌, ◌<�
 use Rattle.std.specs.List.{All, Contains}
 use Rattle.std.proofs.lemmas.Bool.{cases_Bool, cases_lt, false≢true}
 use Rattle.std.proofs.lemmas.List.{get_or-append-add, get_or_append_left, get_or_default, length-append}
-use Rattle.std.proofs.lemmas.List.Elements.{All-contains}
+use Rattle.std.proofs.lemmas.List.Elements.{All-contains, All-from_get_or}
 use Rattle.rela_labels.specs.Letters.{has}
 use Rattle.rela_subset.specs.Deterministic.{Deterministic, IsDeterministic, next, states}
 use Rattle.rela_subset.specs.Sets.{AreDistinct}
 use Rattle.rela_subset.proofs.Words.{next_within}
 use Rattle.rela_minimise.specs.Classes.{AcceptSame, finality}
-use Rattle.rela_minimise.specs.Refining.{AreLetters, AreWaiting, Goes, HasSettled, IsAfter, IsCoarse, IsSound, IsSplit, IsStable, Settles, Stage, class_of, is_stale, signature}
+use Rattle.rela_minimise.specs.Refining.{AreFrom, AreLetters, AreOrigins, AreWaiting, Goes, HasSettled, IsAfter, IsCoarse, IsHeld, IsSound, IsSplit, IsStable, Settles, Stage, class_of, is_stale, signature}
 use Rattle.rela_minimise.proofs.Alike.{accept_final, accept_next}
 use Rattle.rela_minimise.proofs.Assigning.{goes_below}
 use Rattle.rela_minimise.proofs.Signing.{same_final, same_leads, signature_same}
@@ -171,4 +171,38 @@ module _ (d : Deterministic) (ok : IsDeterministic d) (letters : List ℕ) (are 
     grown = let count = settles.count in let grown = is.count in omega arith;
     coarse = after_coarse;
     stable = after_stable;
+  }
+
+module _ (d : Deterministic) (letters : List ℕ) (start s s' : Stage) (found : List (List ℕ)) (waiting targets origins : List ℕ) (coarse : IsCoarse d letters start) (within : All (λ q. q < states d) waiting) (settles : Settles d letters start s)
+    (goes : (i : ℕ) → i < length waiting → Goes d letters s found (get_or waiting i 0) (get_or targets i 0)) (is : IsSplit d letters s found s') (are_origins : AreOrigins s waiting targets (length found) origins) where
+  sign_new : (q class j : ℕ) → q < states d → Goes d letters s found q class → class ≡ length s.members + j → get_or found j [] ≡ signature d letters s.classes q
+  sign_new q class j q_in (inl (same, stays)) to = absurd (let counted = settles.sound.counted q q_in in omega (arith, stays, to, counted))
+  sign_new q class j q_in (inr (other, (i, i_in, at, is_to))) to = let number : i ≡ j = omega (arith, to, is_to) in ap (λ n. get_or found n []) (sym number) ∙ at
+
+  -- the states of a new class were all of one
+  pub are_from : AreFrom (states d) (length start.members) origins start s'
+  are_from q j q_in j_in at =
+      let below : j < length found = subst (λ n. j < n) are_origins.each j_in in
+      let (i, i_in, to, own) = are_origins.own j below in
+      let other : ℕ = get_or waiting i 0 in
+      let other_in : other < states d = within i 0 i_in in
+      let q_sign = sign_new q (class_of s' q) j q_in (is.goes q q_in) (let count = settles.count in omega arith) in
+      let other_sign = sign_new other (get_or targets i 0) j other_in (goes i i_in) to in
+      let same : signature d letters start.classes q ≡ signature d letters start.classes other =
+      ap (λ cs. signature d letters cs q) (sym settles.classes) ∙ sym q_sign ∙ other_sign ∙ ap (λ cs. signature d letters cs other) settles.classes in
+      coarse.signing q other q_in other_in same ∙ sym (ap (λ cs. get_or cs other 0) settles.classes) ∙ sym own
+
+  pub origins_below : All (λ class. class < length s.members) origins
+  origins_below = All-from_get_or (λ class. class < length s.members) origins 0 (λ j j_in.
+      let below : j < length found = subst (λ n. j < n) are_origins.each j_in in
+      let (i, i_in, to, own) = are_origins.own j below in
+      let counted = settles.sound.counted (get_or waiting i 0) (within i 0 i_in) in
+      omega arith)
+
+  pub split_held : IsHeld (length s'.classes) s'
+  split_held = record {
+    each = refl;
+    signed = ap length is.signatures ∙ length-append s.signatures found ∙ ap (λ n. n + length found) settles.sound.signed ∙ sym is.count;
+    within = λ c. subst (λ n. All (λ q. q < n) (get_or s'.members c [])) (sym is.each) (is.within c);
+    held = λ q below. is.held q (subst (λ n. q < n) is.each below);
   }

@@ -1,8 +1,8 @@
 -- Classes of states in the course of their refinement.
-use Rattle.std.specs.Prelude.{◌≡◌, ◌≢◌, ℕ, ◌+◌, ◌<◌, ◌≤◌, ◌⊎◌, ◌↔◌, Bool, true, false, List, [], ◌∷◌, ◌++◌, length, map, replicate, Contains, slice_index, slice_index_or, if◌then◌else◌}
+use Rattle.std.specs.Prelude.{◌≡◌, ◌≢◌, ℕ, ◌+◌, ◌<◌, ◌≤◌, ◌⊎◌, ◌↔◌, ◌==◌, Bool, true, false, List, [], ◌∷◌, ◌++◌, length, map, replicate, Contains, slice_index, slice_index_or, if◌then◌else◌}
 use Rattle.std.specs.List.{All}
 use Rattle.rela_labels.specs.Letters.{has}
-use Rattle.rela_subset.specs.Deterministic.{Deterministic, moves_of, next, states}
+use Rattle.rela_subset.specs.Deterministic.{Deterministic, IsDeterministic, moves_of, next, states}
 use Rattle.rela_nfa.specs.Automaton.{Move}
 use Rattle.rela_minimise.specs.Classes.{AcceptSame, finality}
 
@@ -184,3 +184,36 @@ pub record IsRefining (d : Deterministic) (letters : List ℕ) (before : ℕ) (s
   pub waits : AreWaiting (states d) s.stale waiting
   pub grown : before ≤ length s.members
   pub stable : before ≡ length s.members → IsStable d letters s
+
+-- one of the two for the other
+abbrev pub other_of : ℕ → ℕ → ℕ → ℕ
+other_of a b c = if c == a then b else if c == b then a else c
+
+-- each state is among the members of its class
+pub record IsHeld (n : ℕ) (s : Stage) : Type 0 where
+  pub each : length s.classes ≡ n
+  pub signed : length s.signatures ≡ length s.members
+  pub within : (c : ℕ) → All (λ q. q < n) (slice_index_or s.members c [])
+  pub held : (q : ℕ) → q < n → Contains (slice_index_or s.members (class_of s q) []) q
+
+-- the numbers of two classes have been swapped
+pub record IsSwapped (n a b : ℕ) (s s' : Stage) : Type 0 where
+  pub holds : IsHeld n s'
+  pub stale : s'.stale ≡ s.stale
+  pub count : length s'.members ≡ length s.members
+  pub classes : (q : ℕ) → q < n → class_of s' q ≡ other_of a b (class_of s q)
+  pub signatures : (c : ℕ) → slice_index_or s'.signatures (other_of a b c) [] ≡ slice_index_or s.signatures c []
+
+-- the class of which each new class was a part
+pub record AreOrigins (s : Stage) (waiting targets : List ℕ) (count : ℕ) (origins : List ℕ) : Type 0 where
+  pub each : length origins ≡ count
+  pub own : (j : ℕ) → j < count → (i : ℕ) × (i < length waiting) × (slice_index targets i ≡ length s.members + j) × (slice_index origins j ≡ class_of s (slice_index waiting i))
+
+-- the states of each new class were of the class that is named for it
+abbrev pub AreFrom : ℕ → ℕ → List ℕ → Stage → Stage → Type 0
+AreFrom n first origins start s = (q j : ℕ) → q < n → j < length origins → class_of s q ≡ first + j → class_of start q ≡ slice_index origins j
+
+-- what holds after states have gone by their signatures holds too where some new classes have been given the numbers of those of which they were parts
+abbrev pub KeepsAfter : ℕ → List ℕ → Stage → Stage → Type 0
+KeepsAfter first origins s s' = (d : Deterministic) (letters : List ℕ) (start : Stage) → IsDeterministic d → AreLetters d.over letters → first ≡ length start.members
+    → AreFrom (states d) first origins start s → IsAfter d letters start s → AreFrom (states d) first origins start s' × IsAfter d letters start s'

@@ -162,8 +162,8 @@ impl Refinement {
         Ok(())
     }
 
-    /// Splits each class that has stale states by the signatures: a part with the signature of the class
-    /// stays, and each other becomes a new class.
+    /// Splits each class that has stale states by the signatures: one part stays, and each other becomes
+    /// a new class. A part that is more than half of its class stays.
     pub(crate) fn split<L: LabelSet>(
         &mut self,
         alloc: Global,
@@ -181,9 +181,11 @@ impl Refinement {
         self.settle_all(alloc, dfa, letters, waiting)?;
         let mut found = Signatures::new(alloc);
         let targets = self.targets(alloc, dfa, letters, &mut found, waiting)?;
+        let first = self.members.len();
+        let origins = self.origins(alloc, waiting, &targets, found.len())?;
         self.open(alloc, &found)?;
-        prove!(found.len() < 1 << 63);
         self.assign_all(waiting, &targets)?;
+        self.keep_largest(alloc, first, &origins)?;
         Ok(())
     }
 }

@@ -31,6 +31,8 @@ fn all_words_but_one_letter(rt: HostRuntime) -> Result<(), Fail> {
     let made = minimise(alloc, &dfa)?;
     assert_eq!(rt; made.states(), 3);
     assert_eq!(rt; made.start(), 0);
+    assert!(rt; made.over().contains(0));
+    assert!(rt; made.over().contains(1));
     assert!(rt; made.is_final(0));
     assert_eq!(rt; made.next(0, 0), 1);
     assert!(rt; !made.is_final(1));
