@@ -1,12 +1,10 @@
 -- States from which the same words are accepted, and where they lead.
-use Rattle.std.proofs.Common.{◌≡◌, ℕ, ◌<◌, ◌↔◌, Bool, true, false, List, [], ◌∷◌, ◌++◌, length, get_or, refl, sym, ap, ◌∙◌, subst, arith}
+use Rattle.std.proofs.Common.{◌≡◌, ℕ, ◌↔◌, Bool, true, false, List, [], ◌∷◌, ◌++◌, refl, sym, ◌∙◌, subst}
 use Rattle.std.specs.Bool.{IsTrue}
-use Rattle.std.specs.List.{All}
 use Rattle.std.proofs.lemmas.Bool.{false≢true}
-use Rattle.std.proofs.lemmas.List.Elements.{All-append, All-cons, All-head, All-nil, All-tail}
+use Rattle.std.proofs.lemmas.List.Elements.{All-append, All-cons, All-nil}
 use Rattle.rela_labels.specs.Letters.{has}
-use Rattle.rela_subset.specs.Deterministic.{Deterministic, IsAccepted, IsDeterministic, IsFinal, IsOver, IsReachable, led_from, next, state_after, states}
-use Rattle.rela_subset.proofs.Words.{led_within}
+use Rattle.rela_subset.specs.Deterministic.{Deterministic, IsFinal, IsOver, IsReachable, led_from, next, state_after}
 use Rattle.rela_minimise.specs.Classes.{AcceptSame, AreAlike, IsMinimal, finality}
 
 -- two truths that follow from one another are the same

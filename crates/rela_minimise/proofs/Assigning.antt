@@ -1,11 +1,11 @@
 -- States that are put into classes.
-use Rattle.std.proofs.Common.{◌≡◌, ◌≢◌, ℕ, ◌+◌, ◌<◌, ◌≤◌, ◌⊎◌, Bool, true, false, List, [], ◌∷◌, ◌++◌, length, get_or, set, refl, sym, ap, ◌∙◌, subst, inl, inr, arith}
+use Rattle.std.proofs.Common.{◌≡◌, ℕ, ◌+◌, ◌<◌, ◌⊎◌, false, List, [], ◌∷◌, ◌++◌, length, get_or, set, refl, sym, ap, ◌∙◌, subst, inl, inr, arith}
 use Rattle.std.specs.List.{All, Contains}
 use Rattle.std.proofs.lemmas.Bool.{cases_Bool, cases_eq, cases_lt, false≢true}
 use Rattle.std.proofs.lemmas.List.{get_or-set_other, get_or-set_same, get_or_default, length-set}
 use Rattle.std.proofs.lemmas.List.Elements.{All-contains, All-from_get_or, Contains-get_or}
 use Rattle.rela_subset.specs.Deterministic.{Deterministic, states}
-use Rattle.rela_minimise.specs.Refining.{AreAssigned, AreWaiting, Goes, HasSettled, IsAssigned, IsOpened, IsSound, IsSplit, Stage, class_of, is_stale, signature}
+use Rattle.rela_minimise.specs.Refining.{AreAssigned, AreWaiting, Goes, IsAssigned, IsOpened, IsSound, IsSplit, Stage, class_of, is_stale}
 use Rattle.rela_minimise.proofs.Putting.{IsPut, is_put, put_here, put_kept, put_only}
 
 pub assigned : (q class : ℕ) (s s' : Stage) → q < length s.classes → length s.stale ≡ length s.classes → class < length s.members
@@ -43,23 +43,23 @@ module _ (waiting targets : List ℕ) (i : ℕ) (i_in : i < length waiting) (s b
       ⊎ ((k : ℕ) × (k < i + 1) × (get_or waiting k 0 ≡ r) × (class_of after r ≡ get_or targets k 0) × (is_stale after.stale r ≡ false) × Contains (get_or after.members (class_of after r) []) r)
   state_more r = elim (cases_eq r (get_or waiting i 0)) [
     | inl here ↦ inr (
-        i,
-        omega arith,
-        sym here,
-        ap (class_of after) here ∙ is.goes,
-        ap (is_stale after.stale) here ∙ is.fresh,
-        subst (λ n. Contains (get_or after.members (class_of after n) []) n) (sym here) (subst (λ c. Contains (get_or after.members c []) (get_or waiting i 0)) (sym is.goes) is.held),
-      )
+      i,
+      omega arith,
+      sym here,
+      ap (class_of after) here ∙ is.goes,
+      ap (is_stale after.stale) here ∙ is.fresh,
+      subst (λ n. Contains (get_or after.members (class_of after n) []) n) (sym here) (subst (λ c. Contains (get_or after.members c []) (get_or waiting i 0)) (sym is.goes) is.held),
+    )
     | inr other ↦ elim (are.goes r) [
       | inl (same, stale_same) ↦ inl (is.others r other ∙ same, is.others_stale r other ∙ stale_same)
       | inr (k, below, at, goes, fresh, held) ↦ inr (
-          k,
-          omega arith,
-          at,
-          is.others r other ∙ goes,
-          is.others_stale r other ∙ fresh,
-          subst (λ c. Contains (get_or after.members c []) r) (sym (is.others r other)) (is.kept (class_of before r) r held),
-        )
+        k,
+        omega arith,
+        at,
+        is.others r other ∙ goes,
+        is.others_stale r other ∙ fresh,
+        subst (λ c. Contains (get_or after.members c []) r) (sym (is.others r other)) (is.kept (class_of before r) r held),
+      )
     ]
   ]
 
@@ -93,8 +93,8 @@ pub targets_below : (d : Deterministic) (letters : List ℕ) (s : Stage) (found 
     → ((i : ℕ) → i < length waiting → Goes d letters s found (get_or waiting i 0) (get_or targets i 0)) → All (λ class. class < length s.members + length found) targets
 targets_below d letters s found waiting targets sound within each goes =
     All-from_get_or (λ class. class < length s.members + length found) targets 0 (λ i below.
-        let i_in : i < length waiting = omega arith in
-        goes_below d letters s found (get_or waiting i 0) (get_or targets i 0) (sound.counted (get_or waiting i 0) (within i 0 i_in)) (goes i i_in))
+    let i_in : i < length waiting = omega arith in
+    goes_below d letters s found (get_or waiting i 0) (get_or targets i 0) (sound.counted (get_or waiting i 0) (within i 0 i_in)) (goes i i_in))
 
 module _ (d : Deterministic) (letters : List ℕ) (s opened s' : Stage) (found : List (List ℕ)) (waiting targets : List ℕ) (sound : IsSound d letters s) (are_waiting : AreWaiting (states d) s.stale waiting)
     (goes : (i : ℕ) → i < length waiting → Goes d letters s found (get_or waiting i 0) (get_or targets i 0)) (is : IsOpened s found opened) (are : AreAssigned waiting targets (length waiting) opened s') where

@@ -1,7 +1,5 @@
 -- The automaton that is determinised of the classes.
-use Rattle.std.proofs.Common.{◌≡◌, ℕ, ◌<◌, ◌↔◌, Bool, true, List, ◌++◌, length, refl, sym, ap, ◌∙◌, subst}
-use Rattle.std.specs.List.{All}
-use Rattle.rela_labels.specs.Letters.{has}
+use Rattle.std.proofs.Common.{◌≡◌, ℕ, ◌↔◌, Bool, List, ◌++◌, refl, sym, ◌∙◌, subst}
 use Rattle.rela_nfa.specs.Automaton.{Automaton}
 use Rattle.rela_nfa.specs.Runs.{Reach}
 use Rattle.rela_subset.specs.Deterministic.{Deterministic, IsAccepted, IsOver, IsReachable, LeadsTo, state_after}
@@ -34,7 +32,7 @@ module _ (d r m : Deterministic) (a : Automaton) (over : List Bool) (r_over : r.
   pub made_minimal : ((word : List ℕ) → IsAccepted m word ↔ IsAccepted d word) → IsReachable m → IsMinimal m
   made_minimal language reachable = minimal m reachable (λ v w v_over w_over m_alike.
       (word_classes v w (subst (λ o. IsOver o v) (m_over ∙ over_is) v_over) (subst (λ o. IsOver o w) (m_over ∙ over_is) w_over)).1 (λ rest over_rest.
-          let same = m_alike rest (subst (λ o. IsOver o rest) (sym (m_over ∙ over_is)) over_rest) in (
-            λ accepted. (language (w ++ rest)).0 (same.0 ((language (v ++ rest)).1 accepted)),
-            λ accepted. (language (v ++ rest)).0 (same.1 ((language (w ++ rest)).1 accepted)),
-          )))
+      let same = m_alike rest (subst (λ o. IsOver o rest) (sym (m_over ∙ over_is)) over_rest) in (
+        λ accepted. (language (w ++ rest)).0 (same.0 ((language (v ++ rest)).1 accepted)),
+        λ accepted. (language (v ++ rest)).0 (same.1 ((language (w ++ rest)).1 accepted)),
+      )))

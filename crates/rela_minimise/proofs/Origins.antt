@@ -1,8 +1,8 @@
 -- The classes of which new ones were parts.
-use Rattle.std.proofs.Common.{◌≡◌, ◌≢◌, ℕ, ◌+◌, ◌-◌, ◌<◌, ◌≤◌, ◌⊎◌, List, [], length, get_or, set, refl, sym, ap, ◌∙◌, subst, inl, inr, arith}
+use Rattle.std.proofs.Common.{◌≡◌, ℕ, ◌+◌, ◌-◌, ◌<◌, ◌≤◌, List, length, get_or, set, ap, ◌∙◌, inl, inr, arith}
 use Rattle.std.proofs.lemmas.Bool.{cases_eq, cases_lt}
-use Rattle.std.proofs.lemmas.List.{get_or-set_other, get_or-set_same, length-set}
-use Rattle.rela_minimise.specs.Refining.{AreOrigins, Stage, class_of}
+use Rattle.std.proofs.lemmas.List.{get_or-set_other, get_or-set_same}
+use Rattle.rela_minimise.specs.Refining.{AreOrigins, Stage}
 
 -- a place that has been written for each new class that was met
 abbrev pub AreMet : List ℕ → List ℕ → ℕ → List ℕ → ℕ → List ℕ → Type 0
@@ -13,12 +13,12 @@ module _ (waiting targets : List ℕ) (first : ℕ) (classes : List ℕ) (i : �
   pub met_with : first ≤ get_or targets i 0 → get_or targets i 0 - first < length origins → AreMet waiting targets first classes (i + 1) (set origins (get_or targets i 0 - first) (get_or classes (get_or waiting i 0) 0))
   met_with above inside k j below at = elim (cases_eq j (get_or targets i 0 - first)) [
     | inl here ↦ (
-        i,
-        omega arith,
-        omega (arith, here, above),
-        ap (λ m. get_or (set origins (get_or targets i 0 - first) (get_or classes (get_or waiting i 0) 0)) m 0) here
-        ∙ get_or-set_same origins (get_or targets i 0 - first) (get_or classes (get_or waiting i 0) 0) 0 inside,
-      )
+      i,
+      omega arith,
+      omega (arith, here, above),
+      ap (λ m. get_or (set origins (get_or targets i 0 - first) (get_or classes (get_or waiting i 0) 0)) m 0) here
+          ∙ get_or-set_same origins (get_or targets i 0 - first) (get_or classes (get_or waiting i 0) 0) 0 inside,
+    )
     | inr other ↦ elim (cases_lt k i) [
       | inl earlier ↦
           let (m, m_in, to, own) = met k j earlier at in

@@ -1,14 +1,14 @@
 -- The automaton whose states are classes.
-use Rattle.std.proofs.Common.{◌≡◌, ℕ, ◌+◌, ◌<◌, ◌≤◌, ◌↔◌, Bool, true, false, cond, List, [], ◌∷◌, ◌++◌, length, get_or, map, Option, None, Some, refl, sym, ap, ◌∙◌, subst, inl, inr, arith}
+use Rattle.std.proofs.Common.{◌≡◌, ℕ, ◌+◌, ◌<◌, ◌↔◌, true, false, cond, List, [], ◌∷◌, length, get_or, map, None, Some, refl, sym, ap, ◌∙◌, subst, inl, inr, arith}
 use Rattle.std.specs.List.{All, count_by}
-use Rattle.std.specs.Option.{IsSome, option_map, unwrap_or}
+use Rattle.std.specs.Option.{IsSome, unwrap_or}
 use Rattle.std.proofs.lemmas.Bool.{cases_Bool}
 use Rattle.std.proofs.lemmas.List.{get_or-map, length-map}
-use Rattle.std.proofs.lemmas.List.Elements.{All-from_get_or, All-head, All-map, All-tail, All-weaker, All-append}
+use Rattle.std.proofs.lemmas.List.Elements.{All-from_get_or, All-head, All-map, All-tail, All-weaker}
 use Rattle.std.proofs.lemmas.List.Sums.{sum_by-cons}
 use Rattle.rela_labels.specs.Letters.{has}
 use Rattle.rela_nfa.specs.Automaton.{IsMove, Move}
-use Rattle.rela_subset.specs.Deterministic.{Deterministic, IsAccepted, IsDeterministic, IsFinal, IsOver, IsSplit, automaton_of, led_from, moves_of, next, state_after, states, takes, target}
+use Rattle.rela_subset.specs.Deterministic.{Deterministic, IsAccepted, IsDeterministic, IsOver, IsSplit, led_from, moves_of, next, state_after, states, takes, target}
 use Rattle.rela_subset.proofs.Words.{labelled_at, led_within, moves_at, next_within, split_at, target_at}
 use Rattle.rela_minimise.specs.Classes.{AcceptSame, AreAlike, AreClasses, AreHeads, IsQuotient, finality, moves_onto, onto}
 use Rattle.rela_minimise.proofs.Alike.{accept_final, accept_next, alike_states}

@@ -1,20 +1,18 @@
 -- From one class of all states to classes that no round splits.
-use Rattle.std.proofs.Common.{◌≡◌, ℕ, ◌+◌, ◌<◌, ◌≤◌, ◌⊎◌, ◌↔◌, Bool, true, false, List, [], ◌∷◌, length, get_or, replicate, Some, refl, sym, ap, ◌∙◌, subst, inl, inr, arith}
+use Rattle.std.proofs.Common.{◌≡◌, ℕ, ◌<◌, ◌≤◌, ◌↔◌, Bool, true, false, List, [], ◌∷◌, length, get_or, Some, refl, sym, ap, ◌∙◌, subst, inl, inr, arith}
 use Rattle.std.specs.List.{All, Contains}
-use Rattle.std.proofs.lemmas.Bool.{cases_Bool, cases_lt, false≢true}
+use Rattle.std.proofs.lemmas.Bool.{cases_lt, false≢true}
 use Rattle.std.proofs.lemmas.List.{get_or-replicate, get_or_default, get_or_past, length-replicate}
 use Rattle.std.proofs.lemmas.List.Elements.{All-from_get_or, All-head, All-nil, All-tail}
 use Rattle.std.proofs.lemmas.Cmp.{nat_eq_equiv}
 use Rattle.std.proofs.lemmas.Map.Steps.{le-length_from_below}
 use Rattle.std.proofs.lemmas.Map.Views.{list_any-from_Contains}
 use Rattle.rela_labels.specs.Letters.{has}
-use Rattle.rela_nfa.specs.Automaton.{Move}
-use Rattle.rela_nfa.specs.Runs.{StepIn}
 use Rattle.rela_subset.specs.Deterministic.{Deterministic, IsDeterministic, IsOver, IsFinal, led_from, moves_of, next, states}
 use Rattle.rela_subset.proofs.Targets.{target_step}
 use Rattle.rela_subset.proofs.Words.{next_within, target_at}
-use Rattle.rela_minimise.specs.Classes.{AcceptSame, AreClasses, finality}
-use Rattle.rela_minimise.specs.Refining.{AreLetters, ArePredecessors, AreWaiting, IsAfter, IsCoarse, IsRefining, IsSound, IsStable, IsStart, Marks, PrecedesNew, Stage, class_of, is_stale, signature}
+use Rattle.rela_minimise.specs.Classes.{AreClasses, finality}
+use Rattle.rela_minimise.specs.Refining.{AreLetters, ArePredecessors, AreWaiting, IsAfter, IsCoarse, IsRefining, IsSound, IsStable, IsStart, Marks, PrecedesNew, Stage, class_of, is_stale}
 use Rattle.rela_minimise.proofs.Alike.{truth_same}
 use Rattle.rela_minimise.proofs.Signing.{same_final, same_leads, signature_same}
 
@@ -78,11 +76,11 @@ module _ (d : Deterministic) (ok : IsDeterministic d) (letters : List ℕ) (are 
         elim (cases_lt (class_of s (next d q k)) (length start.members)) [
           | inl old ↦ after.kept (next d q k) next_in old
           | inr new ↦ absurd (false≢true (sym fresh ∙ marks.marked q (
-              class_of s (next d q k),
-              new,
-              after.counted (next d q k) next_in,
-              (next d q k, after.held (next d q k) next_in, precedes lists pred q k below over),
-            )))
+            class_of s (next d q k),
+            new,
+            after.counted (next d q k) next_in,
+            (next d q k, after.held (next d q k) next_in, precedes lists pred q k below over),
+          )))
         ]
 
     none_stale : (q : ℕ) → is_stale s.stale q ≡ true → Contains [] q
@@ -115,9 +113,9 @@ module _ (d : Deterministic) (ok : IsDeterministic d) (letters : List ℕ) (are 
     pub few_classes : length s.members ≤ states d
     few_classes =
         let few = le-length_from_below s.classes (length s.members) (λ c below.
-            let (q, q_in, at) = coarse.met c below in
-            let within : q < length s.classes = let each = sound.each in omega arith in
-            list_any-from_Contains nat_eq_equiv c s.classes (q, within, sym (get_or_default s.classes q 0 c within) ∙ at)) in
+        let (q, q_in, at) = coarse.met c below in
+        let within : q < length s.classes = let each = sound.each in omega arith in
+        list_any-from_Contains nat_eq_equiv c s.classes (q, within, sym (get_or_default s.classes q 0 c within) ∙ at)) in
         let each = sound.each in
         omega arith
 

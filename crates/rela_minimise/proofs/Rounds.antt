@@ -1,15 +1,14 @@
 -- A round of the refinement: each class is split by signatures.
-use Rattle.std.proofs.Common.{◌≡◌, ◌≢◌, ℕ, ◌+◌, ◌-◌, ◌<◌, ◌≤◌, ◌⊎◌, Bool, true, false, List, [], ◌∷◌, ◌++◌, length, get_or, refl, sym, ap, ◌∙◌, subst, inl, inr, arith}
+use Rattle.std.proofs.Common.{◌≡◌, ◌≢◌, ℕ, ◌+◌, ◌-◌, ◌<◌, ◌≤◌, false, List, [], length, get_or, refl, sym, ap, ◌∙◌, subst, inl, inr, arith}
 use Rattle.std.specs.List.{All, Contains}
 use Rattle.std.proofs.lemmas.Bool.{cases_Bool, cases_lt, false≢true}
-use Rattle.std.proofs.lemmas.List.{get_or-append-add, get_or_append_left, get_or_default, length-append}
+use Rattle.std.proofs.lemmas.List.{get_or-append-add, get_or_append_left, length-append}
 use Rattle.std.proofs.lemmas.List.Elements.{All-contains, All-from_get_or}
-use Rattle.rela_labels.specs.Letters.{has}
 use Rattle.rela_subset.specs.Deterministic.{Deterministic, IsDeterministic, next, states}
 use Rattle.rela_subset.specs.Sets.{AreDistinct}
 use Rattle.rela_subset.proofs.Words.{next_within}
-use Rattle.rela_minimise.specs.Classes.{AcceptSame, finality}
-use Rattle.rela_minimise.specs.Refining.{AreFrom, AreLetters, AreOrigins, AreWaiting, Goes, HasSettled, IsAfter, IsCoarse, IsHeld, IsSound, IsSplit, IsStable, Settles, Stage, class_of, is_stale, signature}
+use Rattle.rela_minimise.specs.Classes.{AcceptSame}
+use Rattle.rela_minimise.specs.Refining.{AreFrom, AreLetters, AreOrigins, AreWaiting, Goes, HasSettled, IsAfter, IsCoarse, IsHeld, IsSplit, IsStable, Settles, Stage, class_of, is_stale, signature}
 use Rattle.rela_minimise.proofs.Alike.{accept_final, accept_next}
 use Rattle.rela_minimise.proofs.Assigning.{goes_below}
 use Rattle.rela_minimise.proofs.Signing.{same_final, same_leads, signature_same}
@@ -117,20 +116,20 @@ module _ (d : Deterministic) (ok : IsDeterministic d) (letters : List ℕ) (are 
   unfolding sign
   leads_same p q p_in q_in same =
       signature_same d ok letters are s.classes s.classes p q (same_final d ok letters are s'.classes s'.classes p q same) (λ k over.
-          let p_next = next_within d ok p k p_in over in
-          let q_next = next_within d ok q k q_in over in
-          let one = one_sign (next d p k) (next d q k) p_next q_next (same_leads d ok letters are s'.classes s'.classes p q same k over) in
-          class_start (next d p k)
-          ∙ coarse.signing (next d p k) (next d q k) p_next q_next (sym (sign_start (next d p k)) ∙ one ∙ sign_start (next d q k))
-          ∙ sym (class_start (next d q k)))
+      let p_next = next_within d ok p k p_in over in
+      let q_next = next_within d ok q k q_in over in
+      let one = one_sign (next d p k) (next d q k) p_next q_next (same_leads d ok letters are s'.classes s'.classes p q same k over) in
+      class_start (next d p k)
+      ∙ coarse.signing (next d p k) (next d q k) p_next q_next (sym (sign_start (next d p k)) ∙ one ∙ sign_start (next d q k))
+      ∙ sym (class_start (next d q k)))
 
   accept_sign : (p q : ℕ) → p < states d → q < states d → AcceptSame d p q → sign p ≡ sign q
   unfolding sign
   accept_sign p q p_in q_in same =
       signature_same d ok letters are s.classes s.classes p q (accept_final d p q same) (λ k over.
-          class_start (next d p k)
-          ∙ coarse.accepting (next d p k) (next d q k) (next_within d ok p k p_in over) (next_within d ok q k q_in over) (accept_next d p q k over same)
-          ∙ sym (class_start (next d q k)))
+      class_start (next d p k)
+      ∙ coarse.accepting (next d p k) (next d q k) (next_within d ok p k p_in over) (next_within d ok q k q_in over) (accept_next d p q k over same)
+      ∙ sym (class_start (next d q k)))
 
   after_coarse : IsCoarse d letters s'
   after_coarse = record {

@@ -1,5 +1,5 @@
 -- Classes that are given a state that is not stale.
-use Rattle.std.proofs.Common.{◌≡◌, ◌≢◌, ℕ, ◌+◌, ◌<◌, ◌≤◌, ◌⊎◌, Bool, true, false, List, [], ◌∷◌, ◌++◌, length, get_or, set, take, refl, sym, ap, ◌∙◌, subst, inl, inr, arith}
+use Rattle.std.proofs.Common.{◌≡◌, ◌≢◌, ℕ, ◌+◌, ◌<◌, Bool, false, List, [], ◌∷◌, ◌++◌, length, get_or, set, take, refl, sym, ap, ◌∙◌, subst, inl, inr, arith}
 use Rattle.std.specs.List.{All, Contains}
 use Rattle.std.proofs.lemmas.Bool.{cases_Bool, cases_eq, false≢true}
 use Rattle.std.proofs.lemmas.List.{get_or-set_other, get_or-set_same, length-set}
@@ -67,8 +67,7 @@ module _ (d : Deterministic) (letters : List ℕ) (s : Stage) (sound : IsSound d
       let fresh_here : is_stale s'.stale q ≡ false = ap (λ st. get_or st q false) stale ∙ get_or-set_same s.stale q false false (let flagged = sound.flagged in omega arith) in
       let stale_others = λ (r : ℕ) (other : r ≢ q). let at : is_stale s'.stale r ≡ is_stale s.stale r = ap (λ st. get_or st r false) stale ∙ get_or-set_other s.stale q r false false other in at in
       let settled_here = λ (r : ℕ) (below : r < states d) (fresh : is_stale s.stale r ≡ false) (here : class_of s r ≡ class).
-      let never : ⊥ = none r (subst (λ c. Contains (get_or s.members c []) r) here (sound.held r below fresh)) (record { state = let each = sound.each in omega arith; own = here; fresh = fresh }) in never in
-      (
+      let never : ⊥ = none r (subst (λ c. Contains (get_or s.members c []) r) here (sound.held r below fresh)) (record { state = let each = sound.each in omega arith; own = here; fresh = fresh }) in never in (
         record {
           sound = record {
             each = ap length classes ∙ sound.each;

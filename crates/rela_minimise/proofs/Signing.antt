@@ -1,11 +1,10 @@
 -- What signatures tell.
-use Rattle.std.proofs.Common.{◌≡◌, ℕ, ◌+◌, ◌<◌, ◌≤◌, Bool, true, false, cond, List, [], ◌∷◌, length, get_or, map, refl, sym, ap, ◌∙◌, subst, arith}
-use Rattle.std.specs.List.{All, Contains}
+use Rattle.std.proofs.Common.{◌≡◌, ℕ, Bool, true, false, cond, List, [], ◌∷◌, get_or, map, refl, sym, ap, ◌∙◌, arith}
+use Rattle.std.specs.List.{All}
 use Rattle.std.proofs.lemmas.List.{get_or-map}
 use Rattle.std.proofs.lemmas.List.Elements.{All-contains, All-from_get_or, All-head, All-tail, Contains-get_or}
 use Rattle.rela_labels.specs.Letters.{has}
-use Rattle.rela_subset.specs.Deterministic.{Deterministic, IsDeterministic, next, states}
-use Rattle.rela_subset.proofs.Words.{next_within}
+use Rattle.rela_subset.specs.Deterministic.{Deterministic, IsDeterministic, next}
 use Rattle.rela_minimise.specs.Classes.{finality}
 use Rattle.rela_minimise.specs.Refining.{AreLetters, signature}
 

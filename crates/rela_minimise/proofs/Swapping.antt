@@ -1,17 +1,15 @@
 -- Two classes that swap their numbers.
-use Rattle.std.proofs.Common.{◌≡◌, ◌≢◌, ℕ, ◌+◌, ◌-◌, ◌<◌, ◌≤◌, ◌⊎◌, ◌==◌, Bool, true, false, cond, List, [], ◌∷◌, ◌++◌, length, get_or, set, take, refl, sym, ap, ◌∙◌, subst, inl, inr, arith}
+use Rattle.std.proofs.Common.{◌≡◌, ◌≢◌, ℕ, ◌+◌, ◌<◌, ◌==◌, true, false, cond, List, [], ◌∷◌, ◌++◌, length, get_or, set, take, sym, ap, ◌∙◌, subst, inl, inr, arith}
 use Rattle.std.specs.List.{All, Contains}
-use Rattle.std.proofs.lemmas.Bool.{cases_Bool, cases_eq, cases_lt, false≢true}
+use Rattle.std.proofs.lemmas.Bool.{cases_Bool, cases_eq, cases_lt}
 use Rattle.std.specs.declared.vec.Vec.{Vec}
 use Rattle.std.specs.List.{swap}
 use Rattle.std.proofs.lemmas.List.{get_or-map, get_or-set_other, get_or-set_same, get_or_past, length-map, length-set}
 use Rattle.std.proofs.lemmas.List.Edits.{length-swap, swapped_from_swap}
-use Rattle.std.proofs.lemmas.List.Elements.{All-contains, All-push, Contains-append_left, Contains-get_or, Contains-push, Contains-push_cases}
-use Rattle.rela_labels.specs.Letters.{has}
+use Rattle.std.proofs.lemmas.List.Elements.{Contains-append_left, Contains-get_or, Contains-push, Contains-push_cases}
 use Rattle.rela_subset.specs.Deterministic.{Deterministic, IsDeterministic, next, states}
 use Rattle.rela_subset.proofs.Words.{next_within}
-use Rattle.rela_minimise.specs.Classes.{AcceptSame}
-use Rattle.rela_minimise.specs.Refining.{AreFrom, AreLetters, IsAfter, IsCoarse, IsHeld, IsStable, IsSwapped, KeepsAfter, Stage, class_of, is_stale, other_of, signature}
+use Rattle.rela_minimise.specs.Refining.{AreFrom, AreLetters, IsAfter, IsHeld, IsSwapped, KeepsAfter, Stage, class_of, other_of, signature}
 use Rattle.rela_minimise.specs.Stored.{lists_of}
 use Rattle.rela_minimise.proofs.OneByOne.{in_take}
 use Rattle.rela_minimise.proofs.Signing.{same_final, same_leads, signature_same}
@@ -111,12 +109,12 @@ module _ (d : Deterministic) (ok : IsDeterministic d) (letters : List ℕ) (are 
   sign_back : (p q : ℕ) → p < states d → q < states d → signature d letters s'.classes p ≡ signature d letters s'.classes q → signature d letters s.classes p ≡ signature d letters s.classes q
   sign_back p q p_in q_in same =
       signature_same d ok letters are s.classes s.classes p q (same_final d ok letters are s'.classes s'.classes p q same) (λ k over.
-          same_back (next d p k) (next d q k) (next_within d ok p k p_in over) (next_within d ok q k q_in over) (same_leads d ok letters are s'.classes s'.classes p q same k over))
+      same_back (next d p k) (next d q k) (next_within d ok p k p_in over) (next_within d ok q k q_in over) (same_leads d ok letters are s'.classes s'.classes p q same k over))
 
   sign_on : (p q : ℕ) → p < states d → q < states d → signature d letters s.classes p ≡ signature d letters s.classes q → signature d letters s'.classes p ≡ signature d letters s'.classes q
   sign_on p q p_in q_in same =
       signature_same d ok letters are s'.classes s'.classes p q (same_final d ok letters are s.classes s.classes p q same) (λ k over.
-          same_on (next d p k) (next d q k) (next_within d ok p k p_in over) (next_within d ok q k q_in over) (same_leads d ok letters are s.classes s.classes p q same k over))
+      same_on (next d p k) (next d q k) (next_within d ok p k p_in over) (next_within d ok q k q_in over) (same_leads d ok letters are s.classes s.classes p q same k over))
 
   -- where a state's number is now, it was, or it was the other one of the two
   kept_now : (q : ℕ) → q < states d → class_of s' q < length start.members → class_of s' q ≡ class_of start q
@@ -272,8 +270,7 @@ keeps_more first origins before s s' n j keeps size j_in old fits swapped d lett
     let all : n ≡ states d = sym size ∙ both.1.each in
     let from_s : AreFrom (states d) (length start.members) origins start s = subst (λ m. AreFrom (states d) m origins start s) first_is both.0 in
     let swapped_s : IsSwapped (states d) (get_or origins j 0) (length start.members + j) s s' =
-    subst (λ m. IsSwapped m (get_or origins j 0) (length start.members + j) s s') all (subst (λ m. IsSwapped n (get_or origins j 0) (m + j) s s') first_is swapped) in
-    (
+    subst (λ m. IsSwapped m (get_or origins j 0) (length start.members + j) s s') all (subst (λ m. IsSwapped n (get_or origins j 0) (m + j) s s') first_is swapped) in (
       subst (λ m. AreFrom (states d) m origins start s') (sym first_is) (from_now d ok letters are start s s' origins j j_in (omega arith) (omega arith) from_s both.1 swapped_s),
       after_now d ok letters are start s s' origins j j_in (omega arith) (omega arith) from_s both.1 swapped_s,
     )

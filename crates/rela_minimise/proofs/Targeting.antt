@@ -1,9 +1,9 @@
 -- Where states go by their signatures.
-use Rattle.std.proofs.Common.{◌≡◌, ◌≢◌, ℕ, ◌+◌, ◌<◌, ◌≤◌, ◌⊎◌, List, [], ◌∷◌, ◌++◌, length, get_or, refl, sym, ap, ◌∙◌, subst, inl, inr, arith}
+use Rattle.std.proofs.Common.{◌≡◌, ℕ, ◌+◌, ◌<◌, List, [], ◌∷◌, ◌++◌, length, get_or, sym, ap, ◌∙◌, subst, inl, inr, arith}
 use Rattle.std.proofs.lemmas.Bool.{cases_lt}
 use Rattle.std.proofs.lemmas.List.{get_or_append_left, get_or_push, length_push}
 use Rattle.rela_subset.specs.Deterministic.{Deterministic}
-use Rattle.rela_minimise.specs.Refining.{Goes, HasFound, Stage, class_of, signature}
+use Rattle.rela_minimise.specs.Refining.{Goes, HasFound, Stage}
 
 -- with more signatures that have been found
 pub goes_later : (d : Deterministic) (letters : List ℕ) (s : Stage) (found found' : List (List ℕ)) (count class : ℕ) → HasFound count found found' class → (q to : ℕ) → Goes d letters s found q to → Goes d letters s found' q to

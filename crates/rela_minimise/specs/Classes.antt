@@ -1,8 +1,7 @@
 -- States and words that are told apart, and the classes of states that are not.
-use Rattle.std.specs.Prelude.{◌≡◌, ℕ, ◌<◌, ◌↔◌, true, Bool, false, List, [], ◌++◌, length, map, slice_index, slice_index_or}
-use Rattle.rela_labels.specs.Letters.{has}
+use Rattle.std.specs.Prelude.{◌≡◌, ℕ, ◌<◌, ◌↔◌, Bool, false, List, ◌++◌, length, map, slice_index, slice_index_or}
 use Rattle.rela_nfa.specs.Automaton.{Move}
-use Rattle.rela_subset.specs.Deterministic.{Deterministic, IsAccepted, IsFinal, IsOver, led_from, moves_of, next, states}
+use Rattle.rela_subset.specs.Deterministic.{Deterministic, IsAccepted, IsFinal, IsOver, led_from, moves_of, states}
 
 -- no word over the letters that follows tells the two words apart
 abbrev pub AreAlike : Deterministic → List ℕ → List ℕ → Type 0

@@ -6,7 +6,7 @@ ghost use Rattle.rela_minimise.specs.Classes.{AreAlike, IsMinimal};
 use crate::quotient::quotient;
 use crate::refining::refined;
 use rela_labels::LabelSet;
-use rela_subset::{determinise, BuildError, Dfa};
+use rela_subset::{BuildError, Dfa, determinise};
 use std::alloc::{AllocError, Global};
 
 /// The automaton over the same letters with the fewest states that accepts the same words. Each of

@@ -42,12 +42,7 @@ impl Refinement {
         ensures settled { IfOk result (λ _. HasSettled (stage_of self.new) q) }
     {
         let class = self.classes[q];
-        if has_settled(
-            &mut self.members[class],
-            &self.classes,
-            &self.stale,
-            class,
-        )? {
+        if has_settled(&mut self.members[class], &self.classes, &self.stale, class)? {
             return Ok(());
         }
         self.signatures[class] = signature(alloc, dfa, letters, &self.classes, q)?;

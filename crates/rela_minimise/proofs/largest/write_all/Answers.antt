@@ -1,5 +1,5 @@
-use Rattle.std.proofs.Common.{◌≡◌, ◌<◌, ℕ, length, get_or, take, ap, sym, subst, ◌∙◌, arith}
-use Rattle.std.specs.List.{All, Contains}
+use Rattle.std.proofs.Common.{◌<◌, length, get_or, sym, subst, ◌∙◌}
+use Rattle.std.specs.List.{Contains}
 use Rattle.std.proofs.lemmas.List.{length-set, take_all}
 use Rattle.rela_minimise.proofs.Swapping.{others_more, written_more}
 use Rattle.rela_minimise.proofs.largest.write_all.Goals as goal

@@ -1,5 +1,5 @@
-use Rattle.std.proofs.Common.{◌≡◌, ℕ, ◌<◌, length, get_or, take}
-use Rattle.std.specs.List.{All, Contains}
+use Rattle.std.proofs.Common.{◌≡◌, ℕ, length, get_or, take}
+use Rattle.std.specs.List.{Contains}
 use Rattle.rela_minimise.proofs.largest.write_all.Given as goal
 
 abbrev pub invariant-loop-q : goal.invariant-loop-q

@@ -1,4 +1,4 @@
-use Rattle.std.proofs.Common.{◌≡◌, ℕ, ◌<◌, length}
+use Rattle.std.proofs.Common.{ℕ, ◌<◌, length}
 use Rattle.std.specs.List.{All, Contains}
 use Rattle.rela_minimise.specs.Refining.{IsSettledIn}
 use Rattle.rela_minimise.proofs.lists.has_settled.Given as goal

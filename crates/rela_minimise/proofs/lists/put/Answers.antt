@@ -1,4 +1,4 @@
-use Rattle.std.proofs.Common.{[], ◌∷◌, ◌++◌, get_or, set, map, ap, sym, ◌∙◌}
+use Rattle.std.proofs.Common.{[], ◌∷◌, ◌++◌, set, ap, sym, ◌∙◌}
 use Rattle.std.proofs.lemmas.List.{get_or-map, map-set}
 use Rattle.rela_minimise.specs.Stored.{lists_of}
 use Rattle.rela_minimise.proofs.lists.put.Goals as goal

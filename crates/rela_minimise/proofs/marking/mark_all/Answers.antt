@@ -1,4 +1,4 @@
-use Rattle.std.proofs.Common.{◌≡◌, ℕ, ◌+◌, take, subst, ap, refl, arith}
+use Rattle.std.proofs.Common.{◌+◌, take, subst}
 use Rattle.std.specs.List.{Contains}
 use Rattle.std.proofs.lemmas.List.{take_all}
 use Rattle.rela_subset.proofs.Targets.{Contains-nil}

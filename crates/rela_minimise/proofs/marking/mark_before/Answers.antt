@@ -1,4 +1,4 @@
-use Rattle.std.proofs.Common.{◌≡◌, ℕ, ◌+◌, ◌<◌, [], List, length, get_or, take, subst, sym, ap, refl, arith}
+use Rattle.std.proofs.Common.{◌+◌, ◌<◌, length, get_or, take, subst, sym}
 use Rattle.std.specs.List.{All, Contains}
 use Rattle.std.proofs.lemmas.List.{take_all}
 use Rattle.rela_minimise.specs.Refining.{Marks}

@@ -1,8 +1,8 @@
-use Rattle.std.proofs.Common.{◌≡◌, ℕ, ◌+◌, ◌<◌, ◌≤◌, [], List, length, get_or, subst, sym, ap, refl, arith}
-use Rattle.std.specs.List.{All, Contains}
-use Rattle.rela_minimise.specs.Refining.{Marks, PrecedesNew}
+use Rattle.std.proofs.Common.{◌+◌, ◌<◌, length, subst, sym}
+use Rattle.std.specs.List.{All}
+use Rattle.rela_minimise.specs.Refining.{PrecedesNew}
 use Rattle.rela_minimise.specs.Stored.{lists_of}
-use Rattle.rela_minimise.proofs.OneByOne.{PrecedesOne, list_read, marks_both, marks_fewer, marks_none, new_all, new_more}
+use Rattle.rela_minimise.proofs.OneByOne.{PrecedesOne, list_read, marks_both, new_more}
 use Rattle.rela_minimise.proofs.marking.mark_before_new.Goals as goal
 
 pub mark_before-requires-clause-states : goal.mark_before-requires-clause-states

@@ -1,7 +1,7 @@
 use Rattle.std.proofs.Common.{◌<◌, length, subst, sym, ◌∙◌}
 use Rattle.std.proofs.lemmas.List.{length-map}
 use Rattle.rela_minimise.specs.Stored.{lists_of}
-use Rattle.rela_minimise.proofs.Putting.{added_all, added_more}
+use Rattle.rela_minimise.proofs.Putting.{added_more}
 use Rattle.rela_minimise.proofs.predecessors.add_all.Goals as goal
 
 pub loop-edge-preserved : goal.loop-edge-preserved
@@ -11,4 +11,3 @@ loop-edge-preserved g c =
     (subst (λ n. c.edge-item.result.to < n) (sym (length-map c.args.lists.now.items (λ list. list.items)) ∙ sym c.loop-edge.invariant.each)
     (subst (λ edge. edge.to < length c.args.lists.now.items) (sym c.edge-item.is) (c.requires c.loop-edge.edge-index c.edge-item.result c.loop-edge-test.true)))
     c.in_ok-put.ensures
-

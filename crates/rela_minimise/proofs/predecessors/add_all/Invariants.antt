@@ -1,4 +1,4 @@
-use Rattle.std.proofs.Common.{◌≡◌, map, take}
+use Rattle.std.proofs.Common.{map, take}
 use Rattle.rela_nfa.specs.Stored.{move_of}
 use Rattle.rela_minimise.specs.Refining.{HasAdded}
 use Rattle.rela_minimise.specs.Stored.{lists_of}

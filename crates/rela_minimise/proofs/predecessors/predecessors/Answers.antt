@@ -1,8 +1,8 @@
-use Rattle.std.proofs.Common.{◌<◌, ◌≤◌, length, subst, sym, ◌∙◌}
+use Rattle.std.proofs.Common.{◌<◌, ◌≤◌, subst, sym, ◌∙◌}
 use Rattle.std.proofs.lemmas.List.{length-map}
 use Rattle.rela_minimise.specs.Stored.{lists_of}
 use Rattle.rela_minimise.proofs.Heads.{edges_lead}
-use Rattle.rela_minimise.proofs.Putting.{precede_all, precede_more, precede_none}
+use Rattle.rela_minimise.proofs.Putting.{precede_all, precede_more}
 use Rattle.rela_minimise.proofs.predecessors.predecessors.Goals as goal
 
 pub add_all-requires : goal.add_all-requires

@@ -1,4 +1,3 @@
-use Rattle.std.proofs.Common.{map}
 use Rattle.rela_minimise.proofs.Heads.{edges_lead}
 use Rattle.rela_minimise.proofs.quotient.edges_of.Goals as goal
 

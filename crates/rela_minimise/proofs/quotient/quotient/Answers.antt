@@ -1,8 +1,8 @@
-use Rattle.std.proofs.Common.{◌≡◌, ◌<◌, length, get_or, map, ap, sym, subst, ◌∙◌, refl}
+use Rattle.std.proofs.Common.{◌<◌, get_or, map, ap, sym, subst, ◌∙◌}
 use Rattle.std.specs.List.{All}
-use Rattle.rela_subset.specs.Deterministic.{IsDeterministic, states}
+use Rattle.rela_subset.specs.Deterministic.{states}
 use Rattle.rela_minimise.specs.Classes.{AreHeads, IsQuotient, finality, moves_onto}
-use Rattle.rela_minimise.proofs.Heads.{counted_all, heads_all, met_contains}
+use Rattle.rela_minimise.proofs.Heads.{heads_all, met_contains}
 use Rattle.rela_minimise.proofs.Quotients.{quotient_alike, quotient_deterministic, quotient_language}
 use Rattle.rela_minimise.proofs.quotient.quotient.Goals as goal
 use Rattle.rela_minimise.proofs.quotient.quotient.Goals.{After-drop-heads-2}

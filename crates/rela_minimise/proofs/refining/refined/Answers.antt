@@ -1,7 +1,6 @@
-use Rattle.std.proofs.Common.{◌≡◌, ◌<◌, ◌≤◌, ◌+◌, ◌-◌, ℕ, [], ◌++◌, Bool, List, take, drop, length, get_or, refl, ap, subst, sym, ◌∙◌, arith}
+use Rattle.std.proofs.Common.{◌≡◌, ◌<◌, ℕ, [], ◌++◌, Bool, List, take, drop, length, get_or, ap, subst, sym, ◌∙◌, arith}
 use Rattle.std.specs.List.{All}
 use Rattle.std.proofs.lemmas.List.{length-map}
-use Rattle.rela_subset.specs.Deterministic.{states}
 use Rattle.rela_minimise.specs.Classes.{AreClasses}
 use Rattle.rela_minimise.specs.Refining.{AreLetters, IsAfter, IsRefining, IsStart, Stage}
 use Rattle.rela_minimise.specs.Stored.{lists_of, stage_of}

@@ -1,4 +1,4 @@
-use Rattle.std.proofs.Common.{ap, sym, ◌∙◌, ◌≤◌, length, subst}
+use Rattle.std.proofs.Common.{ap, sym, ◌∙◌, ◌≤◌, subst}
 use Rattle.rela_labels.proofs.LettersOfWords.{has_below}
 use Rattle.rela_minimise.proofs.Letters.{all_below, below_with, below_without}
 use Rattle.rela_minimise.proofs.signature.letters_of.Goals as goal

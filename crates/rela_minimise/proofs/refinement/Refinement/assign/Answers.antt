@@ -1,4 +1,4 @@
-use Rattle.std.proofs.Common.{◌<◌, length, refl, subst, sym}
+use Rattle.std.proofs.Common.{◌<◌, refl, subst, sym}
 use Rattle.std.proofs.lemmas.List.{length-map}
 use Rattle.rela_minimise.specs.Stored.{stage_of}
 use Rattle.rela_minimise.proofs.Assigning.{assigned}

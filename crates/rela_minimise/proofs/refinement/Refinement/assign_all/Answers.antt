@@ -1,4 +1,3 @@
-use Rattle.std.proofs.Common.{◌≡◌, ◌<◌, length, refl, subst, sym}
 use Rattle.rela_minimise.specs.Stored.{stage_of}
 use Rattle.rela_minimise.proofs.Assigning.{assigned_more, assigned_none}
 use Rattle.rela_minimise.proofs.refinement.Refinement.assign_all.Goals as goal

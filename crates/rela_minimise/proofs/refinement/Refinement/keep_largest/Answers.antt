@@ -1,7 +1,7 @@
-use Rattle.std.proofs.Common.{◌≡◌, ◌<◌, ◌+◌, ℕ, List, length, get_or, ap, sym, subst, refl, ◌∙◌, arith}
+use Rattle.std.proofs.Common.{◌<◌, ℕ, length, get_or, sym, subst, refl, ◌∙◌, arith}
 use Rattle.std.specs.List.{All}
 use Rattle.std.proofs.lemmas.List.{length-map}
-use Rattle.rela_minimise.specs.Refining.{IsHeld, KeepsAfter}
+use Rattle.rela_minimise.specs.Refining.{IsHeld}
 use Rattle.rela_minimise.specs.Stored.{stage_of}
 use Rattle.rela_minimise.proofs.Swapping.{keeps_more}
 use Rattle.rela_minimise.proofs.refinement.Refinement.keep_largest.Goals as goal

@@ -1,13 +1,13 @@
-use Rattle.std.proofs.Common.{◌≡◌, ◌<◌, ◌≤◌, ◌-◌, ◌+◌, ℕ, List, length, get_or, set, ap, sym, subst, refl, ◌∙◌, arith}
+use Rattle.std.proofs.Common.{◌≡◌, ◌<◌, ◌-◌, ◌+◌, length, get_or, set, ap, sym, subst, ◌∙◌, arith}
 use Rattle.std.proofs.lemmas.List.{get_or_default, length-map, length-set}
-use Rattle.rela_minimise.specs.Stored.{lists_of, stage_of}
+use Rattle.rela_minimise.specs.Stored.{stage_of}
 use Rattle.rela_minimise.proofs.Origins.{AreMet, met_all, met_with, met_without}
 use Rattle.rela_minimise.proofs.refinement.Refinement.origins.Goals as goal
 use Rattle.rela_minimise.proofs.refinement.Refinement.origins.Goals.{then-targets-i, else-targets-i}
 
 pub loop-i-preserved : goal.loop-i-preserved
 loop-i-preserved c = elim c.if-targets-i.branch [
-  | then-targets-i w ↦ 
+  | then-targets-i w ↦
       let place = get_or c.args.targets.now c.loop-i.i 0 - c.len-first.result in
       let len : c.len-first.result ≡ length c.args.self.now.members.items = c.len-first.ensures ∙ c.args.self.now.members.ok.0 in
       let i_in : c.loop-i.i < length c.args.waiting.now = c.loop-i-test.true in

@@ -1,8 +1,8 @@
-use Rattle.std.proofs.Common.{◌≡◌, ◌<◌, ℕ, Bool, [], ◌∷◌, ◌++◌, false, true, List, length, get_or, map, set, subst, ap, sym, refl, ◌∙◌}
+use Rattle.std.proofs.Common.{◌≡◌, ◌<◌, ℕ, [], ◌∷◌, ◌++◌, false, List, length, get_or, set, subst, ap, sym, refl, ◌∙◌}
 use Rattle.std.specs.List.{All, Contains}
 use Rattle.std.proofs.lemmas.List.{get_or-map, get_or_default, length-map, map-set}
 use Rattle.rela_subset.specs.Deterministic.{states}
-use Rattle.rela_minimise.specs.Refining.{HasSettled, IsSettledIn, Settles, Stage, class_of, signature}
+use Rattle.rela_minimise.specs.Refining.{IsSettledIn, Stage, class_of, signature}
 use Rattle.rela_minimise.specs.Stored.{lists_of, stage_of}
 use Rattle.rela_minimise.proofs.Settling.{sound_first, sound_with}
 use Rattle.rela_minimise.proofs.refinement.Refinement.settle.Goals as goal

@@ -1,9 +1,9 @@
-use Rattle.std.proofs.Common.{take, subst}
+use Rattle.std.proofs.Common.{subst}
 use Rattle.std.specs.List.{All}
 use Rattle.std.proofs.lemmas.List.{take_all}
 use Rattle.rela_minimise.specs.Refining.{HasSettled}
 use Rattle.rela_minimise.specs.Stored.{stage_of}
-use Rattle.rela_minimise.proofs.Settling.{settled_more, settles_both, settles_nothing}
+use Rattle.rela_minimise.proofs.Settling.{settled_more, settles_both}
 use Rattle.rela_minimise.proofs.refinement.Refinement.settle_all.Goals as goal
 
 pub loop-q-preserved : goal.loop-q-preserved

@@ -1,8 +1,8 @@
-use Rattle.std.proofs.Common.{◌≡◌, ◌<◌, ◌+◌, ℕ, List, length, get_or, refl, ap, subst, sym, ◌∙◌}
+use Rattle.std.proofs.Common.{◌≡◌, ◌<◌, ◌+◌, ℕ, List, length, get_or, ap, subst, sym, ◌∙◌}
 use Rattle.std.specs.List.{All}
 use Rattle.std.proofs.lemmas.List.{length-map}
 use Rattle.rela_subset.specs.Deterministic.{states}
-use Rattle.rela_minimise.specs.Refining.{AreAssigned, AreFrom, AreOrigins, Goes, IsAfter, IsSplit, Stage}
+use Rattle.rela_minimise.specs.Refining.{AreAssigned, AreFrom, AreOrigins, IsSplit}
 use Rattle.rela_minimise.specs.Stored.{lists_of, stage_of}
 use Rattle.rela_minimise.proofs.Assigning.{is_split, targets_below}
 use Rattle.rela_minimise.proofs.Rounds.{after_split, are_from, origins_below, split_held}

@@ -1,7 +1,7 @@
-use Rattle.std.proofs.Common.{◌≡◌, ◌<◌, ℕ, List, [], length, get_or, map, set, ap, sym, subst, refl, ◌∙◌}
+use Rattle.std.proofs.Common.{◌<◌, length, get_or, set, ap, sym, subst, refl, ◌∙◌}
 use Rattle.std.specs.List.{All, Contains}
 use Rattle.std.proofs.lemmas.List.{length-map, map-set}
-use Rattle.rela_minimise.specs.Stored.{lists_of, stage_of}
+use Rattle.rela_minimise.specs.Stored.{stage_of}
 use Rattle.rela_minimise.proofs.OneByOne.{list_read}
 use Rattle.rela_minimise.proofs.Swapping.{swapped_len, swapped_lists, swapped_of}
 use Rattle.rela_minimise.proofs.refinement.Refinement.swap.Goals as goal

@@ -1,6 +1,6 @@
-use Rattle.std.proofs.Common.{◌≡◌, ◌<◌, ◌≤◌, ◌+◌, ℕ, length, get_or, map, ap, sym, subst, ◌∙◌, arith}
+use Rattle.std.proofs.Common.{◌≡◌, ◌+◌, length, ap, sym, subst, ◌∙◌, arith}
 use Rattle.std.proofs.lemmas.List.{length-map}
-use Rattle.rela_minimise.specs.Refining.{HasFound, Goes}
+use Rattle.rela_minimise.specs.Refining.{HasFound}
 use Rattle.rela_minimise.specs.Stored.{lists_of, stage_of}
 use Rattle.rela_minimise.proofs.Targeting.{each_more, goes_more, used_more}
 use Rattle.rela_minimise.proofs.refinement.Refinement.targets.Goals as goal
