@@ -12,7 +12,7 @@ use Rattle.rela_subset.specs.Deterministic.{Deterministic, IsDeterministic, IsOv
 use Rattle.rela_subset.proofs.Targets.{target_step}
 use Rattle.rela_subset.proofs.Words.{next_within, target_at}
 use Rattle.rela_minimise.specs.Classes.{AreClasses, finality}
-use Rattle.rela_minimise.specs.Refining.{AreLetters, ArePredecessors, AreWaiting, IsAfter, IsCoarse, IsRefining, IsSound, IsStable, IsStart, Marks, PrecedesNew, Stage, class_of, is_stale}
+use Rattle.rela_minimise.specs.Refining.{AreKinds, ArePredecessors, AreWaiting, IsAfter, IsCoarse, IsRefining, IsSound, IsStable, IsStart, Marks, PrecedesNew, Stage, class_of, is_stale}
 use Rattle.rela_minimise.proofs.Alike.{truth_same}
 use Rattle.rela_minimise.proofs.Signing.{same_final, same_leads, signature_same}
 
@@ -57,7 +57,7 @@ refining_first d letters s waiting ok is each own =
       | inr past ↦ get_or_past ([] ∷ []) c [] past
     ]
 
-module _ (d : Deterministic) (ok : IsDeterministic d) (letters : List ℕ) (are : AreLetters d.over letters) where
+module _ (d : Deterministic) (ok : IsDeterministic d) (letters : List ℕ) (are : AreKinds d letters) where
   -- a state precedes those to which letters lead from it
   precedes : (lists : List (List ℕ)) → ArePredecessors d lists → (q k : ℕ) → q < states d → has d.over k ≡ true → Contains (get_or lists (next d q k) []) q
   precedes lists pred q k below over =
@@ -124,7 +124,7 @@ module _ (d : Deterministic) (ok : IsDeterministic d) (letters : List ℕ) (are 
     accept_stable stable (k ∷ rest) p q p_in q_in same over =
         let read : has d.over k ≡ true = All-head (λ j. has d.over j ≡ true) k rest over in
         accept_stable stable rest (next d p k) (next d q k) (next_within d ok p k p_in read) (next_within d ok q k q_in read)
-        (same_leads d ok letters are s.classes s.classes p q (stable p q p_in q_in same) k read) (All-tail (λ j. has d.over j ≡ true) k rest over)
+        (same_leads d ok letters are s.classes s.classes p q p_in q_in (stable p q p_in q_in same) k read) (All-tail (λ j. has d.over j ≡ true) k rest over)
 
     pub refined_classes : IsStable d letters s → AreClasses d (length s.members) s.classes
     refined_classes stable = record {

@@ -8,12 +8,12 @@ use Rattle.rela_subset.specs.Deterministic.{Deterministic, IsDeterministic, next
 use Rattle.rela_subset.specs.Sets.{AreDistinct}
 use Rattle.rela_subset.proofs.Words.{next_within}
 use Rattle.rela_minimise.specs.Classes.{AcceptSame}
-use Rattle.rela_minimise.specs.Refining.{AreFrom, AreLetters, AreOrigins, AreWaiting, Goes, HasSettled, IsAfter, IsCoarse, IsHeld, IsSplit, IsStable, Settles, Stage, class_of, is_stale, signature}
+use Rattle.rela_minimise.specs.Refining.{AreFrom, AreKinds, AreOrigins, AreWaiting, Goes, HasSettled, IsAfter, IsCoarse, IsHeld, IsSplit, IsStable, Settles, Stage, class_of, is_stale, signature}
 use Rattle.rela_minimise.proofs.Alike.{accept_final, accept_next}
 use Rattle.rela_minimise.proofs.Assigning.{goes_below}
 use Rattle.rela_minimise.proofs.Signing.{same_final, same_leads, signature_same}
 
-module _ (d : Deterministic) (ok : IsDeterministic d) (letters : List ℕ) (are : AreLetters d.over letters) (start s s' : Stage) (found : List (List ℕ)) (waiting targets : List ℕ)
+module _ (d : Deterministic) (ok : IsDeterministic d) (letters : List ℕ) (are : AreKinds d letters) (start s s' : Stage) (found : List (List ℕ)) (waiting targets : List ℕ)
     (coarse : IsCoarse d letters start) (are_waiting : AreWaiting (states d) start.stale waiting) (settles : Settles d letters start s) (each_settled : All (HasSettled s) waiting)
     (goes : (i : ℕ) → i < length waiting → Goes d letters s found (get_or waiting i 0) (get_or targets i 0))
     (used : (j : ℕ) → j < length found → (i : ℕ) × (i < length waiting) × (get_or targets i 0 ≡ length s.members + j)) (distinct : AreDistinct found) (is : IsSplit d letters s found s') where
@@ -118,7 +118,7 @@ module _ (d : Deterministic) (ok : IsDeterministic d) (letters : List ℕ) (are 
       signature_same d ok letters are s.classes s.classes p q (same_final d ok letters are s'.classes s'.classes p q same) (λ k over.
       let p_next = next_within d ok p k p_in over in
       let q_next = next_within d ok q k q_in over in
-      let one = one_sign (next d p k) (next d q k) p_next q_next (same_leads d ok letters are s'.classes s'.classes p q same k over) in
+      let one = one_sign (next d p k) (next d q k) p_next q_next (same_leads d ok letters are s'.classes s'.classes p q p_in q_in same k over) in
       class_start (next d p k)
       ∙ coarse.signing (next d p k) (next d q k) p_next q_next (sym (sign_start (next d p k)) ∙ one ∙ sign_start (next d q k))
       ∙ sym (class_start (next d q k)))

@@ -1,12 +1,12 @@
 -- What signatures tell.
-use Rattle.std.proofs.Common.{◌≡◌, ℕ, Bool, true, false, cond, List, [], ◌∷◌, get_or, map, refl, sym, ap, ◌∙◌, arith}
+use Rattle.std.proofs.Common.{◌≡◌, ℕ, ◌<◌, Bool, true, false, cond, List, [], ◌∷◌, get_or, map, refl, sym, ap, ◌∙◌, arith}
 use Rattle.std.specs.List.{All}
 use Rattle.std.proofs.lemmas.List.{get_or-map}
-use Rattle.std.proofs.lemmas.List.Elements.{All-contains, All-from_get_or, All-head, All-tail, Contains-get_or}
+use Rattle.std.proofs.lemmas.List.Elements.{All-contains, All-from_get_or, All-head, All-tail}
 use Rattle.rela_labels.specs.Letters.{has}
-use Rattle.rela_subset.specs.Deterministic.{Deterministic, IsDeterministic, next}
+use Rattle.rela_subset.specs.Deterministic.{Deterministic, IsDeterministic, next, states}
 use Rattle.rela_minimise.specs.Classes.{finality}
-use Rattle.rela_minimise.specs.Refining.{AreLetters, signature}
+use Rattle.rela_minimise.specs.Refining.{AreKinds, signature}
 
 one_bit : (a b : Bool) → ◌≡◌ {A = ℕ} (cond a 1 0) (cond b 1 0) → a ≡ b
 one_bit true true same = refl
@@ -39,10 +39,7 @@ same_maps : (f g : ℕ → ℕ) (letters : List ℕ) → map f letters ≡ map g
 same_maps f g letters same = All-from_get_or (λ k. f k ≡ g k) letters 0 (λ i below.
     sym (get_or-map f letters i 0 0 below) ∙ ap (λ l. get_or l i 0) same ∙ get_or-map g letters i 0 0 below)
 
-module _ (d : Deterministic) (ok : IsDeterministic d) (letters : List ℕ) (are : AreLetters d.over letters) where
-  pub letters_over : All (λ k. has d.over k ≡ true) letters
-  letters_over i e below = (are (get_or letters i e)).0 (Contains-get_or letters i e below)
-
+module _ (d : Deterministic) (ok : IsDeterministic d) (letters : List ℕ) (are : AreKinds d letters) where
   -- two states have the same signature where both are final or neither, and each letter leads to one class
   pub signature_same : (classes classes' : List ℕ) (p q : ℕ) → finality d p ≡ finality d q → ((k : ℕ) → has d.over k ≡ true → get_or classes (next d p k) 0 ≡ get_or classes' (next d q k) 0)
       → signature d letters classes p ≡ signature d letters classes' q
@@ -50,15 +47,19 @@ module _ (d : Deterministic) (ok : IsDeterministic d) (letters : List ℕ) (are 
       ap (λ b. cond b 1 0 ∷ map (λ k. get_or classes (next d p k) 0) letters) final
       ∙ ap (λ l. cond (finality d q) 1 0 ∷ l)
       (maps_same (λ k. get_or classes (next d p k) 0) (λ k. get_or classes' (next d q k) 0) letters
-      (All-from_get_or (λ k. get_or classes (next d p k) 0 ≡ get_or classes' (next d q k) 0) letters 0 (λ i below. leads (get_or letters i 0) (letters_over i 0 below))))
+      (All-from_get_or (λ k. get_or classes (next d p k) 0 ≡ get_or classes' (next d q k) 0) letters 0 (λ i below. leads (get_or letters i 0) (are.over i 0 below))))
 
   pub same_final : (classes classes' : List ℕ) (p q : ℕ) → signature d letters classes p ≡ signature d letters classes' q → finality d p ≡ finality d q
   same_final classes classes' p q same =
       one_bit (finality d p) (finality d q)
       (same_head (cond (finality d p) 1 0) (cond (finality d q) 1 0) (map (λ k. get_or classes (next d p k) 0) letters) (map (λ k. get_or classes' (next d q k) 0) letters) same)
 
-  pub same_leads : (classes classes' : List ℕ) (p q : ℕ) → signature d letters classes p ≡ signature d letters classes' q → (k : ℕ) → has d.over k ≡ true → get_or classes (next d p k) 0 ≡ get_or classes' (next d q k) 0
-  same_leads classes classes' p q same k over =
-      All-contains (λ j. get_or classes (next d p j) 0 ≡ get_or classes' (next d q j) 0) letters k
-      (same_maps (λ j. get_or classes (next d p j) 0) (λ j. get_or classes' (next d q j) 0) letters
-      (same_rest (cond (finality d p) 1 0) (cond (finality d q) 1 0) (map (λ j. get_or classes (next d p j) 0) letters) (map (λ j. get_or classes' (next d q j) 0) letters) same)) ((are k).1 over)
+  pub same_leads : (classes classes' : List ℕ) (p q : ℕ) → p < states d → q < states d → signature d letters classes p ≡ signature d letters classes' q
+      → (k : ℕ) → has d.over k ≡ true → get_or classes (next d p k) 0 ≡ get_or classes' (next d q k) 0
+  same_leads classes classes' p q p_in q_in same k over =
+      let (j, among, alike) = are.each k over in
+      let as_listed : get_or classes (next d p j) 0 ≡ get_or classes' (next d q j) 0 =
+      All-contains (λ i. get_or classes (next d p i) 0 ≡ get_or classes' (next d q i) 0) letters j
+      (same_maps (λ i. get_or classes (next d p i) 0) (λ i. get_or classes' (next d q i) 0) letters
+      (same_rest (cond (finality d p) 1 0) (cond (finality d q) 1 0) (map (λ i. get_or classes (next d p i) 0) letters) (map (λ i. get_or classes' (next d q i) 0) letters) same)) among in
+      ap (λ n. get_or classes n 0) (sym (alike p p_in)) ∙ as_listed ∙ ap (λ n. get_or classes' n 0) (alike q q_in)

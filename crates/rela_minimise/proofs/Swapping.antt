@@ -9,7 +9,7 @@ use Rattle.std.proofs.lemmas.List.Edits.{length-swap, swapped_from_swap}
 use Rattle.std.proofs.lemmas.List.Elements.{Contains-append_left, Contains-get_or, Contains-push, Contains-push_cases}
 use Rattle.rela_subset.specs.Deterministic.{Deterministic, IsDeterministic, next, states}
 use Rattle.rela_subset.proofs.Words.{next_within}
-use Rattle.rela_minimise.specs.Refining.{AreFrom, AreLetters, IsAfter, IsHeld, IsSwapped, KeepsAfter, Stage, class_of, other_of, signature}
+use Rattle.rela_minimise.specs.Refining.{AreFrom, AreKinds, IsAfter, IsHeld, IsSwapped, KeepsAfter, Stage, class_of, other_of, signature}
 use Rattle.rela_minimise.specs.Stored.{lists_of}
 use Rattle.rela_minimise.proofs.OneByOne.{in_take}
 use Rattle.rela_minimise.proofs.Signing.{same_final, same_leads, signature_same}
@@ -85,7 +85,7 @@ other_below a b c n a_in b_in c_in = elim (cases_Bool (c == a)) [
 ]
 
 -- what held after states had gone by their signatures holds with the number of a class given to a part of it
-module _ (d : Deterministic) (ok : IsDeterministic d) (letters : List ℕ) (are : AreLetters d.over letters) (start s s' : Stage) (origins : List ℕ) (j : ℕ) (j_in : j < length origins)
+module _ (d : Deterministic) (ok : IsDeterministic d) (letters : List ℕ) (are : AreKinds d letters) (start s s' : Stage) (origins : List ℕ) (j : ℕ) (j_in : j < length origins)
     (old : get_or origins j 0 < length start.members) (fits : length start.members + j < length s.members) (from : AreFrom (states d) (length start.members) origins start s) (after : IsAfter d letters start s)
     (swapped : IsSwapped (states d) (get_or origins j 0) (length start.members + j) s s') where
   abbrev a : ℕ
@@ -109,12 +109,12 @@ module _ (d : Deterministic) (ok : IsDeterministic d) (letters : List ℕ) (are 
   sign_back : (p q : ℕ) → p < states d → q < states d → signature d letters s'.classes p ≡ signature d letters s'.classes q → signature d letters s.classes p ≡ signature d letters s.classes q
   sign_back p q p_in q_in same =
       signature_same d ok letters are s.classes s.classes p q (same_final d ok letters are s'.classes s'.classes p q same) (λ k over.
-      same_back (next d p k) (next d q k) (next_within d ok p k p_in over) (next_within d ok q k q_in over) (same_leads d ok letters are s'.classes s'.classes p q same k over))
+      same_back (next d p k) (next d q k) (next_within d ok p k p_in over) (next_within d ok q k q_in over) (same_leads d ok letters are s'.classes s'.classes p q p_in q_in same k over))
 
   sign_on : (p q : ℕ) → p < states d → q < states d → signature d letters s.classes p ≡ signature d letters s.classes q → signature d letters s'.classes p ≡ signature d letters s'.classes q
   sign_on p q p_in q_in same =
       signature_same d ok letters are s'.classes s'.classes p q (same_final d ok letters are s.classes s.classes p q same) (λ k over.
-      same_on (next d p k) (next d q k) (next_within d ok p k p_in over) (next_within d ok q k q_in over) (same_leads d ok letters are s.classes s.classes p q same k over))
+      same_on (next d p k) (next d q k) (next_within d ok p k p_in over) (next_within d ok q k q_in over) (same_leads d ok letters are s.classes s.classes p q p_in q_in same k over))
 
   -- where a state's number is now, it was, or it was the other one of the two
   kept_now : (q : ℕ) → q < states d → class_of s' q < length start.members → class_of s' q ≡ class_of start q

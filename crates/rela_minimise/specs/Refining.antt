@@ -1,14 +1,19 @@
 -- Classes of states in the course of their refinement.
-use Rattle.std.specs.Prelude.{◌≡◌, ◌≢◌, ℕ, ◌+◌, ◌<◌, ◌≤◌, ◌⊎◌, ◌↔◌, ◌==◌, Bool, true, false, List, [], ◌∷◌, ◌++◌, length, map, replicate, Contains, slice_index, slice_index_or, if◌then◌else◌}
+use Rattle.std.specs.Prelude.{◌≡◌, ◌≢◌, ℕ, ◌+◌, ◌<◌, ◌≤◌, ◌⊎◌, ◌==◌, Bool, true, false, List, [], ◌∷◌, ◌++◌, length, map, replicate, Contains, slice_index, slice_index_or, if◌then◌else◌}
 use Rattle.std.specs.List.{All}
 use Rattle.rela_labels.specs.Letters.{has}
 use Rattle.rela_subset.specs.Deterministic.{Deterministic, IsDeterministic, moves_of, next, states}
 use Rattle.rela_nfa.specs.Automaton.{Move}
 use Rattle.rela_minimise.specs.Classes.{AcceptSame, finality}
 
--- just the letters of the set
-abbrev pub AreLetters : List Bool → List ℕ → Type 0
-AreLetters over letters = (k : ℕ) → Contains letters k ↔ (has over k ≡ true)
+-- from each state the two letters lead to the same state
+abbrev pub LeadAlike : Deterministic → ℕ → ℕ → Type 0
+LeadAlike d j k = (q : ℕ) → q < states d → next d q j ≡ next d q k
+
+-- letters that are read, among which is for each letter that is read one that leads from each state to the same state
+pub record AreKinds (d : Deterministic) (letters : List ℕ) : Type 0 where
+  pub over : All (λ k. has d.over k ≡ true) letters
+  pub each : (k : ℕ) → has d.over k ≡ true → (j : ℕ) × Contains letters j × LeadAlike d j k
 
 -- whether the state is final, and the class to which each of the letters leads from it
 abbrev pub signature : Deterministic → List ℕ → List ℕ → ℕ → List ℕ
@@ -215,5 +220,5 @@ AreFrom n first origins start s = (q j : ℕ) → q < n → j < length origins �
 
 -- what holds after states have gone by their signatures holds too where some new classes have been given the numbers of those of which they were parts
 abbrev pub KeepsAfter : ℕ → List ℕ → Stage → Stage → Type 0
-KeepsAfter first origins s s' = (d : Deterministic) (letters : List ℕ) (start : Stage) → IsDeterministic d → AreLetters d.over letters → first ≡ length start.members
+KeepsAfter first origins s s' = (d : Deterministic) (letters : List ℕ) (start : Stage) → IsDeterministic d → AreKinds d letters → first ≡ length start.members
     → AreFrom (states d) first origins start s → IsAfter d letters start s → AreFrom (states d) first origins start s' × IsAfter d letters start s'

@@ -3,7 +3,7 @@ ghost use Rattle.std.specs.Prelude.{◌≡◌, ◌⊎◌, ℕ, ◌+◌, ◌<◌,
 ghost use Rattle.std.specs.List.{All};
 ghost use Rattle.rela_labels.specs.Letters.{has};
 ghost use Rattle.rela_subset.specs.Deterministic.{IsDeterministic, states};
-ghost use Rattle.rela_minimise.specs.Refining.{AreAssigned, AreLetters, AreWaiting, Goes, HasFound, HasSettled, IsAfter, IsAssigned, IsCoarse, IsOpened, IsSettledIn, IsSound, Settles};
+ghost use Rattle.rela_minimise.specs.Refining.{AreAssigned, AreKinds, AreWaiting, Goes, HasFound, HasSettled, IsAfter, IsAssigned, IsCoarse, IsOpened, IsSettledIn, IsSound, Settles};
 ghost use Rattle.rela_minimise.specs.Stored.{lists_of, stage_of};
 
 use crate::lists::{has_settled, put, same};
@@ -167,7 +167,7 @@ impl Refinement {
         waiting: &[usize],
     ) -> Result<(), AllocError>
         requires deterministic { IsDeterministic dfa.now }
-        requires letters { AreLetters dfa.now.over letters.now }
+        requires letters { AreKinds dfa.now letters.now }
         requires waiting { AreWaiting (states dfa.now) self.old.stale.items waiting.now }
         requires sound { IsSound dfa.now letters.now (stage_of self.old) }
         requires coarse { IsCoarse dfa.now letters.now (stage_of self.old) }

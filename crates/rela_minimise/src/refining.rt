@@ -5,10 +5,10 @@ ghost use Rattle.rela_minimise.specs.Classes.{AreClasses};
 ghost use Rattle.rela_minimise.specs.Refining.{IsStart};
 ghost use Rattle.rela_minimise.specs.Stored.{stage_of};
 
+use crate::kinds::kinds;
 use crate::marking::mark_before_new;
 use crate::predecessors::predecessors;
 use crate::refinement::Refinement;
-use crate::signature::letters_of;
 use rela_labels::LabelSet;
 use rela_subset::Dfa;
 use std::alloc::{AllocError, Global};
@@ -21,7 +21,7 @@ pub(crate) fn refined<L: LabelSet>(alloc: Global, dfa: &Dfa<L>) -> Result<Refine
     requires { IsDeterministic dfa.now }
     ensures { IfOk result (λ made. AreClasses dfa.now (length made.members.items) made.classes.items) }
 {
-    let letters = letters_of(alloc, dfa.over())?;
+    let letters = kinds(alloc, dfa)?;
     let predecessors = predecessors(alloc, dfa)?;
     let mut refinement = one_class(alloc, dfa.states())?;
     let mut waiting = numbers_below(alloc, dfa.states())?;

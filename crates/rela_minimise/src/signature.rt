@@ -3,24 +3,11 @@ ghost use Rattle.std.specs.Prelude.{◌≡◌, ℕ, ◌<◌, true, IfOk, length}
 ghost use Rattle.std.specs.List.{All};
 ghost use Rattle.rela_labels.specs.Letters.{has};
 ghost use Rattle.rela_subset.specs.Deterministic.{IsDeterministic, states};
-ghost use Rattle.rela_minimise.specs.Refining.{AreLetters, signature as is_signature};
+ghost use Rattle.rela_minimise.specs.Refining.{signature as is_signature};
 
 use rela_labels::LabelSet;
 use rela_subset::Dfa;
 use std::alloc::{AllocError, Global};
-
-/// The letters of the set, in ascending order.
-pub(crate) fn letters_of<L: LabelSet>(alloc: Global, over: &L) -> Result<Vec<u32>, AllocError>
-    ensures { IfOk result (λ letters. AreLetters (L.letters over.now) letters.items) }
-{
-    let mut letters = Vec::new(alloc);
-    for letter in 0..over.size() {
-        if over.contains(letter) {
-            letters.push(letter)?;
-        }
-    }
-    Ok(letters)
-}
 
 /// Whether the state is final, and the class to which each of the letters leads from it.
 pub(crate) fn signature<L: LabelSet>(

@@ -1,7 +1,8 @@
 ghost use Rattle.std.specs.Prelude.{◌≡◌, IfOk, length};
 
 use super::*;
-use rela_labels::{BlockSet, LabelSet};
+use crate::kinds::kinds;
+use rela_labels::{BlockSet, LabelSet, WideSet};
 use rela_nfa::Nfa;
 use rela_subset::{complement, determinise};
 use std::alloc::{AllocError, Global};
@@ -17,6 +18,16 @@ fn set_of(alloc: Global, letters: &[u32]) -> Result<Letters, AllocError>
         if *letter < 3 {
             set.add(*letter);
         }
+    }
+    Ok(set)
+}
+
+fn all_below(alloc: Global, size: u32) -> Result<WideSet, AllocError>
+    ensures { IfOk result (λ set. length set ≡ size) }
+{
+    let mut set = WideSet::none(alloc, size)?;
+    for letter in 0..size {
+        set.add(letter);
     }
     Ok(set)
 }
@@ -53,5 +64,24 @@ fn states_with_the_same_words_are_one(rt: HostRuntime) -> Result<(), Fail> {
     assert!(rt; dfa.states() > 4);
     assert_eq!(rt; made.states(), 4);
     assert_eq!(rt; made.edges(0).len(), 2);
+    Ok(())
+}
+
+#[test]
+fn many_letters_of_two_kinds(rt: HostRuntime) -> Result<(), Fail> {
+    let alloc = rt.alloc();
+    let all = all_below(alloc, 300)?;
+    let mut seventh = WideSet::none(alloc, 300)?;
+    seventh.add(7);
+    let any: Nfa<WideSet> = Nfa::class(alloc, 300, &all)?;
+    let one: Nfa<WideSet> = Nfa::class(alloc, 300, &seventh)?;
+    let two = any.concat(alloc, &any)?;
+    let front = any.star(alloc)?.concat(alloc, &one)?;
+    let words = front.concat(alloc, &two)?.concat(alloc, &two)?;
+    let words = words.concat(alloc, &any)?;
+    let dfa = determinise(alloc, &words, &all, 100)?;
+    assert!(rt; dfa.states() > 64);
+    assert_eq!(rt; minimise(alloc, &dfa)?.states(), 64);
+    assert_eq!(rt; kinds(alloc, &dfa)?.len(), 2);
     Ok(())
 }

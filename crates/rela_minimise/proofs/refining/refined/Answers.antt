@@ -2,7 +2,7 @@ use Rattle.std.proofs.Common.{◌≡◌, ◌<◌, ℕ, [], ◌++◌, Bool, List,
 use Rattle.std.specs.List.{All}
 use Rattle.std.proofs.lemmas.List.{length-map}
 use Rattle.rela_minimise.specs.Classes.{AreClasses}
-use Rattle.rela_minimise.specs.Refining.{AreLetters, IsAfter, IsRefining, IsStart, Stage}
+use Rattle.rela_minimise.specs.Refining.{IsAfter, IsRefining, IsStart, Stage}
 use Rattle.rela_minimise.specs.Stored.{lists_of, stage_of}
 use Rattle.rela_minimise.proofs.OneByOne.{kept_flags, marks_read}
 use Rattle.rela_minimise.proofs.Refined.{few_classes, refined_classes, refining_first, refining_next}
@@ -24,7 +24,7 @@ mark_before_new-requires-clause-members g c class =
 
 pub loop-before-smaller : goal.loop-before-smaller
 loop-before-smaller g c =
-    let are = subst (λ o. AreLetters o c.in_ok-letters.letters.items) c.over.ensures c.in_ok-letters.ensures in
+    let are = c.in_ok-letters.ensures in
     let few = few_classes c.args.dfa.now c.requires c.in_ok-letters.letters.items are (stage_of c.loop-before.refinement) c.loop-before.invariant.coarse c.loop-before.invariant.sound in
     let count = length-map c.loop-before.refinement.members.items (λ v. v.items) in
     let len = c.len.ensures in
@@ -35,7 +35,7 @@ loop-before-smaller g c =
 
 pub loop-before-preserved : goal.loop-before-preserved
 loop-before-preserved g c =
-    let are = subst (λ o. AreLetters o c.in_ok-letters.letters.items) c.over.ensures c.in_ok-letters.ensures in
+    let are = c.in_ok-letters.ensures in
     let count = length-map c.loop-before.refinement.members.items (λ v. v.items) in
     let before : c.len-before.result ≡ length (lists_of c.loop-before.refinement.members.items) = c.len-before.ensures ∙ c.loop-before.refinement.members.ok.0 ∙ sym count in
     let split = c.split.new.self in
@@ -52,7 +52,7 @@ loop-before-preserved g c =
 
 pub returns : goal.returns
 returns g c =
-    let are = subst (λ o. AreLetters o c.in_ok-letters.letters.items) c.over.ensures c.in_ok-letters.ensures in
+    let are = c.in_ok-letters.ensures in
     let count = length-map c.loop-before.refinement.members.items (λ v. v.items) in
     let kept = c.loop-before.refinement.members.ok.0 in
     let grown = c.loop-before.invariant.grown in
