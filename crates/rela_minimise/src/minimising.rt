@@ -1,5 +1,5 @@
 //! The minimal automaton.
-ghost use Rattle.std.specs.Prelude.{◌≡◌, ℕ, ◌↔◌, List, IfOk};
+ghost use Rattle.std.specs.Prelude.{◌≡◌, ◌≢◌, ℕ, ◌↔◌, List, IfOk};
 ghost use Rattle.rela_subset.specs.Deterministic.{IsAccepted, IsByArrival, IsOver, IsReachable, state_after};
 ghost use Rattle.rela_minimise.specs.Classes.{AreAlike, IsMinimal};
 
@@ -31,7 +31,16 @@ pub fn minimise<L: LabelSet>(alloc: Global, dfa: &Dfa<L>) -> Result<Dfa<L>, Allo
     let nfa = classes.to_nfa(alloc)?;
     match determinise(alloc, &nfa, dfa.over(), usize::MAX) {
         Ok(made) => Ok(made),
-        // no limit was set
-        Err(BuildError::Limit | BuildError::Memory) => Err(AllocError),
+        Err(error) => Err(want_of_memory(error)),
+    }
+}
+
+/// Want of memory, where no limit was set.
+fn want_of_memory(error: BuildError) -> AllocError
+    requires { error ≢ BuildError.Limit }
+{
+    match error {
+        BuildError::Memory => AllocError,
+        BuildError::Limit => unreachable!(),
     }
 }
