@@ -1,0 +1,116 @@
+-- Letters in the label of one edge, and letters that stand for the others.
+use Rattle.std.proofs.Common.{◌≡◌, ℕ, ◌+◌, ◌<◌, ◌≤◌, ◌⊎◌, Bool, true, false, not, cond, ◌&&◌, List, [], ◌∷◌, ◌++◌, length, get_or, map, None, Some, refl, sym, ap, ◌∙◌, subst, inl, inr, arith}
+use Rattle.std.specs.List.{All, Contains, count_by}
+use Rattle.std.specs.Option.{option_map, unwrap_or}
+use Rattle.std.proofs.lemmas.Bool.{cases_Bool, cases_lt, false≢true}
+use Rattle.std.proofs.lemmas.List.{get_or-map, length-map}
+use Rattle.std.proofs.lemmas.List.Elements.{All-contains, All-nil, All-push, Contains-append_left, Contains-push}
+use Rattle.rela_labels.specs.Letters.{has}
+use Rattle.rela_nfa.specs.Automaton.{IsMove, Move}
+use Rattle.rela_nfa.specs.Stored.{move_of}
+use Rattle.rela_nfa.specs.declared.edge.Edge.{Edge}
+use Rattle.rela_subset.specs.Deterministic.{Deterministic, IsDeterministic, moves_of, next, states, takes, target}
+use Rattle.rela_subset.proofs.Targets.{step_target}
+use Rattle.rela_subset.proofs.Words.{moves_at, split_at, target_at}
+use Rattle.rela_minimise.specs.Refining.{AreKinds, LeadAlike}
+
+first_true : (a b : Bool) → (a && b) ≡ true → a ≡ true
+first_true true b both = refl
+first_true false b both = both
+
+second_true : (a b : Bool) → (a && b) ≡ true → b ≡ true
+second_true true b both = both
+second_true false b both = absurd (false≢true both)
+
+both_true : (a b : Bool) → a ≡ true → b ≡ true → (a && b) ≡ true
+both_true true b first second = second
+both_true false b first second = first
+
+bit_small : (b : Bool) → cond b 1 0 ≤ 1
+bit_small true = omega arith
+bit_small false = omega arith
+
+module _ {L : Type 0} (letters : L → List Bool) (d : Deterministic) (ok : IsDeterministic d) (q : ℕ) (q_in : q < states d) (edges : List (Edge L)) (are : map (move_of letters) edges ≡ moves_of d q)
+    (i : ℕ) (edge : Edge L) (i_in : i < length edges) (at : edge ≡ get_or edges i edge) (label : L) (is : edge.label ≡ Some label) where
+  abbrev move : Move
+  move = record { label = Some (letters label); to = edge.to }
+
+  move_is : move ≡ move_of letters edge
+  move_is = ap (λ l. let m : Move = record { label = option_map letters l; to = edge.to } in m) (sym is)
+
+  among : Contains (moves_of d q) move
+  among = subst (λ ms. Contains ms move) are (i, omega (arith, i_in, length-map edges (move_of letters)), get_or-map (move_of letters) edges i edge move i_in ∙ ap (move_of letters) (sym at) ∙ sym move_is)
+
+  pub label_sized : length (letters label) ≡ length d.over
+  label_sized = (All-contains (IsMove (length d.over) (states d)) (moves_of d q) move (moves_at d ok q q_in) among).sized (letters label) refl
+
+  leads : (k : ℕ) → has (letters label) k ≡ true → next d q k ≡ edge.to
+  leads k inside =
+      let split : count_by (takes k) (moves_of d q) ≡ cond (has d.over k) 1 0 = split_at d ok q q_in k in
+      let small = bit_small (has d.over k) in
+      ap (λ o. unwrap_or o 0) (step_target (moves_of d q) k edge.to (omega (arith, split, small)) (letters label, among, inside))
+
+  module _ (block narrow : List Bool) (j : ℕ) (inside : has (letters label) j ≡ true) (cut : (k : ℕ) → has narrow k ≡ (has block k && has (letters label) k)) where
+    pub meets_itself : has block j ≡ true → has narrow j ≡ true
+    meets_itself there = cut j ∙ both_true (has block j) (has (letters label) j) there inside
+
+    pub meets_alike : (k : ℕ) → has narrow k ≡ true → (has block k ≡ true) × (next d q j ≡ next d q k)
+    meets_alike k there =
+        let both = sym (cut k) ∙ there in
+        (first_true (has block k) (has (letters label) k) both, leads j inside ∙ sym (leads k (second_true (has block k) (has (letters label) k) both)))
+
+-- a letter that is read is in some label
+pub has_target : (d : Deterministic) → IsDeterministic d → (q k : ℕ) → q < states d → has d.over k ≡ true → ¬ (target (moves_of d q) k ≡ None)
+has_target d ok q k q_in over none = let never : None ≡ Some (next d q k) = sym none ∙ target_at d ok q k q_in over in absurd (cc)
+
+-- the letters of the block lead alike from one state more
+pub alike_more : (d : Deterministic) (rest block narrow : List Bool) (j q : ℕ) → ((k : ℕ) → has block k ≡ true → (has rest k ≡ true) × ((p : ℕ) → p < q → next d p j ≡ next d p k))
+    → ((k : ℕ) → has narrow k ≡ true → (has block k ≡ true) × (next d q j ≡ next d q k)) → (k : ℕ) → has narrow k ≡ true → (has rest k ≡ true) × ((p : ℕ) → p < q + 1 → next d p j ≡ next d p k)
+alike_more d rest block narrow j q before here k there =
+    let (in_block, last) = here k there in
+    let (in_rest, earlier) = before k in_block in (
+      in_rest,
+      λ p below. elim (cases_lt p q) [
+        | inl less ↦ earlier p less
+        | inr not_less ↦ let same : q ≡ p = omega arith in subst (λ n. next d n j ≡ next d n k) same last
+      ],
+    )
+
+-- the letters stand for those that are not in the rest
+pub record AreKindsBut (d : Deterministic) (rest : List Bool) (letters : List ℕ) : Type 0 where
+  pub size : length rest ≡ length d.over
+  pub within : (k : ℕ) → has rest k ≡ true → has d.over k ≡ true
+  pub over : All (λ k. has d.over k ≡ true) letters
+  pub each : (k : ℕ) → has d.over k ≡ true → (has rest k ≡ true) ⊎ ((j : ℕ) × Contains letters j × LeadAlike d j k)
+
+pub kinds_none : (d : Deterministic) (rest : List Bool) (letters : List ℕ) → rest ≡ d.over → letters ≡ [] → AreKindsBut d rest letters
+kinds_none d rest letters same none = record {
+  size = ap length same;
+  within = λ k there. subst (λ l. has l k ≡ true) same there;
+  over = subst (All (λ k. has d.over k ≡ true)) (sym none) (All-nil (λ k. has d.over k ≡ true));
+  each = λ k over. inl (subst (λ l. has l k ≡ true) (sym same) over);
+}
+
+pub kinds_more : (d : Deterministic) (rest block rest' : List Bool) (letters letters' : List ℕ) (j : ℕ) → AreKindsBut d rest letters → has rest j ≡ true → letters' ≡ letters ++ j ∷ []
+    → ((k : ℕ) → has block k ≡ true → (has rest k ≡ true) × LeadAlike d j k) → length rest' ≡ length rest → ((k : ℕ) → has rest' k ≡ (has rest k && not (has block k))) → AreKindsBut d rest' letters'
+kinds_more d rest block rest' letters letters' j are there pushed alike size left = record {
+  size = size ∙ are.size;
+  within = λ k in_rest. are.within k (first_true (has rest k) (not (has block k)) (sym (left k) ∙ in_rest));
+  over = subst (All (λ k. has d.over k ≡ true)) (sym pushed) (All-push (λ k. has d.over k ≡ true) letters j are.over (are.within j there));
+  each = λ k over. elim (are.each k over) [
+    | inl in_rest ↦ elim (cases_Bool (has block k)) [
+      | inl inside ↦ inr (j, subst (λ l. Contains l j) (sym pushed) (Contains-push letters j), (alike k inside).1)
+      | inr outside ↦ inl (left k ∙ both_true (has rest k) (not (has block k)) in_rest (ap not outside))
+    ]
+    | inr (i, among, leads) ↦ inr (i, subst (λ l. Contains l i) (sym pushed) (Contains-append_left letters (j ∷ []) i among), leads)
+  ];
+}
+
+pub kinds_all : (d : Deterministic) (rest : List Bool) (letters : List ℕ) → AreKindsBut d rest letters → ((k : ℕ) → has rest k ≡ false) → AreKinds d letters
+kinds_all d rest letters are none = record {
+  over = are.over;
+  each = λ k over. elim (are.each k over) [
+    | inl in_rest ↦ absurd (false≢true (sym (none k) ∙ in_rest))
+    | inr listed ↦ listed
+  ];
+}

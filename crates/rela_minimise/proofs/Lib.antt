@@ -1,0 +1,15 @@
+pub mod Origins
+pub mod Swapping
+pub mod Minimal
+pub mod Refined
+pub mod OneByOne
+pub mod Rounds
+pub mod Signing
+pub mod Assigning
+pub mod Targeting
+pub mod Settling
+pub mod Putting
+pub mod LeadingAlike
+pub mod Heads
+pub mod Alike
+pub mod Quotients

@@ -1,0 +1,3 @@
+pub mod Classes
+pub mod Refining
+pub mod Stored

@@ -1,0 +1,46 @@
+//! The minimal automaton.
+ghost use Rattle.std.specs.Prelude.{◌≡◌, ◌≢◌, ℕ, ◌↔◌, List, IfOk};
+ghost use Rattle.rela_subset.specs.Deterministic.{IsAccepted, IsByArrival, IsOver, IsReachable, state_after};
+ghost use Rattle.rela_minimise.specs.Classes.{AreAlike, IsMinimal};
+
+use crate::quotient::quotient;
+use crate::refining::refined;
+use rela_labels::LabelSet;
+use rela_subset::{BuildError, Dfa, determinise};
+use std::alloc::{AllocError, Global};
+
+/// The automaton over the same letters with the fewest states that accepts the same words. Each of
+/// its states is reached, no two of them accept the same words, and they are numbered as words first
+/// arrive at them, in shortlex order: so it is the same for all automata of one language. A word
+/// leads to a state that follows from its continuations alone (J. Myhill and A. Nerode, 1958).
+///
+/// Memory is the only error.
+pub fn minimise<L: LabelSet>(alloc: Global, dfa: &Dfa<L>) -> Result<Dfa<L>, AllocError>
+    ensures over { IfOk result (λ made. made.over ≡ dfa.now.over) }
+    ensures start { IfOk result (λ made. made.start ≡ 0) }
+    ensures language { IfOk result (λ made. (word : List ℕ) → IsAccepted made word ↔ IsAccepted dfa.now word) }
+    ensures reachable { IfOk result IsReachable }
+    ensures minimal { IfOk result IsMinimal }
+    ensures arrival { IfOk result IsByArrival }
+    ensures classes { IfOk result (λ made. (v w : List ℕ) → IsOver dfa.now.over v → IsOver dfa.now.over w
+        → (state_after made v ≡ state_after made w) ↔ AreAlike dfa.now v w) }
+{
+    prove!(dfa.start() < dfa.states());
+    let refinement = refined(alloc, dfa)?;
+    let classes = quotient(alloc, dfa, &refinement.classes, refinement.members.len())?;
+    let nfa = classes.to_nfa(alloc)?;
+    match determinise(alloc, &nfa, dfa.over(), usize::MAX) {
+        Ok(made) => Ok(made),
+        Err(error) => Err(want_of_memory(error)),
+    }
+}
+
+/// Want of memory, where no limit was set.
+fn want_of_memory(error: BuildError) -> AllocError
+    requires { error ≢ BuildError.Limit }
+{
+    match error {
+        BuildError::Memory => AllocError,
+        BuildError::Limit => unreachable!(),
+    }
+}
