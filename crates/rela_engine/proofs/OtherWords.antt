@@ -25,3 +25,7 @@ pub complement_told : {E : Type 0} (over : List Bool) (a : Automaton) (d e : Det
     → IfOk r (λ n. (w : List ℕ) → Accepts n w ↔ (IsOver over w × (¬ Accepts a w)))
 complement_told over a d e (Ok n) same one two three = complement_words over a n d e same one two three
 complement_told over a d e (Err x) same one two three = tt
+
+pub same_words : (over : List Bool) (a : Automaton) (d m : Deterministic) → ((w : List ℕ) → IsAccepted d w ↔ (IsOver over w × Accepts a w))
+    → ((w : List ℕ) → IsAccepted m w ↔ IsAccepted d w) → (w : List ℕ) → IsAccepted m w ↔ (IsOver over w × Accepts a w)
+same_words over a d m one two w = (λ accepted. (one w).0 ((two w).0 accepted), λ both. (two w).1 ((one w).1 both))

@@ -4,11 +4,13 @@ ghost use Rattle.rela_subset.specs.Deterministic.{IsOver};
 
 use crate::unlimited::unlimited;
 use rela_labels::WideSet;
+use rela_minimise::minimise;
 use rela_nfa::Nfa;
 use rela_subset::{complement, determinise};
 use std::alloc::{AllocError, Global};
 
-/// The words over these letters that the automaton does not accept.
+/// The words over these letters that the automaton does not accept. The automaton that is given back
+/// has the states of the minimal one of its words.
 pub(crate) fn complement_over(
     alloc: Global,
     a: &Nfa<WideSet>,
@@ -19,6 +21,7 @@ pub(crate) fn complement_over(
     ensures language { IfOk result (λ nfa. (w : List ℕ) → Accepts nfa w ↔ (IsOver over.now w × (¬ Accepts a.now w))) }
 {
     let dfa = unlimited(determinise(alloc, a, over, usize::MAX))?;
-    let others = complement(alloc, &dfa)?;
+    let least = minimise(alloc, &dfa)?;
+    let others = complement(alloc, &least)?;
     others.to_nfa(alloc)
 }
