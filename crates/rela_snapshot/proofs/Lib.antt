@@ -3,6 +3,7 @@ pub mod FlowLaws
 pub mod Indexes
 pub mod Keys
 pub mod Kept
+pub mod Levels
 pub mod Loops
 pub mod PairLaws
 pub mod PairLoops

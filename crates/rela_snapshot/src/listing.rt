@@ -3,10 +3,9 @@
 ghost use Rattle.std.specs.Prelude.{◌≡◌, ◌<◌, Ok, Err, IfOk, IfErr, IfSome, length};
 ghost use Rattle.rela_snapshot.specs.Names.{place_of};
 ghost use Rattle.rela_snapshot.specs.Listed.{IsGraphOf};
-ghost use Rattle.rela_names.specs.declared.level.Level.TheVariants.{Interface};
 ghost use Rattle.rela_snapshot.specs.Interfaces.{interfaces_in};
 ghost use Rattle.rela_snapshot.specs.Nodes as spec;
-ghost use Rattle.rela_snapshot.specs.Located.{StandsAt};
+ghost use Rattle.rela_snapshot.specs.Located.{StandsIn};
 
 use rela_graph::{Graph, Link, Node};
 use rela_json::LoadError;
@@ -83,18 +82,18 @@ fn find(names: &Alphabet, name: &[u8]) -> Option<Symbol>
 pub(crate) fn node_at(locations: &Locations, name: &[u8], row: u32) -> Result<Node, LoadError>
     ensures node { IfOk result (λ node. spec.node_at locations.now row name.now ≡ Ok node) }
     ensures fault { IfErr result (λ e. spec.node_at locations.now row name.now ≡ Err e) }
-    ensures located { IfOk result (StandsAt (interfaces_in locations.now) Interface) }
+    ensures located { IfOk result (StandsIn locations.now) }
 {
     let interface = interface_at(locations, name).ok_or(LoadError::UnknownLocation { row })?;
     Ok(node_in(locations, interface))
 }
 
 /// The node at this interface.
-#[tactic(auto, unfolding(crate::specs::Nodes::node_in, crate::specs::Interfaces::interfaces_in, crate::specs::Located::StandsAt))]
+#[tactic(auto, unfolding(crate::specs::Nodes::node_in, crate::specs::Interfaces::interfaces_in))]
 fn node_in(locations: &Locations, interface: Symbol) -> Node
     requires location { interface < length (interfaces_in locations.now) }
     ensures node { result ≡ spec.node_in locations.now interface }
-    ensures located { StandsAt (interfaces_in locations.now) Interface result }
+    ensures located { StandsIn locations.now result }
 {
     Node {
         interface,

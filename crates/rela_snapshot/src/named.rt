@@ -3,9 +3,7 @@
 ghost use Rattle.std.specs.Prelude.{◌≡◌, ◌≢◌, ◌<◌, ◌≤◌, [], ◌∷◌, ◌++◌, Ok, Err, IfOk, IfErr, OnOk, IsOkAnd, ◌+◌, length, map, option_map, vec_len};
 ghost use Rattle.std.specs.List.{All};
 ghost use Rattle.rela_graph.specs.Topology.{JoinsNodes};
-ghost use Rattle.rela_names.specs.declared.level.Level.TheVariants.{Interface};
-ghost use Rattle.rela_snapshot.specs.Interfaces.{interfaces_in};
-ghost use Rattle.rela_snapshot.specs.Located.{StandsAt};
+ghost use Rattle.rela_snapshot.specs.Located.{StandsIn};
 ghost use Rattle.rela_snapshot.specs.Named as spec;
 ghost use Rattle.rela_snapshot.specs.Named.{nodes_of};
 ghost use Rattle.serde_json.specs.View.{view};
@@ -30,7 +28,7 @@ pub(crate) fn read_named(
 ) -> Result<Listing, LoadError>
     ensures listed { IfOk result (λ listing. spec.named_of locations.now row (view value.now) ≡ Ok listing) }
     ensures fault { IfErr result (λ e. e ≢ LoadError.Memory → spec.named_of locations.now row (view value.now) ≡ Err e) }
-    ensures located { IfOk result (λ listing. All (StandsAt (interfaces_in locations.now) Interface) listing.nodes) }
+    ensures located { IfOk result (λ listing. All (StandsIn locations.now) listing.nodes) }
 {
     let mut ids = NameTable::new(alloc);
     let nodes = read_nodes(alloc, locations, &mut ids, value, row)?;
@@ -77,7 +75,7 @@ fn read_nodes<'a>(
     requires none { ids.old ≡ [] }
     ensures nodes { IfOk result (λ nodes. spec.named_nodes_of locations.now row (view value.now) ≡ Ok (nodes_of ids.new nodes.items)) }
     ensures fault { IfErr result (λ e. e ≢ LoadError.Memory → spec.named_nodes_of locations.now row (view value.now) ≡ Err e) }
-    ensures located { IfOk result (λ nodes. All (StandsAt (interfaces_in locations.now) Interface) nodes.items) }
+    ensures located { IfOk result (λ nodes. All (StandsIn locations.now) nodes.items) }
     ensures few { IfOk result (λ nodes. vec_len nodes ≤ MAX_NODES) }
     ensures one_each { IfOk result (λ nodes. length ids.new ≡ vec_len nodes) }
 {
@@ -97,7 +95,7 @@ fn nodes_of<'a>(
     requires few { length values.now ≤ MAX_NODES }
     ensures nodes { IfOk result (λ nodes. try_fold (spec.add_node locations.now row) (nodes_of [] []) (map view values.now) ≡ Ok (nodes_of ids.new nodes.items)) }
     ensures fault { IfErr result (λ e. e ≢ LoadError.Memory → try_fold (spec.add_node locations.now row) (nodes_of [] []) (map view values.now) ≡ Err e) }
-    ensures located { IfOk result (λ nodes. All (StandsAt (interfaces_in locations.now) Interface) nodes.items) }
+    ensures located { IfOk result (λ nodes. All (StandsIn locations.now) nodes.items) }
     ensures len { IfOk result (λ nodes. vec_len nodes ≡ length values.now) }
     ensures ids { IfOk result (λ nodes. length ids.new ≡ vec_len nodes) }
 {
@@ -119,12 +117,12 @@ fn add_node<'a>(
 ) -> Result<(), LoadError>
     requires few { length ids.old < MAX_NODES }
     requires one_each { length ids.old ≡ vec_len nodes.old }
-    requires located { All (StandsAt (interfaces_in locations.now) Interface) nodes.old.items }
+    requires located { All (StandsIn locations.now) nodes.old.items }
     ensures nodes { OnOk result (spec.add_node locations.now row (nodes_of ids.old nodes.old.items) (view value.now) ≡ Ok (nodes_of ids.new nodes.new.items)) }
     ensures fault { IfErr result (λ e. e ≢ LoadError.Memory → spec.add_node locations.now row (nodes_of ids.old nodes.old.items) (view value.now) ≡ Err e) }
     ensures one_each { OnOk result (length ids.new ≡ vec_len nodes.new) }
     ensures one_more { OnOk result (vec_len nodes.new ≡ vec_len nodes.old + 1) }
-    ensures located { OnOk result (All (StandsAt (interfaces_in locations.now) Interface) nodes.new.items) }
+    ensures located { OnOk result (All (StandsIn locations.now) nodes.new.items) }
 {
     add_id(ids, value, row)?;
     let node = read_node(locations, value, row)?;
@@ -154,7 +152,7 @@ fn add_id<'a>(ids: &mut NameTable<'a>, value: &'a Value, row: u32) -> Result<(),
 fn read_node(locations: &Locations, value: &Value, row: u32) -> Result<Node, LoadError>
     ensures node { IfOk result (λ node. spec.at_of locations.now row (view value.now) ≡ Ok node) }
     ensures fault { IfErr result (λ e. spec.at_of locations.now row (view value.now) ≡ Err e) }
-    ensures located { IfOk result (StandsAt (interfaces_in locations.now) Interface) }
+    ensures located { IfOk result (StandsIn locations.now) }
 {
     let at = string(part(value, "at", 47, row)?, 49, row)?;
     node_at(locations, at, row)

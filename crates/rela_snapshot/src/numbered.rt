@@ -3,9 +3,7 @@
 ghost use Rattle.std.specs.Prelude.{◌≡◌, ◌≢◌, ◌<◌, ◌≤◌, Ok, Err, IfOk, IfErr, length, map, option_map, vec_len};
 ghost use Rattle.std.specs.List.{All};
 ghost use Rattle.rela_graph.specs.Topology.{JoinsNodes};
-ghost use Rattle.rela_names.specs.declared.level.Level.TheVariants.{Interface};
-ghost use Rattle.rela_snapshot.specs.Interfaces.{interfaces_in};
-ghost use Rattle.rela_snapshot.specs.Located.{StandsAt};
+ghost use Rattle.rela_snapshot.specs.Located.{StandsIn};
 ghost use Rattle.rela_snapshot.specs.Numbered as spec;
 ghost use Rattle.serde_json.specs.View.{view};
 ghost use Rattle.rela_json.specs.Results.{try_map};
@@ -27,7 +25,7 @@ pub(crate) fn read_numbered(
 ) -> Result<Listing, LoadError>
     ensures listed { IfOk result (λ listing. spec.numbered_of locations.now row (view value.now) ≡ Ok listing) }
     ensures fault { IfErr result (λ e. e ≢ LoadError.Memory → spec.numbered_of locations.now row (view value.now) ≡ Err e) }
-    ensures located { IfOk result (λ listing. All (StandsAt (interfaces_in locations.now) Interface) listing.nodes) }
+    ensures located { IfOk result (λ listing. All (StandsIn locations.now) listing.nodes) }
 {
     let nodes = read_nodes(alloc, locations, value, row)?;
     let count = nodes.len() as u32;
@@ -54,7 +52,7 @@ fn read_nodes(
 ) -> Result<Vec<Node>, LoadError>
     ensures nodes { IfOk result (λ nodes. spec.numbered_nodes_of locations.now row (view value.now) ≡ Ok nodes.items) }
     ensures fault { IfErr result (λ e. e ≢ LoadError.Memory → spec.numbered_nodes_of locations.now row (view value.now) ≡ Err e) }
-    ensures located { IfOk result (λ nodes. All (StandsAt (interfaces_in locations.now) Interface) nodes.items) }
+    ensures located { IfOk result (λ nodes. All (StandsIn locations.now) nodes.items) }
     ensures few { IfOk result (λ nodes. vec_len nodes ≤ MAX_NODES) }
 {
     let entries = few_entries(part(value, "nodes", 24, row)?, MAX_NODES, 29, row)?;
@@ -70,7 +68,7 @@ fn nodes_of(
 ) -> Result<Vec<Node>, LoadError>
     ensures nodes { IfOk result (λ nodes. try_map (spec.node_of locations.now row) (map view values.now) ≡ Ok nodes.items) }
     ensures fault { IfErr result (λ e. e ≢ LoadError.Memory → try_map (spec.node_of locations.now row) (map view values.now) ≡ Err e) }
-    ensures located { IfOk result (λ nodes. All (StandsAt (interfaces_in locations.now) Interface) nodes.items) }
+    ensures located { IfOk result (λ nodes. All (StandsIn locations.now) nodes.items) }
     ensures len { IfOk result (λ nodes. vec_len nodes ≡ length values.now) }
 {
     let mut nodes = Vec::with_capacity(alloc, values.len())?;
@@ -85,7 +83,7 @@ fn nodes_of(
 fn read_node(locations: &Locations, value: &Value, row: u32) -> Result<Node, LoadError>
     ensures node { IfOk result (λ node. spec.node_of locations.now row (view value.now) ≡ Ok node) }
     ensures fault { IfErr result (λ e. spec.node_of locations.now row (view value.now) ≡ Err e) }
-    ensures located { IfOk result (StandsAt (interfaces_in locations.now) Interface) }
+    ensures located { IfOk result (StandsIn locations.now) }
 {
     node_at(locations, string(Some(value), 30, row)?, row)
 }

@@ -1,7 +1,7 @@
 //! A snapshot: the flows of a network, and how each is forwarded.
 
 ghost use Rattle.std.specs.Prelude.{◌≡◌, ◌≢◌, ◌<◌, ◌≤◌, List, Ok, Err, IfOk, IfErr, Some, option_map, length, slice_get};
-ghost use Rattle.rela_names.specs.declared.level.Level.TheVariants.{Interface};
+ghost use Rattle.rela_names.specs.declared.level.Level.{Level};
 ghost use Rattle.rela_locations.specs.Network.{alphabet_of};
 ghost use Rattle.rela_snapshot.specs.FlowEntry.{ListedFlow};
 ghost use Rattle.rela_snapshot.specs.Flows.{AreFlowsOf};
@@ -58,12 +58,11 @@ impl Snapshot {
     /// missing or of another kind than its rule wants; with the flow's row `TooMany`, `BadName`,
     /// `BadPrefix`, `UnknownLocation`, `RepeatedEntry` for a flow's name or a node's id that an
     /// earlier one has, `BadIndex` and `UnknownNode` for what names no node of the flow; `Memory`.
-    #[tactic(auto, unfolding(crate::specs::Interfaces::interfaces_in))]
     pub fn decode(alloc: Global, bytes: &[u8], locations: &Locations) -> Result<Snapshot, LoadError>
         requires { length bytes.now ≤ 33554432 }
         ensures load { IfOk result (λ snapshot. (listed : List ListedFlow) × IsAnswer (Load locations.now bytes.now) (Ok listed) × AreFlowsOf listed snapshot) }
         ensures fault { IfErr result (λ e. e ≢ LoadError.Memory → IsAnswer (Load locations.now bytes.now) (Err e)) }
-        ensures located { IfOk result (λ snapshot. AreLocated (alphabet_of Interface locations.now) Interface snapshot) }
+        ensures located { IfOk result (λ snapshot. (level : Level) → AreLocated (alphabet_of level locations.now) level snapshot) }
     {
         let root = read(alloc, bytes)?;
         let flows = read_snapshot(alloc, locations, &root)?;

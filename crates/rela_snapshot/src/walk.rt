@@ -2,15 +2,13 @@
 
 ghost use Rattle.std.specs.Prelude.{◌≡◌, ◌≢◌, ◌<◌, ◌≤◌, [], ◌∷◌, ◌++◌, List, Ok, Err, IfOk, IfErr, OnOk, length, map, vec_len};
 ghost use Rattle.std.specs.List.{All};
-ghost use Rattle.rela_names.specs.declared.level.Level.TheVariants.{Interface};
 ghost use Rattle.serde_json.specs.View.{view};
 ghost use Rattle.rela_snapshot.specs.Contents.{contents_of};
 ghost use Rattle.rela_snapshot.specs.FlowEntry.{ListedFlow, graph_of, next_name_of};
 ghost use Rattle.rela_snapshot.specs.Flows.{AreFlows, AreFlowsOf, IsFlow, IsFlowNamed, IsFlowOf};
-ghost use Rattle.rela_snapshot.specs.Interfaces.{interfaces_in};
 ghost use Rattle.rela_snapshot.specs.Listed.{Listed, IsGraphOf};
 ghost use Rattle.rela_snapshot.specs.Load.{IsSnapshot};
-ghost use Rattle.rela_snapshot.specs.Located.{AreLocated, IsLocated, StandsAt};
+ghost use Rattle.rela_snapshot.specs.Located.{AreLocatedIn, IsLocatedIn, StandsIn};
 ghost use Rattle.rela_snapshot.specs.Names.{AreDistinct};
 ghost use Rattle.rela_snapshot.specs.Steps.{IsAnswer};
 
@@ -37,7 +35,7 @@ pub(crate) fn read_snapshot(
 ) -> Result<Vec<Flow>, LoadError>
     ensures flows { IfOk result (λ flows. (listed : List ListedFlow) × IsAnswer (IsSnapshot locations.now (view root.now)) (Ok listed) × AreFlowsOf listed flows.items) }
     ensures fault { IfErr result (λ e. e ≢ LoadError.Memory → IsAnswer (IsSnapshot locations.now (view root.now)) (Err e)) }
-    ensures located { IfOk result (λ flows. AreLocated (interfaces_in locations.now) Interface flows.items) }
+    ensures located { IfOk result (λ flows. AreLocatedIn locations.now flows.items) }
     ensures few { IfOk result (λ flows. vec_len flows ≤ MAX_FLOWS) }
     ensures distinct { IfOk result (λ flows. AreDistinct (map (λ flow. flow.class.name) flows.items)) }
 {
@@ -65,7 +63,7 @@ fn read_flows(
 ) -> Result<Vec<Flow>, LoadError>
     ensures flows { IfOk result (λ flows. (listed : List ListedFlow) × IsAnswer (AreFlows locations.now version [] (map view values.now)) (Ok listed) × AreFlowsOf listed flows.items) }
     ensures fault { IfErr result (λ e. e ≢ LoadError.Memory → IsAnswer (AreFlows locations.now version [] (map view values.now)) (Err e)) }
-    ensures located { IfOk result (λ flows. AreLocated (interfaces_in locations.now) Interface flows.items) }
+    ensures located { IfOk result (λ flows. AreLocatedIn locations.now flows.items) }
     ensures few { IfOk result (λ flows. vec_len flows ≤ MAX_FLOWS) }
     ensures distinct { IfOk result (λ flows. AreDistinct (map (λ flow. flow.class.name) flows.items)) }
 {
@@ -91,7 +89,7 @@ fn read_flow<'a>(
     ensures names { IfOk result (λ flow. names.new ≡ names.old ++ flow.class.name ∷ []) }
     ensures distinct { OnOk result (AreDistinct names.new) }
     ensures few { OnOk result (length names.old < MAX_FLOWS) }
-    ensures located { IfOk result (λ flow. IsLocated (interfaces_in locations.now) Interface flow.graph) }
+    ensures located { IfOk result (λ flow. IsLocatedIn locations.now flow.graph) }
 {
     let row = names.len() as u32;
     let name = read_next_name(alloc, version, names, value, row)?;
@@ -134,7 +132,7 @@ fn read_flow_named(
     ensures flow { IfOk result (λ flow. (listed : ListedFlow) × IsAnswer (IsFlowNamed locations.now version row name (view value.now)) (Ok listed) × IsFlowOf listed flow) }
     ensures fault { IfErr result (λ e. e ≢ LoadError.Memory → IsAnswer (IsFlowNamed locations.now version row name (view value.now)) (Err e)) }
     ensures name { IfOk result (λ flow. flow.class.name ≡ name) }
-    ensures located { IfOk result (λ flow. IsLocated (interfaces_in locations.now) Interface flow.graph) }
+    ensures located { IfOk result (λ flow. IsLocatedIn locations.now flow.graph) }
 {
     let dst = read_dst(value, version, row)?;
     let src = read_src(value, &dst, version, row)?;
@@ -159,7 +157,7 @@ fn read_graph(
 ) -> Result<Graph, LoadError>
     ensures graph { IfOk result (λ graph. (listed : Listed) × (graph_of locations.now version row (view value.now) ≡ Ok listed) × IsGraphOf listed graph) }
     ensures fault { IfErr result (λ e. e ≢ LoadError.Memory → graph_of locations.now version row (view value.now) ≡ Err e) }
-    ensures located { IfOk result (IsLocated (interfaces_in locations.now) Interface) }
+    ensures located { IfOk result (IsLocatedIn locations.now) }
 {
     let listing = read_listing(alloc, locations, version, value, row)?;
     Ok(listing.into_graph(alloc)?)
@@ -175,7 +173,7 @@ fn read_listing(
 ) -> Result<Listing, LoadError>
     ensures listed { IfOk result (λ listing. graph_of locations.now version row (view value.now) ≡ Ok listing) }
     ensures fault { IfErr result (λ e. e ≢ LoadError.Memory → graph_of locations.now version row (view value.now) ≡ Err e) }
-    ensures located { IfOk result (λ listing. All (StandsAt (interfaces_in locations.now) Interface) listing.nodes) }
+    ensures located { IfOk result (λ listing. All (StandsIn locations.now) listing.nodes) }
 {
     match version {
         Version::One => read_numbered(alloc, locations, value, row),

@@ -1,9 +1,7 @@
 use Rattle.std.proofs.Common.{◌≡◌, Err, arith}
 use Rattle.std.proofs.lemmas.Result.{err_from_is_err_and}
 use Rattle.serde_json.specs.View.{view}
-use Rattle.rela_names.specs.declared.level.Level.TheVariants.{Interface}
-use Rattle.rela_snapshot.specs.Interfaces.{interfaces_in}
-use Rattle.rela_snapshot.specs.Located.{IsLocated}
+use Rattle.rela_snapshot.specs.Located.{IsLocatedIn}
 use Rattle.rela_snapshot.proofs.FlowLaws.{read_more, read_refused, read_all, left_next, left_none, names_more, few_more}
 use Rattle.rela_snapshot.proofs.Kept.{All-push}
 use Rattle.rela_snapshot.proofs.walk.read_flows.Goals as goal
@@ -27,7 +25,7 @@ loop-value-preserved c =
       names = names_more _ _ _ _ _ c.loop-value.invariant.names c.in_ok-flow.ensures.names c.in_ok-push.ensures.items;
       few = few_more _ _ _ c.in_ok-flow.ensures.few c.in_ok-flow.ensures.names;
       distinct = c.in_ok-flow.ensures.distinct;
-      located = All-push (λ flow. IsLocated (interfaces_in c.args.locations.now) Interface flow.graph) _ _ _ c.in_ok-push.ensures.items c.loop-value.invariant.located c.in_ok-flow.ensures.located;
+      located = All-push (λ flow. IsLocatedIn c.args.locations.now flow.graph) _ _ _ c.in_ok-push.ensures.items c.loop-value.invariant.located c.in_ok-flow.ensures.located;
     }
 
 pub returns-clause-flows : goal.returns-clause-flows

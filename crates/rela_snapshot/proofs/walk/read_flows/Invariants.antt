@@ -1,8 +1,6 @@
 use Rattle.std.proofs.Common.{◌≡◌, ◌≤◌, drop, length, map}
 use Rattle.serde_json.specs.View.{view}
-use Rattle.rela_names.specs.declared.level.Level.TheVariants.{Interface}
-use Rattle.rela_snapshot.specs.Interfaces.{interfaces_in}
-use Rattle.rela_snapshot.specs.Located.{AreLocated}
+use Rattle.rela_snapshot.specs.Located.{AreLocatedIn}
 use Rattle.rela_snapshot.specs.Names.{AreDistinct}
 use Rattle.rela_snapshot.specs.SnapshotFlows.{names_of}
 use Rattle.rela_snapshot.proofs.FlowLaws.{AreRead}
@@ -14,5 +12,5 @@ invariant-loop-value l = record {
   names : l.names ≡ names_of l.flows.items;
   few : length l.names ≤ 10000;
   distinct : AreDistinct l.names;
-  located : AreLocated (interfaces_in l.locations) Interface l.flows.items;
+  located : AreLocatedIn l.locations l.flows.items;
 }

@@ -1,6 +1,7 @@
 use Rattle.std.proofs.Common.{◌≡◌, Err, ap, arith}
 use Rattle.std.proofs.lemmas.Result.{err_from_is_err_and}
 use Rattle.rela_snapshot.proofs.FlowLaws.{json_fault, has_json}
+use Rattle.rela_snapshot.proofs.Levels.{located_at}
 use Rattle.rela_snapshot.proofs.snapshot.Snapshot.decode.Goals as goal
 
 pub returns-in_err-root-clause-fault : goal.returns-in_err-root-clause-fault
@@ -18,3 +19,6 @@ pub returns-clause-load : goal.returns-clause-load
 returns-clause-load c =
     let flows = c.in_ok-flows.ensures.flows in
     (flows.0, has_json _ _ _ _ c.in_ok-root.ensures.value flows.1, flows.2)
+
+pub returns-clause-located : goal.returns-clause-located
+returns-clause-located c level = located_at c.args.locations.now c.in_ok-flows.flows.items level c.in_ok-flows.ensures.located
