@@ -1,11 +1,10 @@
 -- What a command gives rise to.
-use Rattle.std.proofs.Common.{◌≡◌, ℕ, ◌≤◌, nat_lt, Bool, true, false, List, Option, Some, Result, Ok, Err, IfOk, refl, sym, subst, rules}
+use Rattle.std.proofs.Common.{◌≡◌, ℕ, ◌≤◌, nat_lt, false, List, Option, Result, Ok, Err, IfOk, refl, sym, subst, rules}
 use Rattle.rela_io.specs.Held.{FilesByName}
 use Rattle.rela_top.specs.Words.{Command, Check, Fmt}
 use Rattle.rela_top.specs.declared.refusal.Refusal.{Refusal}
 use Rattle.rela_top.specs.Refusal.{refusal_line}
 use Rattle.rela_top.specs.Reading.{max_file_bytes, IsRefusalOf}
-use Rattle.rela_top.specs.Checked.{Checked}
 use Rattle.rela_top.specs.Specifications.{Formatted}
 use Rattle.rela_top.specs.Answer.{Answer, BadWords, Refusing, Reporting, Printing, Outcome, GivenBy, TellsCheck, IsMade, is_refusing, answer_text, answer_status}
 

@@ -1,5 +1,5 @@
 -- What the bytes of an input give, by what reading them answers.
-use Rattle.std.proofs.Common.{◌≡◌, ℕ, ◌+◌, ◌<◌, ◌≤◌, List, length, replicate, Option, None, Some, IfSome, Result, Ok, Err, inl, inr, refl, arith}
+use Rattle.std.proofs.Common.{◌≡◌, ℕ, ◌+◌, ◌<◌, List, length, replicate, Option, None, Some, IfSome, Result, Err, inl, inr, refl, arith}
 use Rattle.std.proofs.lemmas.List.{length-replicate}
 use Rattle.rela_io.specs.Held.{FilesByName, Lacks}
 use Rattle.rela_top.specs.Words.{Command}

@@ -1,9 +1,11 @@
 pub mod Given
-pub mod Found
 pub mod InputLaws
+pub mod Listed
 pub mod LoadLaws
 pub mod Loops
-pub mod Places
-pub mod PlainLaws
+pub mod PathTexts
+pub mod PlanLaws
+pub mod RowLaws
+pub mod Shown
 pub mod CheckLaws
 pub mod TreeLaws

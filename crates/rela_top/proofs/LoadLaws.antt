@@ -21,9 +21,8 @@ use Rattle.rela_top.specs.Checked.{ArePaired}
 use Rattle.rela_top.specs.Inputs.{HasBytes, Gives, ReadsNetwork, ReadsFlows, load_of}
 use Rattle.rela_top.specs.Loading.{load_halt, spec_halt, pair_halt}
 use Rattle.rela_top.specs.Reading.{max_file_bytes, HaltsBy}
-use Rattle.rela_top.specs.PlainForm.{ReadsPlain, ReadsCheck}
+use Rattle.rela_top.specs.Specified.{Specified, ReadsSpecified, ReadsChecks}
 use Rattle.rela_top.specs.Words.{Command}
-use Rattle.rela_top.specs.declared.plain.PlainCheck.{PlainCheck}
 use Rattle.rela_top.specs.declared.reading.Halt.{Halt}
 use Rattle.rela_top.specs.declared.reading.Halt.TheVariants.{Refused, Memory}
 use Rattle.rela_top.specs.declared.refusal.Input.{Input}
@@ -101,19 +100,20 @@ spec_refused (spec.UnknownLocation at) refusal h = record { real = λ m. cc; is 
 spec_refused (spec.NotBuilt at) refusal h = record { real = λ m. cc; is = same_refusal _ refusal h }
 spec_refused spec.Memory refusal h = absurd (cc)
 
-pub check_read : (holds : Option FilesByName) (command : Command) (names : List (List ℕ)) (bytes slice : List ℕ) (check : PlainCheck)
-    → HasBytes holds command Spec bytes → slice ≡ bytes → ReadsPlain names slice (Ok check) → Gives holds command Spec (ReadsCheck names) (Ok check)
-check_read holds command names bytes slice check has same reads =
-    gives_read holds command Spec (ReadsCheck names) (Ok check) bytes has
-    (Ok check, subst (λ (b : List ℕ). ReadsPlain names b (Ok check)) same reads, refl)
+pub asked_read : (holds : Option FilesByName) (command : Command) (network : Network) (bytes slice : List ℕ) (specified : Specified)
+    → HasBytes holds command Spec bytes → slice ≡ bytes → ReadsSpecified network slice (Ok specified)
+    → Gives holds command Spec (ReadsChecks network) (Ok specified)
+asked_read holds command network bytes slice specified has same reads =
+    gives_read holds command Spec (ReadsChecks network) (Ok specified) bytes has
+    (Ok specified, subst (λ (b : List ℕ). ReadsSpecified network b (Ok specified)) same reads, refl)
 
-pub check_refused : (holds : Option FilesByName) (command : Command) (names : List (List ℕ)) (bytes slice : List ℕ) (e : SpecError) (refusal : Refusal)
-    → HasBytes holds command Spec bytes → slice ≡ bytes → (e ≢ spec.Memory → ReadsPlain names slice (Err e)) → spec_halt e ≡ Refused refusal
-    → Gives holds command Spec (ReadsCheck names) (Err refusal)
-check_refused holds command names bytes slice e refusal has same fault halt =
+pub asked_refused : (holds : Option FilesByName) (command : Command) (network : Network) (bytes slice : List ℕ) (e : SpecError) (refusal : Refusal)
+    → HasBytes holds command Spec bytes → slice ≡ bytes → (e ≢ spec.Memory → ReadsSpecified network slice (Err e)) → spec_halt e ≡ Refused refusal
+    → Gives holds command Spec (ReadsChecks network) (Err refusal)
+asked_refused holds command network bytes slice e refusal has same fault halt =
     let refused = spec_refused e refusal halt in
-    gives_read holds command Spec (ReadsCheck names) (Err refusal) bytes has
-    (Err e, subst (λ (b : List ℕ). ReadsPlain names b (Err e)) same (fault refused.real), ap (λ (r : Refusal). Err r) refused.is)
+    gives_read holds command Spec (ReadsChecks network) (Err refusal) bytes has
+    (Err e, subst (λ (b : List ℕ). ReadsSpecified network b (Err e)) same (fault refused.real), ap (λ (r : Refusal). Err r) refused.is)
 
 pub paired : (before after : List Flow) (pairs : List FlowPair) → IsAnswer (Pairing before after) (Ok pairs) → ArePaired before after (Ok pairs)
 unfolding ArePaired

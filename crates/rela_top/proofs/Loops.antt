@@ -1,12 +1,8 @@
--- A loop that collects results up to the first refusal, and one that has a result for each element.
-use Rattle.std.proofs.Common.{◌≡◌, ℕ, ◌+◌, ◌<◌, List, [], ◌∷◌, ◌++◌, length, take, get_or, Result, Ok, subst, sym}
-use Rattle.std.specs.List.{AllZip}
-use Rattle.std.proofs.lemmas.List.{take_more}
-use Rattle.rela_json.specs.Results.{◌>>=◌}
-
--- the results that are left, behind those that are there
-abbrev pub with_front : {A E : Type 0} → List A → Result (List A) E → Result (List A) E
-with_front front left = left >>= λ xs. Ok (front ++ xs)
+-- A loop that has a result for each element.
+use Rattle.std.proofs.Common.{◌≡◌, ℕ, ◌+◌, ◌<◌, List, [], ◌∷◌, ◌++◌, length, map, take, get_or, ap, sym, ◌∙◌}
+use Rattle.std.specs.List.{All, AllZip}
+use Rattle.std.proofs.lemmas.List.{take_more, map_push}
+use Rattle.std.proofs.lemmas.List.Elements.{All-push}
 
 -- one more of each
 zip_push : {A B : Type 0} (R : A → B → Type 0) (xs : List A) (ys : List B) (x : A) (y : B)
@@ -23,3 +19,13 @@ zip_more R xs ys more i d y within each e one =
     let next : take (i + 1) xs ≡ take i xs ++ get_or xs i d ∷ [] = take_more xs i d within in
     let pushed : AllZip R (take i xs ++ get_or xs i d ∷ []) (ys ++ y ∷ []) = zip_push R (take i xs) ys (get_or xs i d) y each one in
     rw (next, e) pushed
+
+-- what each element of a list has, each of a longer one has, if the new one has it
+pub All-more : {X : Type 0} (P : X → Type 0) (xs ys : List X) (x : X) → ys ≡ xs ++ x ∷ [] → All P xs → P x → All P ys
+All-more P xs ys x e each one = rw e (All-push P xs x each one)
+
+-- what each of a list is made of, one more
+pub map_taken : {X Y : Type 0} (f : X → Y) (xs more : List X) (x : X) (ys : List Y) (i : ℕ) (d : Y)
+    → i < length ys → map f xs ≡ take i ys → more ≡ xs ++ x ∷ [] → f x ≡ get_or ys i d → map f more ≡ take (i + 1) ys
+map_taken f xs more x ys i d within same e is =
+    ap (map f) e ∙ map_push f xs x ∙ ap (λ l. l ++ f x ∷ []) same ∙ ap (λ y. take i ys ++ y ∷ []) is ∙ sym (take_more ys i d within)

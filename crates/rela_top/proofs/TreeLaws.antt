@@ -1,17 +1,23 @@
--- What the text of a specification gives, by what its tokens do.
-use Rattle.std.proofs.Common.{◌≡◌, ◌≢◌, ℕ, List, length, Option, Result, Ok, Err, IfOk, IfErr, refl, sym, ap, subst, inl, inr}
+-- What the text of a specification gives, by what its tokens and its tree do.
+use Rattle.std.proofs.Common.{◌≡◌, ◌≢◌, ◌∙◌, ℕ, List, length, map, Option, Result, Ok, Err, IfOk, IfErr, refl, sym, ap, subst, inl, inr}
 use Rattle.rela_io.specs.Held.{FilesByName}
 use Rattle.rela_lex.specs.Spells as lex
 use Rattle.rela_lex.specs.declared.error.SpecError.{SpecError}
 use Rattle.rela_lex.specs.declared.error.SpecError.TheVariants as spec
 use Rattle.rela_lex.specs.declared.token.Token.{Token}
+use Rattle.rela_locations.specs.Network.{Network}
 use Rattle.rela_spec.specs.Grammar as grammar
 use Rattle.rela_spec.specs.Print.{print_of}
 use Rattle.rela_spec.specs.declared.tree.SpecFile.{SpecFile}
 use Rattle.rela_top.specs.Inputs.{IsTooLong, HasBytes}
 use Rattle.rela_top.specs.Loading.{spec_halt}
 use Rattle.rela_top.specs.Specifications.{IsParsed, ReadsTree, ReadsCanonical, Formatted, canonical_of}
+use Rattle.rela_top.specs.Specified.{Specified, ReadsSpecified}
 use Rattle.rela_top.specs.Words.{Command}
+use Rattle.rela_translate.specs.Checked.{Checked as Check}
+use Rattle.rela_translate.specs.Expand.{expanded, outcome_of}
+use Rattle.std.specs.List.{All}
+use Rattle.std.proofs.lemmas.List.Elements.{All-weaker}
 use Rattle.rela_top.specs.declared.reading.Halt.TheVariants.{Refused}
 use Rattle.rela_top.specs.declared.refusal.Input.TheVariants.{Spec}
 use Rattle.rela_top.specs.declared.refusal.Refusal.{Refusal}
@@ -77,3 +83,29 @@ format_refused holds command bytes slice e refusal has same fault halt =
     let refused = spec_refused e refusal halt in
     gives_read holds command Spec ReadsCanonical (Err refusal) bytes has
     (Err e, subst (λ (b : List ℕ). ReadsTree b (Err e)) same (fault refused.real), ap (λ (r : Refusal). Err r) refused.is)
+
+-- what the tree of a text asks for
+pub asked_of : (network : Network) (bytes : List ℕ) (tree : SpecFile) (checks : List Check)
+    → ReadsTree bytes (Ok tree) → expanded network tree ≡ Ok (map outcome_of checks) → All (λ check. check.level ≡ tree.level) checks
+    → ReadsSpecified network bytes (Ok (record { level = tree.level; checks = checks }))
+unfolding ReadsSpecified
+asked_of network bytes tree checks reads is levels = (Ok tree, reads, record { outcomes = is; level = refl; levels = levels })
+
+-- a text without a tree
+pub no_tree : (network : Network) (bytes : List ℕ) (e : SpecError) → ReadsTree bytes (Err e) → ReadsSpecified network bytes (Err e)
+unfolding ReadsSpecified
+no_tree network bytes e reads = (Err e, reads, refl)
+
+-- a tree that can't be expanded
+pub no_checks : (network : Network) (bytes : List ℕ) (tree : SpecFile) (e : SpecError)
+    → ReadsTree bytes (Ok tree) → expanded network tree ≡ Err e → ReadsSpecified network bytes (Err e)
+unfolding ReadsSpecified
+no_checks network bytes tree e reads is = (Ok tree, reads, is)
+
+-- the checks that a text asks for are at its level
+pub levels_of : (network : Network) (bytes : List ℕ) (specified : Specified) → ReadsSpecified network bytes (Ok specified)
+    → All (λ check. check.level ≡ specified.level) specified.checks
+unfolding ReadsSpecified
+levels_of network bytes specified (Ok tree, reads, asks) =
+    All-weaker (λ (check : Check). check.level ≡ tree.level) (λ check. check.level ≡ specified.level) (λ check is. is ∙ sym asks.level) specified.checks asks.levels
+levels_of network bytes specified (Err e, reads, asks) = absurd (cc)

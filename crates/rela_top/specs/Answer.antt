@@ -1,13 +1,13 @@
 -- What a run answers, and how it is written out.
-use Rattle.std.specs.Prelude.{◌≡◌, ℕ, ◌⊎◌, Bool, true, false, ◌&&◌, nat_lt, is_some, is_none, List, codes, Option, Some, None, IfSome, Ok, Err}
+use Rattle.std.specs.Prelude.{◌≡◌, ℕ, ◌⊎◌, Bool, true, false, nat_lt, List, codes, Option, Some, None, Ok, Err}
 use Rattle.rela_io.specs.Bytes.{after_told, GrewByPart}
 use Rattle.rela_io.specs.Held.{FilesByName}
 use Rattle.rela_report.specs.declared.rows.ReportRow.{ReportRow}
 use Rattle.rela_report.specs.Text.{line, report_text}
 use Rattle.rela_report.specs.Status.{status_of}
 use Rattle.rela_snapshot.specs.declared.pairing.FlowPair.{FlowPair}
+use Rattle.rela_translate.specs.Checked.{Checked as CheckOf}
 use Rattle.rela_top.specs.Checked.{Report, AreRows, Checked}
-use Rattle.rela_top.specs.declared.plain.PlainCheck.{PlainCheck}
 use Rattle.rela_top.specs.Specifications.{Formatted}
 use Rattle.rela_top.specs.Words.{Command, Check, Fmt}
 use Rattle.rela_top.specs.declared.refusal.Refusal.{Refusal}
@@ -78,10 +78,10 @@ pub record Tells (report : Report) (text : List ℕ) (status : ℕ) : Type 0 whe
   pub is_text : text ≡ report_text report.names report.rows
   pub is_status : status ≡ status_of report.rows
 
--- this text with this status tells the rows of these pairs of flows
-pub record TellsRows (names : List (List ℕ)) (check : PlainCheck) (pairs : List FlowPair) (text : List ℕ) (status : ℕ) : Type 0 where
+-- this text with this status tells the rows of these flows under these checks
+pub record TellsRows (names : List (List ℕ)) (checks : List CheckOf) (pairs : List FlowPair) (text : List ℕ) (status : ℕ) : Type 0 where
   pub report : Report
-  pub rows : AreRows names check pairs (Ok report)
+  pub rows : AreRows names checks pairs (Ok report)
   pub tells : Tells report text status
 
 -- this text with this status tells what a check of the files gives

@@ -1,20 +1,19 @@
 -- What the four files of a check give rise to: a report, or the first refusal in the order in which they are read.
 use Rattle.std.specs.Prelude.{◌≡◌, ℕ, List, Option, Result, Ok, Err}
-use Rattle.std.specs.List.{AllZip}
 use Rattle.rela_io.specs.Held.{FilesByName}
+use Rattle.rela_locations.specs.Network.{alphabet_of}
 use Rattle.rela_report.specs.declared.rows.ReportRow.{ReportRow}
-use Rattle.rela_snapshot.specs.Interfaces.{interfaces_in}
 use Rattle.rela_snapshot.specs.Pair.{Pairing}
 use Rattle.rela_snapshot.specs.Steps.{◌>>=◌}
 use Rattle.rela_snapshot.specs.declared.pairing.FlowPair.{FlowPair}
 use Rattle.rela_snapshot.specs.declared.pairing.PairError.{PairError}
 use Rattle.rela_snapshot.specs.declared.pairing.PairError.TheVariants as pair
 use Rattle.rela_snapshot.specs.declared.snapshot.Flow.{Flow}
+use Rattle.rela_translate.specs.Checked.{Checked as Check}
 use Rattle.rela_top.specs.Inputs.{Gives, ReadsNetwork, ReadsFlows}
-use Rattle.rela_top.specs.Plain.{IsRowOf}
-use Rattle.rela_top.specs.PlainForm.{ReadsCheck}
+use Rattle.rela_top.specs.Rows.{AreRowsOf}
+use Rattle.rela_top.specs.Specified.{ReadsChecks}
 use Rattle.rela_top.specs.Words.{Command}
-use Rattle.rela_top.specs.declared.plain.PlainCheck.{PlainCheck}
 use Rattle.rela_top.specs.declared.refusal.Input.TheVariants.{Locations, Before, After, Spec}
 use Rattle.rela_top.specs.declared.refusal.Refusal.{Refusal}
 use Rattle.rela_top.specs.declared.refusal.Refusal.TheVariants.{FlowDiffers}
@@ -33,10 +32,9 @@ IsPairedAs (Err pair.Memory) r = ⊥
 unfoldable pub ArePaired : List Flow → List Flow → Result (List FlowPair) Refusal → Type 0
 ArePaired before after r = (x : Result (List FlowPair) PairError) × Pairing before after x × IsPairedAs x r
 
--- one row for each pair of flows, in order
-unfoldable pub AreRows : List (List ℕ) → PlainCheck → List FlowPair → Result Report Refusal → Type 0
-AreRows names check pairs r =
-    (rows : List ReportRow) × AllZip (IsRowOf names check) pairs rows × (r ≡ Ok (record { names = names; rows = rows }))
+-- the rows of the flows under the checks, with the names of the locations
+unfoldable pub AreRows : List (List ℕ) → List Check → List FlowPair → Result Report Refusal → Type 0
+AreRows names checks pairs r = (rows : List ReportRow) × AreRowsOf names checks pairs rows × (r ≡ Ok (record { names = names; rows = rows }))
 
 unfoldable pub Checked : Option FilesByName → Command → Result Report Refusal → Type 0
 Checked holds command = do
@@ -44,5 +42,5 @@ Checked holds command = do
   before ← Gives holds command Before (ReadsFlows Before network)
   after ← Gives holds command After (ReadsFlows After network)
   pairs ← ArePaired before after
-  check ← Gives holds command Spec (ReadsCheck (interfaces_in network))
-  AreRows (interfaces_in network) check pairs
+  specified ← Gives holds command Spec (ReadsChecks network)
+  AreRows (alphabet_of specified.level network) specified.checks pairs

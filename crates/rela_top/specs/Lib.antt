@@ -5,10 +5,8 @@ pub mod Answer
 pub mod Reading
 pub mod Inputs
 pub mod Loading
-pub mod Keywords
-pub mod PlainForm
-pub mod PlainParts
-pub mod Plain
+pub mod Specified
+pub mod Rows
 pub mod Checked
 pub mod Specifications
 pub use Rattle.rela_io.specs.Count

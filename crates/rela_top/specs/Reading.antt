@@ -1,5 +1,5 @@
 -- What ends a run early, and what is then known of the files.
-use Rattle.std.specs.Prelude.{◌≡◌, ℕ, ◌<◌, Bool, true, false, nat_lt, List, length, Option, Some, None, IfSome}
+use Rattle.std.specs.Prelude.{◌≡◌, ℕ, ◌<◌, Bool, true, false, nat_lt, List, length, Option, IfSome}
 use Rattle.rela_io.specs.Count.{Rose}
 use Rattle.rela_io.specs.Held.{FilesByName, HoldsName}
 use Rattle.rela_top.specs.Words.{Command, Check, Fmt}

@@ -1,6 +1,8 @@
 //! The canonical text of a specification.
 
-ghost use Rattle.std.specs.Prelude.{◌≡◌, ◌≢◌, ◌≤◌, Ok, Err, IsTrue, IfOk, IfErr, OnOk, length};
+ghost use Rattle.std.specs.Prelude.{All, ◌≡◌, ◌≢◌, ◌≤◌, Ok, Err, IsTrue, IfOk, IfErr, OnOk, length};
+ghost use Rattle.rela_spec.specs.Depth.{IsLow};
+ghost use Rattle.rela_spec.specs.Full.{IsFull};
 ghost use Rattle.rela_spec.specs.Print.{print_of};
 ghost use Rattle.rela_top.specs.Commands.{command_of};
 ghost use Rattle.rela_top.specs.Reading.{max_file_bytes, HoldsFiles, HaltsBy};
@@ -40,7 +42,8 @@ pub fn format<F: Files>(alloc: Global, files: &mut F, command: &Command<'_>) -> 
     }
 }
 
-/// The tree of a specification's text, which has at most 32 MiB.
+/// The tree of a specification's text, which has at most 32 MiB. No predicate in it is deeper than
+/// 1,000, and each of its lists has two parts or more.
 ///
 /// # Errors
 ///
@@ -49,6 +52,8 @@ pub fn format<F: Files>(alloc: Global, files: &mut F, command: &Command<'_>) -> 
 pub fn read_tree(alloc: Global, text: &[u8]) -> Result<SpecFile, SpecError>
     requires { length text.now ≤ 33554432 }
     ensures tree { IfOk result (λ file. ReadsTree text.now (Ok file)) }
+    ensures full { IfOk result (λ file. IsFull file) }
+    ensures low { IfOk result (λ file. All IsLow file.items) }
     ensures fault { IfErr result (λ e. e ≢ SpecError.Memory → ReadsTree text.now (Err e)) }
 {
     let tokens = tokens(alloc, text)?;

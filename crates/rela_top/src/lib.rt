@@ -2,10 +2,10 @@
 #![tactic(auto)]
 
 mod answer;
+mod asking;
 mod formatting;
-mod keywords;
 mod loading;
-mod plain;
+mod planning;
 mod reading;
 mod refusal;
 mod reporting;
@@ -18,16 +18,17 @@ pub use answer::{
     Answer, BAD_WORDS, MET, NO_MEMORY, READ_FAULT, REFUSED, UNDECIDED, VIOLATED, WRITE_FAULT,
     deliver,
 };
+pub use asking::{Asked, read_asked};
 pub use formatting::{format, read_tree};
 pub use loading::{load_locations, load_snapshot, load_spec, pair_halt};
-pub use plain::{PlainCheck, read_plain};
 pub use reading::{Halt, MAX_FILE_BYTES, read_input};
 pub use refusal::{Input, Refusal, refusal_line};
 pub use reporting::report;
-pub use rows::{row_of, rows_of};
+pub use rows::rows_of;
 pub use running::run;
-pub use verdict::decide_kept;
 pub use words::{Command, read_words};
 
+#[cfg(test)]
+mod row_tests;
 #[cfg(test)]
 mod tests;

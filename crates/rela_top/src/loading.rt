@@ -1,18 +1,18 @@
 //! Loading each input: its bytes are read whole, and then decoded.
 
-ghost use Rattle.std.specs.Prelude.{◌≡◌, ◌≢◌, ◌<◌, ◌≤◌, All, Ok, Err, IsTrue, IfOk, IfErr, OnOk};
-ghost use Rattle.rela_names.specs.declared.level.Level.TheVariants.{Interface};
-ghost use Rattle.rela_names.specs.Alphabet.{path_symbols};
-ghost use Rattle.rela_snapshot.specs.Interfaces.{interfaces_in};
+ghost use Rattle.std.specs.Prelude.{◌≡◌, ◌≢◌, ◌≤◌, Ok, Err, All, IsTrue, IfOk, IfErr, OnOk};
+ghost use Rattle.rela_names.specs.declared.level.Level.{Level};
+ghost use Rattle.rela_locations.specs.Network.{alphabet_of};
 ghost use Rattle.rela_snapshot.specs.Located.{AreLocated};
 ghost use Rattle.rela_top.specs.Commands.{command_of};
 ghost use Rattle.rela_top.specs.Reading.{max_file_bytes, HoldsFiles, HaltsBy};
 ghost use Rattle.rela_top.specs.Inputs.{Gives, ReadsNetwork, ReadsFlows};
-ghost use Rattle.rela_top.specs.PlainForm.{ReadsCheck};
+ghost use Rattle.rela_top.specs.Rows.{ListsPathSymbols};
+ghost use Rattle.rela_top.specs.Specified.{ReadsChecks, specified_by};
 ghost use Rattle.rela_top.specs.declared.refusal.Refusal.{Refusal};
 ghost use Rattle.rela_top.specs.Loading.{load_halt, spec_halt, pair_halt};
 
-use crate::plain::{PlainCheck, read_plain};
+use crate::asking::{Asked, read_asked};
 use crate::reading::{Halt, read_input};
 use crate::refusal::{Input, Refusal};
 use crate::words::Command;
@@ -20,7 +20,6 @@ use rela_io::Files;
 use rela_json::LoadError;
 use rela_lex::SpecError;
 use rela_locations::Locations;
-use rela_names::Alphabet;
 use rela_snapshot::{PairError, Snapshot};
 use std::alloc::Global;
 
@@ -60,7 +59,6 @@ fn load_halt(input: Input, error: LoadError) -> Halt
 }
 
 /// A snapshot, whose graphs lie in the locations.
-#[tactic(auto, unfolding(rela_snapshot::specs::Interfaces::interfaces_in))]
 pub fn load_snapshot<F: Files>(
     alloc: Global,
     files: &mut F,
@@ -71,7 +69,7 @@ pub fn load_snapshot<F: Files>(
     ensures flows { IfOk result (λ snapshot. Gives (F.holds files.old) (command_of command.now) input (ReadsFlows input locations.now) (Ok snapshot)) }
     ensures refused { IfErr result (λ halt. (refusal : Refusal) → halt ≡ Halt.Refused refusal →
         Gives (F.holds files.old) (command_of command.now) input (ReadsFlows input locations.now) (Err refusal)) }
-    ensures located { IfOk result (AreLocated (interfaces_in locations.now) Interface) }
+    ensures located { IfOk result (λ snapshot. (level : Level) → AreLocated (alphabet_of level locations.now) level snapshot) }
     ensures ok_given { OnOk result (F.given files.new ≤ max_file_bytes) }
     ensures ok_keeps_count { OnOk result (F.faults files.new ≡ F.faults files.old) }
     ensures halts { IfErr result (HaltsBy (F.holds files.old) (command_of command.now)
@@ -88,17 +86,17 @@ pub fn load_snapshot<F: Files>(
     }
 }
 
-/// The specification, over these interfaces.
+/// What the specification asks for over these locations.
 pub fn load_spec<F: Files>(
     alloc: Global,
     files: &mut F,
     command: &Command<'_>,
-    interfaces: &Alphabet,
-) -> Result<PlainCheck, Halt>
-    ensures check { IfOk result (λ check. Gives (F.holds files.old) (command_of command.now) Input.Spec (ReadsCheck interfaces.now) (Ok check)) }
+    locations: &Locations,
+) -> Result<Asked, Halt>
+    ensures asked { IfOk result (λ asked. Gives (F.holds files.old) (command_of command.now) Input.Spec (ReadsChecks locations.now) (Ok (specified_by asked))) }
+    ensures listed { IfOk result (λ asked. All (ListsPathSymbols (alphabet_of asked.level locations.now)) asked.checks.items) }
     ensures refused { IfErr result (λ halt. (refusal : Refusal) → halt ≡ Halt.Refused refusal →
-        Gives (F.holds files.old) (command_of command.now) Input.Spec (ReadsCheck interfaces.now) (Err refusal)) }
-    ensures symbols { IfOk result (λ check. All (λ s. s < path_symbols interfaces.now) check.word) }
+        Gives (F.holds files.old) (command_of command.now) Input.Spec (ReadsChecks locations.now) (Err refusal)) }
     ensures ok_given { OnOk result (F.given files.new ≤ max_file_bytes) }
     ensures ok_keeps_count { OnOk result (F.faults files.new ≡ F.faults files.old) }
     ensures halts { IfErr result (HaltsBy (F.holds files.old) (command_of command.now)
@@ -109,8 +107,8 @@ pub fn load_spec<F: Files>(
     ensures same_steady { F.steady files.new ≡ F.steady files.old }
 {
     let bytes = read_input(alloc, files, command, Input::Spec)?;
-    match read_plain(alloc, bytes.as_slice(), interfaces) {
-        Ok(check) => Ok(check),
+    match read_asked(alloc, bytes.as_slice(), locations) {
+        Ok(asked) => Ok(asked),
         Err(error) => Err(spec_halt(error)),
     }
 }

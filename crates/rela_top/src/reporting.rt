@@ -1,28 +1,24 @@
 //! From the four files to the report.
 
-ghost use Rattle.std.specs.Prelude.{◌≡◌, ◌≢◌, ◌<◌, ◌≤◌, All, Err, IsTrue, IfOk, IfErr, OnOk};
+ghost use Rattle.std.specs.Prelude.{◌≡◌, ◌≢◌, ◌≤◌, Err, IsTrue, IfOk, IfErr, OnOk};
 ghost use Rattle.rela_top.specs.Commands.{command_of};
 ghost use Rattle.rela_top.specs.Reading.{max_file_bytes, HoldsFiles, HaltsBy};
 ghost use Rattle.rela_top.specs.Answer.{TellsRows, TellsCheck};
 ghost use Rattle.rela_top.specs.Checked.{Checked};
 ghost use Rattle.rela_top.specs.declared.refusal.Refusal.{Refusal};
-ghost use Rattle.rela_names.specs.Alphabet.{path_symbols};
-ghost use Rattle.rela_names.specs.declared.level.Level.TheVariants.{Interface};
-ghost use Rattle.rela_snapshot.specs.Interfaces.{interfaces_in};
-ghost use Rattle.rela_snapshot.specs.PairsLocated.{ArePairsLocated};
+ghost use Rattle.rela_top.specs.Rows.{AreChecksAt};
 
 use crate::answer::Answer;
 use crate::loading::{load_locations, load_snapshot, load_spec, pair_halt};
-use crate::plain::PlainCheck;
 use crate::reading::Halt;
 use crate::refusal::Input;
 use crate::rows::rows_of;
 use crate::words::Command;
 use rela_io::Files;
-use rela_locations::Locations;
-use rela_names::{Alphabet, Level};
+use rela_names::Alphabet;
 use rela_report::{status, text};
 use rela_snapshot::{FlowPair, pair};
+use rela_translate::Check;
 use std::alloc::{AllocError, Global};
 
 /// Reads the locations, the snapshot before, the snapshot after and the specification, in this
@@ -45,31 +41,27 @@ pub fn report<F: Files>(alloc: Global, files: &mut F, command: &Command<'_>) -> 
         Ok(pairs) => pairs,
         Err(error) => return Err(pair_halt(error)),
     };
-    let interfaces = interfaces_of(&locations);
-    let check = load_spec(alloc, files, command, interfaces)?;
-    Ok(report_on(alloc, &pairs, &check, interfaces)?)
+    let asked = load_spec(alloc, files, command, &locations)?;
+    Ok(report_on(
+        alloc,
+        &pairs,
+        &asked.checks,
+        locations.alphabet(asked.level),
+    )?)
 }
 
-#[tactic(auto, unfolding(rela_snapshot::specs::Interfaces::interfaces_in))]
-fn interfaces_of(locations: &Locations) -> &Alphabet
-    ensures { result.now ≡ interfaces_in locations.now }
-{
-    locations.alphabet(Level::Interface)
-}
-
-// The report on these flows, made whole.
+// The report on these flows under these checks, made whole; `names` are the locations of the checks' level.
 fn report_on(
     alloc: Global,
     pairs: &[FlowPair],
-    check: &PlainCheck,
-    interfaces: &Alphabet,
+    checks: &[Check],
+    names: &Alphabet,
 ) -> Result<Answer, AllocError>
-    requires located { ArePairsLocated interfaces.now Interface pairs.now }
-    requires symbols { All (λ s. s < path_symbols interfaces.now) check.now.word }
-    ensures { IfOk result (λ answer. TellsRows interfaces.now check.now pairs.now answer.text.items answer.status) }
+    requires { AreChecksAt names.now pairs.now checks.now }
+    ensures { IfOk result (λ answer. TellsRows names.now checks.now pairs.now answer.text.items answer.status) }
 {
-    let rows = rows_of(alloc, pairs, check, interfaces)?;
-    let text = text(alloc, &rows, interfaces)?;
+    let rows = rows_of(alloc, pairs, checks, names)?;
+    let text = text(alloc, &rows, names)?;
     let status = status(&rows);
     Ok(Answer { text, status })
 }

@@ -5,7 +5,7 @@ use rela_io::{MemoryFile, MemoryFiles, MemorySink};
 use std::alloc::{AllocError, Global};
 use std::test::Fail;
 
-const LOCATIONS: &str =
+pub(crate) const LOCATIONS: &str =
     r#"{"version":1,"groups":[{"name":"core","devices":[{"name":"r2","interfaces":["r2:0"]},{"name":"r3","interfaces":["r3:0"]}]},{"name":"edge","devices":[{"name":"r1","tags":["border"],"interfaces":["r1:0"]},{"name":"r4","interfaces":["r4:0","r4:1"]}]}]}"#;
 
 const OVER_R2: &str =
@@ -22,6 +22,9 @@ const COMPLIANT: &str =
 const LOST: &str =
     "flow f1 check c1 violated\n  missing: r1:0 r2:0 r4:0 r4:1\n  before: r1:0 r2:0 r4:0 r4:1\ntotal 1 compliant 0 violated 1 undecided 0 unselected 0\n";
 
+const LOST_DEVICES: &str =
+    "flow f1 check c1 violated\n  missing: r1 r2 r4\n  before: r1 r2 r4\ntotal 1 compliant 0 violated 1 undecided 0 unselected 0\n";
+
 fn strings(alloc: Global, texts: &[&str]) -> Result<Vec<String>, AllocError> {
     let mut strings = Vec::new(alloc);
     for text in texts {
@@ -30,7 +33,7 @@ fn strings(alloc: Global, texts: &[&str]) -> Result<Vec<String>, AllocError> {
     Ok(strings)
 }
 
-fn file(alloc: Global, name: &str, text: &str) -> Result<MemoryFile, AllocError> {
+pub(crate) fn file(alloc: Global, name: &str, text: &str) -> Result<MemoryFile, AllocError> {
     Ok(MemoryFile {
         name: String::from_str(alloc, name)?,
         bytes: Vec::from_slice(alloc, text.as_bytes())?,
@@ -47,7 +50,7 @@ fn files(alloc: Global, after: &str, spec: &str) -> Result<Vec<MemoryFile>, Allo
     ]?)
 }
 
-fn check_words(alloc: Global) -> Result<Vec<String>, AllocError> {
+pub(crate) fn check_words(alloc: Global) -> Result<Vec<String>, AllocError> {
     strings(alloc, &["check", "before", "after", "locations", "spec"])
 }
 
@@ -56,6 +59,20 @@ fn answers_for_paths_kept_and_lost(rt: HostRuntime) -> Result<(), Fail> {
     let alloc = rt.alloc();
     for (after, status, text) in [(OVER_R2, MET, COMPLIANT), (OVER_R3, VIOLATED, LOST)] {
         let mut files = MemoryFiles::new(files(alloc, after, KEEP)?, Vec::new(alloc), 1_000_000);
+        let mut out = MemorySink::new(alloc, 1_000, Vec::new(alloc), 1_000)?;
+        let words = check_words(alloc)?;
+        assert_eq!(rt; run(alloc, &words, &mut files, &mut out), status);
+        assert_eq!(rt; out.taken(), text.as_bytes());
+    }
+    Ok(())
+}
+
+#[test]
+fn answers_for_paths_of_devices(rt: HostRuntime) -> Result<(), Fail> {
+    let alloc = rt.alloc();
+    let spec = "level device;\npath core = device(r2);\ncheck c1 : { (r1 $core) r4 : preserve };";
+    for (after, status, text) in [(OVER_R2, MET, COMPLIANT), (OVER_R3, VIOLATED, LOST_DEVICES)] {
+        let mut files = MemoryFiles::new(files(alloc, after, spec)?, Vec::new(alloc), 1_000_000);
         let mut out = MemorySink::new(alloc, 1_000, Vec::new(alloc), 1_000)?;
         let words = check_words(alloc)?;
         assert_eq!(rt; run(alloc, &words, &mut files, &mut out), status);
@@ -92,15 +109,30 @@ fn refuses_what_it_cannot_take(rt: HostRuntime) -> Result<(), Fail> {
     for (after, spec, line) in [
         (
             OVER_R2,
-            "check c1 : { .* : preserve };",
-            "refused spec 40 NotBuilt at 0\n",
-        ),
-        (
-            OVER_R2,
             "check c1 : { r1:0 r9:0 : preserve };",
             "refused spec 17 UnknownLocation at 18\n",
         ),
         (OVER_R2, "check c1 % ;", "refused spec 31 BadToken at 9\n"),
+        (
+            OVER_R2,
+            "check c1 : { $p : preserve };",
+            "refused spec 33 UnknownName at 13\n",
+        ),
+        (
+            OVER_R2,
+            "path p = r1:0; path p = r2:0; check c1 : { $p : preserve };",
+            "refused spec 34 RepeatedName at 20\n",
+        ),
+        (
+            OVER_R2,
+            "level group; check c1 : { device(r1) : preserve };",
+            "refused spec 38 FinerLevel at 33\n",
+        ),
+        (
+            OVER_R2,
+            "path p = (.{64}){64}; check c1 : { $p $p $p : preserve };",
+            "refused spec 36 TooLarge at 28\n",
+        ),
         (
             OVER_R2,
             "check c1 : { .* : preserve ;",

@@ -1,45 +1,30 @@
-//! The verdict on one word of interfaces that is to be kept.
+//! The verdict of a check on a flow.
 
-ghost use Rattle.std.specs.Prelude.{◌≡◌, ◌<◌, IfOk, length};
-ghost use Rattle.std.specs.List.{All};
-ghost use Rattle.rela_names.specs.declared.level.Level.TheVariants.{Interface};
-ghost use Rattle.rela_graph.specs.Topology.{symbol_at};
+ghost use Rattle.std.specs.Prelude.{◌≡◌, IfOk, length};
+ghost use Rattle.rela_engine.specs.RowOf.{RowOf};
 ghost use Rattle.rela_graph.specs.Paths.{Paths};
-ghost use Rattle.rela_report.specs.Text.{HasTexts, VerdictHasTexts};
-ghost use Rattle.rela_top.specs.Plain.{IsVerdict};
+ghost use Rattle.rela_report.specs.Text.{VerdictHasTexts};
+ghost use Rattle.rela_snapshot.specs.PairsLocated.{IsPairLocated};
 
-use rela_graph::Graph;
-use rela_names::{Alphabet, Level, Symbol, Word};
-use rela_report::{Row, Side};
+use rela_engine::{Compiled, decide_compiled};
+use rela_names::Alphabet;
+use rela_report::Row;
+use rela_snapshot::FlowPair;
 use std::alloc::{AllocError, Global};
 
-/// Compliant where the word is a path of both graphs or of neither, and else violated on the side
-/// that has it.
-pub fn decide_kept(
+/// The verdict of a compiled check on a flow. Each symbol that it shows has a text.
+pub(crate) fn verdict(
     alloc: Global,
-    before: &Graph,
-    after: &Graph,
-    interfaces: &Alphabet,
-    word: &[Symbol],
+    compiled: &Compiled<'_>,
+    pair: &FlowPair,
+    alphabet: &Alphabet,
 ) -> Result<Row, AllocError>
-    requires before_located { All (λ node. symbol_at Interface node < length interfaces.now) before.now.nodes }
-    requires after_located { All (λ node. symbol_at Interface node < length interfaces.now) after.now.nodes }
-    requires symbols { HasTexts interfaces.now word.now }
-    ensures verdict { IfOk result (IsVerdict (Paths before.now Interface interfaces.now word.now)
-        (Paths after.now Interface interfaces.now word.now) word.now) }
-    ensures texts { IfOk result (VerdictHasTexts interfaces.now) }
+    requires locations { compiled.now.locations ≡ length alphabet.now }
+    requires located { IsPairLocated alphabet.now compiled.now.check.level pair.now }
+    ensures row { IfOk result (RowOf compiled.now.check (length alphabet.now) (Paths pair.now.before compiled.now.check.level alphabet.now) (Paths pair.now.after compiled.now.check.level alphabet.now)) }
+    ensures texts { IfOk result (VerdictHasTexts alphabet.now) }
 {
-    let had = before.has_path(alloc, Level::Interface, interfaces, word)?;
-    let has = after.has_path(alloc, Level::Interface, interfaces, word)?;
-    if had == has {
-        return Ok(Row::Compliant);
-    }
-    let side = if had { Side::Before } else { Side::After };
-    let source = Vec::from_slice(alloc, word)?;
-    let word = Vec::from_slice(alloc, word)?;
-    Ok(Row::Violated {
-        word: Word::from_symbols(word),
-        side,
-        source: Word::from_symbols(source),
-    })
+    // With its body a check tells that its markers are few.
+    let _body = compiled.check().body();
+    decide_compiled(alloc, compiled, pair, alphabet)
 }

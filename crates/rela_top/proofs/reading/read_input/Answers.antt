@@ -1,4 +1,4 @@
-use Rattle.std.proofs.Common.{◌≡◌, ◌<◌, ℕ, List, length, IfSome, subst}
+use Rattle.std.proofs.Common.{◌<◌, ℕ, List, length, IfSome, subst}
 use Rattle.rela_io.specs.Held.{Lacks}
 use Rattle.rela_top.specs.Commands.{command_of}
 use Rattle.rela_top.specs.Reading.{max_file_bytes}

@@ -1,21 +1,30 @@
-use Rattle.std.proofs.Common.{sym, subst, arith}
-use Rattle.rela_names.specs.declared.level.Level.TheVariants.{Interface}
-use Rattle.rela_report.specs.Text.{RowHasTexts}
-use Rattle.rela_snapshot.specs.PairsLocated.{IsPairLocated}
-use Rattle.rela_top.specs.Plain.{IsRowOf}
-use Rattle.rela_top.proofs.Found.{All-push}
-use Rattle.rela_top.proofs.Loops.{zip_more}
+use Rattle.std.proofs.Common.{◌≡◌, ◌∙◌, ap, sym, subst, length, map}
+use Rattle.std.specs.List.{All, AllZip}
+use Rattle.std.proofs.lemmas.List.{length-map}
+use Rattle.rela_flows.specs.Plan.{Plan}
+use Rattle.rela_snapshot.specs.PairsLocated.{ArePairsLocated}
+use Rattle.rela_top.specs.Rows.{AreRowsOf, IsRowOf}
+use Rattle.rela_top.proofs.Given.{if_ok}
+use Rattle.rela_top.proofs.PlanLaws.{within_counts, All-unmap}
+use Rattle.rela_top.proofs.RowLaws.{are_rows}
 use Rattle.rela_top.proofs.rows.rows_of.Goals as goal
 
-pub row_of-requires-clause-located : goal.row_of-requires-clause-located
-row_of-requires-clause-located c =
-    subst (λ pair. IsPairLocated c.args.interfaces.now Interface pair) (sym c.pair-item.is) (c.requires.located c.loop-pair.pair-index c.pair-item.result (omega arith))
+pub decide_all-requires-clause-planned : goal.decide_all-requires-clause-planned
+decide_all-requires-clause-planned c =
+    within_counts (λ pair. pair.class) (λ check. check.when) c.args.pairs.now c.args.checks.now (length c.deref-2.result.now) c.deref.result.now
+    (ap length c.deref-2.ensures.value ∙ (sym (length-map c.in_ok-compiled.compiled.items (λ compiled. compiled.check)) ∙ ap length c.in_ok-compiled.ensures.checks))
+    (subst (λ rows. Plan (map (λ pair. pair.class) c.args.pairs.now) (map (λ check. check.when) c.args.checks.now) rows) (sym c.deref.ensures.value) c.in_ok-planned.ensures)
 
-pub loop-pair-preserved : goal.loop-pair-preserved
-loop-pair-preserved c = record {
-  rows =
-      zip_more (IsRowOf c.args.interfaces.now c.args.check.now) c.args.pairs.now c.loop-pair.rows.items c.push.new.self.items c.loop-pair.pair-index c.pair-item.result c.in_ok-row.row (omega arith)
-      c.loop-pair.invariant.rows c.in_ok-push.ensures.items
-      (subst (λ pair. IsRowOf c.args.interfaces.now c.args.check.now pair c.in_ok-row.row) c.pair-item.is c.in_ok-row.ensures.row);
-  texts = All-push (RowHasTexts c.args.interfaces.now) c.loop-pair.rows.items c.push.new.self.items c.in_ok-row.row c.in_ok-push.ensures.items c.loop-pair.invariant.texts c.in_ok-row.ensures.texts;
-}
+pub decide_all-requires-clause-located : goal.decide_all-requires-clause-located
+decide_all-requires-clause-located c =
+    subst (λ compiled. All (λ one. ArePairsLocated c.args.alphabet.now one.check.level c.args.pairs.now) compiled) (sym c.deref-2.ensures.value)
+    (All-unmap (λ check. ArePairsLocated c.args.alphabet.now check.level c.args.pairs.now) (λ compiled. compiled.check) c.in_ok-compiled.compiled.items
+    (subst (λ checks. All (λ check. ArePairsLocated c.args.alphabet.now check.level c.args.pairs.now) checks) (sym c.in_ok-compiled.ensures.checks) c.requires.located))
+
+pub returns-clause-rows : goal.returns-clause-rows
+returns-clause-rows c =
+    if_ok (λ rows. AllZip (IsRowOf c.args.alphabet.now (map (λ compiled. compiled.check) c.deref-2.result.now) c.args.pairs.now) c.deref.result.now rows.items)
+    (λ rows. AreRowsOf c.args.alphabet.now c.args.checks.now c.args.pairs.now rows.items) c.decide_all.result
+    (λ rows each. are_rows c.args.alphabet.now c.args.checks.now c.args.pairs.now c.in_ok-compiled.compiled.items c.deref-2.result.now
+    c.in_ok-planned.planned.items c.deref.result.now rows.items c.deref-2.ensures.value c.in_ok-compiled.ensures.checks c.deref.ensures.value c.in_ok-planned.ensures each)
+    c.decide_all.ensures.rows

@@ -1,0 +1,53 @@
+//! Which rows a report has.
+
+ghost use Rattle.std.specs.Prelude.{◌≡◌, ◌≤◌, IfOk, All, map};
+ghost use Rattle.rela_flows.specs.Plan.{Plan};
+ghost use Rattle.rela_flows.specs.Selects.{depth};
+
+use rela_flows::{FlowClass, PlannedRow, Predicate, plan};
+use rela_snapshot::FlowPair;
+use rela_translate::Check;
+use std::alloc::{AllocError, Global};
+
+/// The rows to be made for these flows under these checks, each by its place.
+pub(crate) fn plan_rows(
+    alloc: Global,
+    pairs: &[FlowPair],
+    checks: &[Check],
+) -> Result<Vec<PlannedRow>, AllocError>
+    ensures { IfOk result (λ planned. Plan (map (λ pair. pair.class) pairs.now) (map (λ check. check.when) checks.now) planned.items) }
+{
+    let classes = classes_of(alloc, pairs)?;
+    let predicates = predicates_of(alloc, checks)?;
+    plan(alloc, &classes, &predicates)
+}
+
+fn classes_of<'a>(alloc: Global, pairs: &'a [FlowPair]) -> Result<Vec<&'a FlowClass>, AllocError>
+    ensures { IfOk result (λ classes. map (λ c. c.now) classes.items ≡ map (λ pair. pair.class) pairs.now) }
+{
+    let mut classes = Vec::with_capacity(alloc, pairs.len())?;
+    for pair in pairs {
+        classes.push(&pair.class)?;
+    }
+    Ok(classes)
+}
+
+fn predicates_of<'a>(alloc: Global, checks: &'a [Check]) -> Result<Vec<&'a Predicate>, AllocError>
+    ensures predicates { IfOk result (λ predicates. map (λ p. p.now) predicates.items ≡ map (λ check. check.when) checks.now) }
+    ensures shallow { IfOk result (λ predicates. All (λ p. depth p.now ≤ 1000) predicates.items) }
+{
+    let mut predicates = Vec::with_capacity(alloc, checks.len())?;
+    for check in checks {
+        predicates.push(predicate_of(check))?;
+    }
+    Ok(predicates)
+}
+
+fn predicate_of(check: &Check) -> &Predicate
+    ensures predicate { result.now ≡ check.now.when }
+    ensures shallow { depth result.now ≤ 1000 }
+{
+    // With its body a check tells its limits.
+    let _body = check.body();
+    check.when()
+}
