@@ -27,10 +27,10 @@ markers_roll x = fold-roll-Core (List ℕ) layer_markers x
 pub markers_unit : (z : Expr) (c : Change) → markers_of (B.Unit z c) ≡ change_markers c
 markers_unit z c = ap markers_of (sym (B.rolls-Unit z c)) ∙ markers_roll (C.Unit z c)
 
-markers_then : (s t : Core) → markers_of (B.Then s t) ≡ markers_of s ++ markers_of t
+pub markers_then : (s t : Core) → markers_of (B.Then s t) ≡ markers_of s ++ markers_of t
 markers_then s t = ap markers_of (sym (B.rolls-Then s t)) ∙ markers_roll (C.Then s t)
 
-markers_else : (s t : Core) → markers_of (B.Else s t) ≡ markers_of s ++ markers_of t
+pub markers_else : (s t : Core) → markers_of (B.Else s t) ≡ markers_of s ++ markers_of t
 markers_else s t = ap markers_of (sym (B.rolls-Else s t)) ∙ markers_roll (C.Else s t)
 
 all_front : {X : Type 0} (Q : X → Type 0) (xs ys : List X) → All Q (xs ++ ys) → All Q xs

@@ -48,10 +48,10 @@ terms_roll n x = fold-roll-Core Terms (layer_terms n) x
 pub terms_unit : (n : ℕ) (z : Expr) (c : Change) → terms_of n (B.Unit z c) ≡ unit_terms n (path_of z) c
 terms_unit n z c = ap (terms_of n) (sym (B.rolls-Unit z c)) ∙ terms_roll n (C.Unit z c)
 
-terms_then : (n : ℕ) (s t : Core) → terms_of n (B.Then s t) ≡ layer_terms n (C.Then (terms_of n s) (terms_of n t))
+pub terms_then : (n : ℕ) (s t : Core) → terms_of n (B.Then s t) ≡ layer_terms n (C.Then (terms_of n s) (terms_of n t))
 terms_then n s t = ap (terms_of n) (sym (B.rolls-Then s t)) ∙ terms_roll n (C.Then s t)
 
-terms_else : (n : ℕ) (s t : Core) → terms_of n (B.Else s t) ≡ layer_terms n (C.Else (terms_of n s) (terms_of n t))
+pub terms_else : (n : ℕ) (s t : Core) → terms_of n (B.Else s t) ≡ layer_terms n (C.Else (terms_of n s) (terms_of n t))
 terms_else n s t = ap (terms_of n) (sym (B.rolls-Else s t)) ∙ terms_roll n (C.Else s t)
 
 pub zone_unit : (n : ℕ) (z : Expr) (c : Change) → zone_of n (B.Unit z c) ≡ (unit_terms n (path_of z) c).zone

@@ -1,0 +1,122 @@
+//! From bodies to the body of a check, while its classes and markers are numbered.
+
+ghost use Rattle.std.specs.Prelude.{◌≡◌, ◌+◌, ◌<◌, ◌≤◌, ◌^◌, length, IfErr, IfOk, OnOk};
+ghost use Rattle.rela_translate.specs.Bodies.{AreBodies, behind_modifier, bodies_of, body_at, modifier_at};
+ghost use Rattle.rela_translate.specs.Expand.{symbols_in};
+ghost use Rattle.rela_translate.specs.Forms.{shapes_of};
+ghost use Rattle.rela_translate.specs.Measures.{weight_of, weight_of_modifier};
+ghost use Rattle.rela_translate.specs.Numbered.{core_joined, numbered_body, numbered_change};
+ghost use Rattle.rela_translate.specs.Tables.{IsCounted, numbering_of};
+
+use crate::body::{Change, Core};
+use crate::expansion::bodies::{Bodies, BodyJoint, BodyLayer};
+use crate::expansion::forms::Forms;
+use crate::expansion::numbers::Numbers;
+use crate::expansion::unfit::Unfit;
+use crate::expansion::unfolding::unfold;
+use rela_locations::Locations;
+use rela_names::{Boxed, Level};
+use rela_spec::Modifier;
+use std::alloc::{AllocError, Global};
+
+/// What has to become of the paths of a zone. A path that is asked for has the next marker.
+///
+/// # Errors
+///
+/// `TooLarge` where the classes list more than 4,000,000 symbols together; `Memory`.
+#[tactic(auto, using(crate::proofs::BodyUnfolding::modifier_steps))]
+fn unfold_modifier(
+    alloc: Global,
+    locations: &Locations,
+    level: Level,
+    forms: &Forms<'_>,
+    modifier: &Modifier<usize>,
+    numbers: &mut Numbers,
+) -> Result<Change, Unfit>
+    requires inside { behind_modifier modifier.now ≤ length (shapes_of forms.now.forms.items) }
+    requires room { length numbers.old.classes.keys + weight_of_modifier (modifier_at (shapes_of forms.now.forms.items) modifier.now) < 2 ^ 32 }
+    requires few { numbers.old.markers + 1 < 2 ^ 32 }
+    requires counted { IsCounted numbers.old }
+    ensures unfolded { IfOk result (λ c. numbered_change (record { network = locations.now; level = level }) (modifier_at (shapes_of forms.now.forms.items) modifier.now) (numbering_of numbers.old)
+        ≡ record { value = c; after = numbering_of numbers.new }) }
+    ensures counted { OnOk result (IsCounted numbers.new) }
+    ensures too_large { IfErr result (λ e. e ≡ Unfit.TooLarge → 4000000 < symbols_in (numbered_change (record { network = locations.now; level = level }) (modifier_at (shapes_of forms.now.forms.items) modifier.now) (numbering_of numbers.old)).after.classes) }
+{
+    match modifier {
+        Modifier::Preserve => Ok(Change::Preserve),
+        Modifier::Add(path) => {
+            let path = unfold(alloc, locations, level, forms, *path, numbers)?;
+            Ok(Change::Add(path))
+        }
+        Modifier::Remove(path) => {
+            let path = unfold(alloc, locations, level, forms, *path, numbers)?;
+            Ok(Change::Remove(path))
+        }
+        Modifier::Replace(old, new) => {
+            let old = unfold(alloc, locations, level, forms, *old, numbers)?;
+            let new = unfold(alloc, locations, level, forms, *new, numbers)?;
+            Ok(Change::Replace(old, new))
+        }
+        Modifier::Drop => Ok(Change::Drop),
+        Modifier::AnyOf(path) => {
+            let path = unfold(alloc, locations, level, forms, *path, numbers)?;
+            numbers.markers += 1;
+            let marker = numbers.markers;
+            Ok(Change::AnyOf { path, marker })
+        }
+        Modifier::Ignore(path) => {
+            let path = unfold(alloc, locations, level, forms, *path, numbers)?;
+            Ok(Change::Ignore(path))
+        }
+    }
+}
+
+/// The body that stands at this place. It goes as deep into the stack as its terms are deep.
+///
+/// # Errors
+///
+/// `TooLarge` where the classes list more than 4,000,000 symbols together; `Memory`.
+#[tactic(auto, using(crate::proofs::BodyUnfolding::body_steps))]
+pub(crate) fn unfold_body(
+    alloc: Global,
+    locations: &Locations,
+    level: Level,
+    forms: &Forms<'_>,
+    bodies: &Bodies,
+    place: usize,
+    numbers: &mut Numbers,
+) -> Result<Core, Unfit>
+    requires inside { place < length bodies.now.forms.items }
+    requires are { AreBodies (shapes_of forms.now.forms.items) bodies.now.forms.items }
+    requires room { length numbers.old.classes.keys + weight_of (body_at (bodies_of (shapes_of forms.now.forms.items) bodies.now.forms.items) place) < 2 ^ 32 }
+    requires few { numbers.old.markers + weight_of (body_at (bodies_of (shapes_of forms.now.forms.items) bodies.now.forms.items) place) < 2 ^ 32 }
+    requires counted { IsCounted numbers.old }
+    ensures unfolded { IfOk result (λ c. numbered_body (record { network = locations.now; level = level }) (body_at (bodies_of (shapes_of forms.now.forms.items) bodies.now.forms.items) place) (numbering_of numbers.old)
+        ≡ record { value = c; after = numbering_of numbers.new }) }
+    ensures counted { OnOk result (IsCounted numbers.new) }
+    ensures too_large { IfErr result (λ e. e ≡ Unfit.TooLarge → 4000000 < symbols_in (numbered_body (record { network = locations.now; level = level }) (body_at (bodies_of (shapes_of forms.now.forms.items) bodies.now.forms.items) place) (numbering_of numbers.old)).after.classes) }
+{
+    match bodies.get(place) {
+        BodyLayer::Unit { zone, modifier } => {
+            let zone = unfold(alloc, locations, level, forms, *zone, numbers)?;
+            let modifier = unfold_modifier(alloc, locations, level, forms, modifier, numbers)?;
+            Ok(Core::Unit { zone, modifier })
+        }
+        BodyLayer::Join(by, a, b) => {
+            let first = unfold_body(alloc, locations, level, forms, bodies, *a, numbers)?;
+            let second = unfold_body(alloc, locations, level, forms, bodies, *b, numbers)?;
+            Ok(join(alloc, *by, first, second)?)
+        }
+    }
+}
+
+fn join(alloc: Global, by: BodyJoint, a: Core, b: Core) -> Result<Core, AllocError>
+    ensures { IfOk result (λ c. c ≡ core_joined by a b) }
+{
+    let a = Boxed::new(alloc, a)?;
+    let b = Boxed::new(alloc, b)?;
+    Ok(match by {
+        BodyJoint::Then => Core::Then(a, b),
+        BodyJoint::Else => Core::Else(a, b),
+    })
+}

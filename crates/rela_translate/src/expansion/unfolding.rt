@@ -1,0 +1,110 @@
+//! From forms to the expressions of a check, while its classes are numbered.
+
+ghost use Rattle.std.specs.Prelude.{◌≡◌, ◌+◌, ◌<◌, ◌^◌, length, IfErr, IfOk, OnOk};
+ghost use Rattle.rela_translate.specs.Expand.{symbols_in};
+ghost use Rattle.rela_translate.specs.Forms.{shape_at, shapes_of};
+ghost use Rattle.rela_translate.specs.Numbered.{expr_joined, listing, numbered, placed};
+ghost use Rattle.rela_translate.specs.Shapes.{nodes_of_shape};
+ghost use Rattle.rela_translate.specs.Tables.{IsCounted, numbering_of};
+
+use crate::body::Expr;
+use crate::expansion::entry::Entry;
+use crate::expansion::forms::{Forms, Joint, Layer};
+use crate::expansion::listing::list;
+use crate::expansion::numbers::Numbers;
+use crate::expansion::unfit::Unfit;
+use rela_locations::Locations;
+use rela_names::{Boxed, Level};
+use rela_spec::Member;
+use std::alloc::{AllocError, Global};
+use std::slice;
+
+/// The greatest number of symbols that the classes of a check may list together.
+const MAX_LISTED: u64 = 4_000_000;
+
+/// The expression that stands at this place. It goes as deep into the stack as its term is deep.
+///
+/// # Errors
+///
+/// `TooLarge` where the classes list more than 4,000,000 symbols together; `Memory`.
+#[tactic(auto, using(crate::proofs::Unfolding::unfolding_steps))]
+pub(crate) fn unfold(
+    alloc: Global,
+    locations: &Locations,
+    level: Level,
+    forms: &Forms<'_>,
+    place: usize,
+    numbers: &mut Numbers,
+) -> Result<Expr, Unfit>
+    requires inside { place < length (shapes_of forms.now.forms.items) }
+    requires room { length numbers.old.classes.keys + nodes_of_shape (shape_at (shapes_of forms.now.forms.items) place) < 2 ^ 32 }
+    requires counted { IsCounted numbers.old }
+    ensures unfolded { IfOk result (λ e. numbered (record { network = locations.now; level = level }) (shape_at (shapes_of forms.now.forms.items) place) (numbering_of numbers.old)
+        ≡ record { value = e; after = numbering_of numbers.new }) }
+    ensures counted { OnOk result (IsCounted numbers.new) }
+    ensures too_large { IfErr result (λ e. e ≡ Unfit.TooLarge → 4000000 < symbols_in (numbered (record { network = locations.now; level = level }) (shape_at (shapes_of forms.now.forms.items) place) (numbering_of numbers.old)).after.classes) }
+{
+    match forms.get(place) {
+        Layer::Empty => Ok(Expr::Empty),
+        Layer::Any => {
+            let none: &[Member] = &[];
+            Ok(Expr::Class(class(alloc, locations, level, true, none, numbers)?))
+        }
+        Layer::One(member) => {
+            let members = slice::from_ref(member);
+            Ok(Expr::Class(class(alloc, locations, level, false, members, numbers)?))
+        }
+        Layer::Class { negated, members } => {
+            Ok(Expr::Class(class(alloc, locations, level, negated, members, numbers)?))
+        }
+        Layer::Join(by, a, b) => {
+            let a = unfold(alloc, locations, level, forms, a, numbers)?;
+            let b = unfold(alloc, locations, level, forms, b, numbers)?;
+            Ok(join(alloc, by, a, b)?)
+        }
+        Layer::Not(part) => {
+            let part = unfold(alloc, locations, level, forms, part, numbers)?;
+            Ok(Expr::Not(Boxed::new(alloc, part)?))
+        }
+        Layer::Star(part) => {
+            let part = unfold(alloc, locations, level, forms, part, numbers)?;
+            Ok(Expr::Star(Boxed::new(alloc, part)?))
+        }
+    }
+}
+
+fn join(alloc: Global, by: Joint, a: Expr, b: Expr) -> Result<Expr, AllocError>
+    ensures { IfOk result (λ e. e ≡ expr_joined by a b) }
+{
+    let a = Boxed::new(alloc, a)?;
+    let b = Boxed::new(alloc, b)?;
+    Ok(match by {
+        Joint::Seq => Expr::Seq(a, b),
+        Joint::Alt => Expr::Alt(a, b),
+        Joint::Meet => Expr::Meet(a, b),
+    })
+}
+
+/// The number of a class.
+fn class(
+    alloc: Global,
+    locations: &Locations,
+    level: Level,
+    negated: bool,
+    members: &[Member],
+    numbers: &mut Numbers,
+) -> Result<u32, Unfit>
+    requires room { length numbers.old.classes.keys < 2 ^ 32 }
+    requires counted { IsCounted numbers.old }
+    ensures numbered { IfOk result (λ k. placed (listing (record { network = locations.now; level = level }) negated members.now) (numbering_of numbers.old)
+        ≡ record { value = k; after = numbering_of numbers.new }) }
+    ensures counted { OnOk result (IsCounted numbers.new) }
+    ensures too_large { IfErr result (λ e. e ≡ Unfit.TooLarge → 4000000 < symbols_in (placed (listing (record { network = locations.now; level = level }) negated members.now) (numbering_of numbers.old)).after.classes) }
+{
+    let members = list(alloc, locations, level, members)?;
+    let number = numbers.class(Entry::new(negated, members))?;
+    if numbers.listed > MAX_LISTED {
+        return Err(Unfit::TooLarge);
+    }
+    Ok(number)
+}
