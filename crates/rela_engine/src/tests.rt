@@ -84,10 +84,22 @@ fn missing_words_offend_only_where_all_are_asked_for(rt: HostRuntime) -> Result<
     let other: Nfa<WideSet> = Nfa::word(alloc, 3, &[1])?;
     let both = one.union(alloc, &other)?;
     assert!(rt; first_offence(alloc, false, &both, &both)?.is_none());
-    assert!(rt; is_offence(first_offence(alloc, false, &both, &one)?, Side::Before, &[1]));
+    assert!(rt;
+        is_offence(
+            first_offence(alloc, false, &both, &one)?,
+            Side::Before,
+            &[1]
+        )
+    );
     assert!(rt; is_offence(first_offence(alloc, false, &one, &both)?, Side::After, &[1]));
     assert!(rt; first_offence(alloc, true, &both, &one)?.is_none());
     assert!(rt; is_offence(first_offence(alloc, true, &one, &both)?, Side::After, &[1]));
-    assert!(rt; is_offence(first_offence(alloc, false, &one, &other)?, Side::Before, &[0]));
+    assert!(rt;
+        is_offence(
+            first_offence(alloc, false, &one, &other)?,
+            Side::Before,
+            &[0]
+        )
+    );
     Ok(())
 }
