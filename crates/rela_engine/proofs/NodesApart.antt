@@ -10,7 +10,7 @@ use Rattle.rela_graph.specs.declared.node.Node.{Node}
 use Rattle.rela_labels.specs.Partition.{IsPartition, Together}
 use Rattle.rela_names.specs.declared.level.Level.{Level}
 use Rattle.rela_engine.proofs.SplitBlocks.{contains_one}
-use Rattle.rela_engine.specs.Seen.{AreAtAlike, AreFiner, NodesStandAlone}
+use Rattle.rela_engine.specs.Seen.{AreAtAlike, AreFiner}
 
 -- both are the location of the node, or neither
 abbrev AreBoth : Level → ℕ → ℕ → Node → Type 0

@@ -1,8 +1,8 @@
 -- The row of a check, by what automata over blocks of symbols tell.
-use Rattle.std.proofs.Common.{◌≡◌, ℕ, suc, ◌+◌, ◌<◌, ◌≤◌, ◌⊎◌, ◌↔◌, Bool, true, false, List, [], ◌∷◌, length, map, refl, sym, ap, ◌∙◌, subst, inl, inr, arith}
+use Rattle.std.proofs.Common.{◌≡◌, ℕ, ◌<◌, ◌↔◌, Bool, true, false, List, [], ◌∷◌, map, refl, sym, ◌∙◌, subst, inl, inr}
 use Rattle.std.specs.List.{All}
 use Rattle.std.proofs.lemmas.List.Elements.{All-head, All-tail}
-use Rattle.rela_labels.specs.Partition.{block_of, block_count, IsPartition, IsLeastOf}
+use Rattle.rela_labels.specs.Partition.{block_count, IsPartition}
 use Rattle.rela_names.specs.Shortlex.{IsBefore, First}
 use Rattle.rela_nfa.specs.Automaton.{Automaton, IsAutomaton}
 use Rattle.rela_nfa.specs.Runs.{Accepts}
@@ -20,7 +20,7 @@ use Rattle.rela_compare.proofs.AcceptedLetters.{accepted_letters}
 use Rattle.rela_engine.specs.Reading.{read_by, Recognises, Realises}
 use Rattle.rela_engine.specs.RowOf.{RowOf, IsOffence, relation_of}
 use Rattle.rela_engine.specs.Seen.{AreSeen, AreLeast, IsSource, IsFirstSource, TellsOf}
-use Rattle.rela_engine.proofs.LeastWords.{IsLeast, before_letters, first_symbols, same_words}
+use Rattle.rela_engine.proofs.LeastWords.{before_letters, first_symbols, same_words}
 use Rattle.rela_engine.proofs.Readings.{covered}
 
 -- ---- images told by letters
@@ -139,8 +139,7 @@ module _ (blocks : List ℕ) (is : IsPartition blocks) (words : WordSet) (pairs 
   pub some_source : (letters : List ℕ) → Accepts image letters → (source : List ℕ) × IsSource paths relation letters source
   some_source letters accepted =
       let word = word_for blocks is letters (letters_below blocks image seen.image_ok seen.of_image.letters letters accepted) in
-      let found = (seen.of_image.language word.0).0 (subst (Accepts image) (sym word.1) accepted) in
-      (
+      let found = (seen.of_image.language word.0).0 (subst (Accepts image) (sym word.1) accepted) in (
         map (read_by blocks) found.source,
         subst (λ l. IsSource paths relation l (map (read_by blocks) found.source)) word.1 (source_of found.source word.0 found.in_set found.related),
       )

@@ -1,5 +1,5 @@
 -- The paths of a snapshot and what a relation makes of them, as automata over blocks of symbols.
-use Rattle.std.specs.Prelude.{◌≡◌, ℕ, ◌+◌, ◌↔◌, List, length, map, All}
+use Rattle.std.specs.Prelude.{◌≡◌, ℕ, ◌+◌, ◌↔◌, List, map, All}
 use Rattle.rela_graph.specs.Alone.{StandsAlone}
 use Rattle.rela_graph.specs.Topology.{Topology, symbol_at}
 use Rattle.rela_graph.specs.declared.node.Node.{Node}

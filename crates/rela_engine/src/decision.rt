@@ -71,7 +71,10 @@ pub fn decide_compiled(
         &pair.before,
         &pair.after,
     )?;
-    by_width!(blocks.blocks(), row_over(alloc, compiled, pair, alphabet, &blocks))
+    by_width!(
+        blocks.blocks(),
+        row_over(alloc, compiled, pair, alphabet, &blocks)
+    )
 }
 
 /// The row, by automata whose letters are these blocks.
@@ -90,8 +93,24 @@ fn row_over<L: LabelSet>(
 {
     let level = compiled.level();
     let coarse = compiled.blocks();
-    let before = see::<L>(alloc, &pair.before, level, alphabet, compiled.before(), coarse, blocks)?;
-    let after = see::<L>(alloc, &pair.after, level, alphabet, compiled.after(), coarse, blocks)?;
+    let before = see::<L>(
+        alloc,
+        &pair.before,
+        level,
+        alphabet,
+        compiled.before(),
+        coarse,
+        blocks,
+    )?;
+    let after = see::<L>(
+        alloc,
+        &pair.after,
+        level,
+        alphabet,
+        compiled.after(),
+        coarse,
+        blocks,
+    )?;
     match first_offence(alloc, compiled.at_most(), &before.image, &after.image)? {
         None => Ok(Row::Compliant),
         Some(offence) => match offence.side {

@@ -3,8 +3,10 @@ ghost use Rattle.std.specs.Prelude.{◌≡◌, IfOk, length};
 use crate::blocks::set_apart;
 use crate::complements::complement_over;
 use crate::letter_sets::{letters_below, letters_of};
+use crate::offence::{Offence, first_offence};
 use rela_labels::{LabelSet, Partition, Splitter, WideSet};
 use rela_nfa::Nfa;
+use rela_report::Side;
 use std::alloc::{AllocError, Global};
 use std::test::Fail;
 
@@ -64,5 +66,40 @@ fn other_words_over_some_letters(rt: HostRuntime) -> Result<(), Fail> {
     assert!(rt; others.accepts(alloc, &[2, 0])?);
     assert!(rt; !others.accepts(alloc, &[2])?);
     assert!(rt; !others.accepts(alloc, &[1])?);
+    Ok(())
+}
+
+/// Whether the offence is on this side, by the word of these letters.
+fn is_offence(found: Option<Offence>, side: Side, letters: &[u32]) -> bool {
+    match found {
+        Some(offence) => offence.side == side && offence.letters.as_slice() == letters,
+        None => false,
+    }
+}
+
+#[test]
+fn missing_words_offend_only_where_all_are_asked_for(rt: HostRuntime) -> Result<(), Fail> {
+    let alloc = rt.alloc();
+    let one: Nfa<WideSet> = Nfa::word(alloc, 3, &[0])?;
+    let other: Nfa<WideSet> = Nfa::word(alloc, 3, &[1])?;
+    let both = one.union(alloc, &other)?;
+    assert!(rt; first_offence(alloc, false, &both, &both)?.is_none());
+    assert!(rt;
+        is_offence(
+            first_offence(alloc, false, &both, &one)?,
+            Side::Before,
+            &[1]
+        )
+    );
+    assert!(rt; is_offence(first_offence(alloc, false, &one, &both)?, Side::After, &[1]));
+    assert!(rt; first_offence(alloc, true, &both, &one)?.is_none());
+    assert!(rt; is_offence(first_offence(alloc, true, &one, &both)?, Side::After, &[1]));
+    assert!(rt;
+        is_offence(
+            first_offence(alloc, false, &one, &other)?,
+            Side::Before,
+            &[0]
+        )
+    );
     Ok(())
 }

@@ -35,11 +35,7 @@ pub(crate) fn violated_row<L: LabelSet>(
 }
 
 /// For each letter the least symbol of its block: of the words that are read so, the first.
-fn least_symbols(
-    alloc: Global,
-    blocks: &Partition,
-    letters: &[u32],
-) -> Result<Word, AllocError>
+fn least_symbols(alloc: Global, blocks: &Partition, letters: &[u32]) -> Result<Word, AllocError>
     requires { All (λ k. k < block_count blocks.now) letters.now }
     ensures { IfOk result (AreLeast blocks.now letters.now) }
 {

@@ -1,4 +1,4 @@
-use Rattle.std.proofs.Common.{◌≡◌, ◌∙◌, sym}
+use Rattle.std.proofs.Common.{◌∙◌, sym}
 use Rattle.rela_engine.proofs.Placed.{placed}
 use Rattle.rela_engine.proofs.decision.decide_compiled.Goals as goal
 

@@ -1,4 +1,4 @@
-use Rattle.std.proofs.Common.{◌≡◌, ℕ, List, length, refl, subst}
+use Rattle.std.proofs.Common.{length, refl, subst}
 use Rattle.std.proofs.lemmas.Result.{IfOk-weaker}
 use Rattle.rela_graph.specs.Paths.{Paths}
 use Rattle.rela_report.specs.declared.rows.Side.{Side}
@@ -13,10 +13,10 @@ use Rattle.rela_engine.proofs.decision.row_over.Goals as goal
 pub returns-in-None : goal.returns-in-None
 returns-in-None g c =
     let sides = sides_of c.args.blocks.now c.args.compiled.now.blocks c.blocks-coarse.result.now c.args.compiled.now.check (length c.args.alphabet.now) c.args.compiled.now.locations (Paths c.args.pair.now.before c.args.compiled.now.check.level c.args.alphabet.now) (Paths c.args.pair.now.after c.args.compiled.now.check.level c.args.alphabet.now)
-        c.args.compiled.now.before c.args.compiled.now.after c.before-2.result.now c.after.result.now c.in_ok-before.before.paths c.in_ok-before.before.relation c.in_ok-before.before.image c.in_ok-after.after.paths c.in_ok-after.after.relation c.in_ok-after.after.image
-        c.requires.blocks.partition c.blocks-coarse.ensures.blocks c.before-2.ensures.before c.after.ensures.after c.requires.alphabet
-        c.before-2.ensures.relation c.after.ensures.relation
-        (rw c.level-level.ensures at c.in_ok-before.ensures) (rw c.level-level.ensures at c.in_ok-after.ensures) in
+    c.args.compiled.now.before c.args.compiled.now.after c.before-2.result.now c.after.result.now c.in_ok-before.before.paths c.in_ok-before.before.relation c.in_ok-before.before.image c.in_ok-after.after.paths c.in_ok-after.after.relation c.in_ok-after.after.image
+    c.requires.blocks.partition c.blocks-coarse.ensures.blocks c.before-2.ensures.before c.after.ensures.after c.requires.alphabet
+    c.before-2.ensures.relation c.after.ensures.relation
+    (rw c.level-level.ensures at c.in_ok-before.ensures) (rw c.level-level.ensures at c.in_ok-after.ensures) in
     compliant_row c.args.blocks.now c.args.compiled.now.check (length c.args.alphabet.now) (Paths c.args.pair.now.before c.args.compiled.now.check.level c.args.alphabet.now) (Paths c.args.pair.now.after c.args.compiled.now.check.level c.args.alphabet.now) c.in_ok-before.before.paths c.in_ok-before.before.relation c.in_ok-before.before.image c.in_ok-after.after.paths c.in_ok-after.after.relation c.in_ok-after.after.image sides
     (rw c.at_most.ensures at (rw c.in-None.is at c.in_ok-first_offence.ensures.none))
 
@@ -37,10 +37,10 @@ returns-in-Before g c =
     let accepted = (rw c.in-Before.is at (rw c.in-Some.is at c.in_ok-first_offence.ensures.side)) in
     let first = rw c.at_most.ensures at (rw c.in-Some.is at c.in_ok-first_offence.ensures.first) in
     let sides = sides_of c.args.blocks.now c.args.compiled.now.blocks c.blocks-coarse.result.now c.args.compiled.now.check (length c.args.alphabet.now) c.args.compiled.now.locations (Paths c.args.pair.now.before c.args.compiled.now.check.level c.args.alphabet.now) (Paths c.args.pair.now.after c.args.compiled.now.check.level c.args.alphabet.now)
-        c.args.compiled.now.before c.args.compiled.now.after c.before-2.result.now c.after.result.now c.in_ok-before.before.paths c.in_ok-before.before.relation c.in_ok-before.before.image c.in_ok-after.after.paths c.in_ok-after.after.relation c.in_ok-after.after.image
-        c.requires.blocks.partition c.blocks-coarse.ensures.blocks c.before-2.ensures.before c.after.ensures.after c.requires.alphabet
-        c.before-2.ensures.relation c.after.ensures.relation
-        (rw c.level-level.ensures at c.in_ok-before.ensures) (rw c.level-level.ensures at c.in_ok-after.ensures) in
+    c.args.compiled.now.before c.args.compiled.now.after c.before-2.result.now c.after.result.now c.in_ok-before.before.paths c.in_ok-before.before.relation c.in_ok-before.before.image c.in_ok-after.after.paths c.in_ok-after.after.relation c.in_ok-after.after.image
+    c.requires.blocks.partition c.blocks-coarse.ensures.blocks c.before-2.ensures.before c.after.ensures.after c.requires.alphabet
+    c.before-2.ensures.relation c.after.ensures.relation
+    (rw c.level-level.ensures at c.in_ok-before.ensures) (rw c.level-level.ensures at c.in_ok-after.ensures) in
     IfOk-weaker c.violated_row.result (TellsOf c.args.blocks.now c.in_ok-before.before.paths c.in_ok-before.before.relation letters c.in-Some.offence.side) (RowOf c.args.compiled.now.check (length c.args.alphabet.now) (Paths c.args.pair.now.before c.args.compiled.now.check.level c.args.alphabet.now) (Paths c.args.pair.now.after c.args.compiled.now.check.level c.args.alphabet.now))
     (λ row tells. before_row c.args.blocks.now c.args.compiled.now.check (length c.args.alphabet.now) (Paths c.args.pair.now.before c.args.compiled.now.check.level c.args.alphabet.now) (Paths c.args.pair.now.after c.args.compiled.now.check.level c.args.alphabet.now) c.in_ok-before.before.paths c.in_ok-before.before.relation c.in_ok-before.before.image c.in_ok-after.after.paths c.in_ok-after.after.relation c.in_ok-after.after.image sides letters first accepted row
     (subst (λ (s : Side). TellsOf c.args.blocks.now c.in_ok-before.before.paths c.in_ok-before.before.relation letters s row) c.in-Before.is tells))
@@ -63,10 +63,10 @@ returns g c =
     let accepted = (rw c.in-After.is at (rw c.in-Some.is at c.in_ok-first_offence.ensures.side)) in
     let first = rw c.at_most.ensures at (rw c.in-Some.is at c.in_ok-first_offence.ensures.first) in
     let sides = sides_of c.args.blocks.now c.args.compiled.now.blocks c.blocks-coarse.result.now c.args.compiled.now.check (length c.args.alphabet.now) c.args.compiled.now.locations (Paths c.args.pair.now.before c.args.compiled.now.check.level c.args.alphabet.now) (Paths c.args.pair.now.after c.args.compiled.now.check.level c.args.alphabet.now)
-        c.args.compiled.now.before c.args.compiled.now.after c.before-2.result.now c.after.result.now c.in_ok-before.before.paths c.in_ok-before.before.relation c.in_ok-before.before.image c.in_ok-after.after.paths c.in_ok-after.after.relation c.in_ok-after.after.image
-        c.requires.blocks.partition c.blocks-coarse.ensures.blocks c.before-2.ensures.before c.after.ensures.after c.requires.alphabet
-        c.before-2.ensures.relation c.after.ensures.relation
-        (rw c.level-level.ensures at c.in_ok-before.ensures) (rw c.level-level.ensures at c.in_ok-after.ensures) in
+    c.args.compiled.now.before c.args.compiled.now.after c.before-2.result.now c.after.result.now c.in_ok-before.before.paths c.in_ok-before.before.relation c.in_ok-before.before.image c.in_ok-after.after.paths c.in_ok-after.after.relation c.in_ok-after.after.image
+    c.requires.blocks.partition c.blocks-coarse.ensures.blocks c.before-2.ensures.before c.after.ensures.after c.requires.alphabet
+    c.before-2.ensures.relation c.after.ensures.relation
+    (rw c.level-level.ensures at c.in_ok-before.ensures) (rw c.level-level.ensures at c.in_ok-after.ensures) in
     IfOk-weaker c.violated_row-in-After.result (TellsOf c.args.blocks.now c.in_ok-after.after.paths c.in_ok-after.after.relation letters c.in-Some.offence.side) (RowOf c.args.compiled.now.check (length c.args.alphabet.now) (Paths c.args.pair.now.before c.args.compiled.now.check.level c.args.alphabet.now) (Paths c.args.pair.now.after c.args.compiled.now.check.level c.args.alphabet.now))
     (λ row tells. after_row c.args.blocks.now c.args.compiled.now.check (length c.args.alphabet.now) (Paths c.args.pair.now.before c.args.compiled.now.check.level c.args.alphabet.now) (Paths c.args.pair.now.after c.args.compiled.now.check.level c.args.alphabet.now) c.in_ok-before.before.paths c.in_ok-before.before.relation c.in_ok-before.before.image c.in_ok-after.after.paths c.in_ok-after.after.relation c.in_ok-after.after.image sides letters first accepted row
     (subst (λ (s : Side). TellsOf c.args.blocks.now c.in_ok-after.after.paths c.in_ok-after.after.relation letters s row) c.in-After.is tells))

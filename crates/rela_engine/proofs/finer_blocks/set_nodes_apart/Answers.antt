@@ -1,4 +1,4 @@
-use Rattle.std.proofs.Common.{◌≡◌, ◌∙◌, arith}
+use Rattle.std.proofs.Common.{◌∙◌, arith}
 use Rattle.rela_engine.proofs.NodesApart.{nodes_step, nodes_all}
 use Rattle.rela_engine.proofs.finer_blocks.set_nodes_apart.Goals as goal
 
