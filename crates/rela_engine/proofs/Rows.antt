@@ -13,7 +13,7 @@ use Rattle.rela_report.specs.declared.rows.Side.TheVariants as side
 use Rattle.rela_rir.specs.Words.{WordSet, Relation, ImageOf}
 use Rattle.rela_trans.specs.Machine.{Machine}
 use Rattle.rela_trans.specs.Runs.{Relates}
-use Rattle.rela_trans.proofs.SymbolLetters.{related_letters, related_symbols}
+use Rattle.rela_trans.proofs.SymbolLetters.{letters_related, symbols_related}
 use Rattle.rela_translate.specs.Checked.{Checked}
 use Rattle.rela_translate.specs.Verdict.{AreMet, Offends}
 use Rattle.rela_compare.proofs.AcceptedLetters.{accepted_letters}
@@ -120,7 +120,7 @@ module _ (blocks : List ℕ) (is : IsPartition blocks) (words : WordSet) (pairs 
   path_of : (letters word : List ℕ) → IsSource paths relation (map (read_by blocks) word) letters
       → (u : List ℕ) × (map (read_by blocks) u ≡ letters) × words u × pairs u word
   path_of letters word source =
-      let u = related_symbols (read_by blocks) relation seen.relation_ok
+      let u = symbols_related (read_by blocks) relation seen.relation_ok
       (subst (λ n. (k : ℕ) → k < n → (s : ℕ) × (read_by blocks s ≡ k)) (sym seen.of_relation.letters) (covered blocks is)) letters word source.1 in (
         u.0,
         u.1,
@@ -132,7 +132,7 @@ module _ (blocks : List ℕ) (is : IsPartition blocks) (words : WordSet) (pairs 
   source_of : (u word : List ℕ) → words u → pairs u word → IsSource paths relation (map (read_by blocks) word) (map (read_by blocks) u)
   source_of u word in_words related = (
     (seen.of_paths.language u).1 in_words,
-    related_letters (read_by blocks) relation u word ((seen.of_relation.relation u word).1 related),
+    letters_related (read_by blocks) relation u word ((seen.of_relation.relation u word).1 related),
   )
 
   -- each word of the image has a source
