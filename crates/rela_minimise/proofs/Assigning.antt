@@ -85,19 +85,19 @@ module _ (waiting targets : List ℕ) (i : ℕ) (i_in : i < length waiting) (s b
   }
 
 -- a class to which a state goes is one of the old ones or of the new ones
-pub goes_below : (d : Deterministic) (letters : List ℕ) (s : Stage) (found : List (List ℕ)) (q class : ℕ) → class_of s q < length s.members → Goes d letters s found q class → class < length s.members + length found
-goes_below d letters s found q class own (inl (same, stays)) = omega arith
-goes_below d letters s found q class own (inr (other, (j, below, at, is))) = omega arith
+pub goes_below : (d : Deterministic) (columns : List (List ℕ)) (s : Stage) (found : List (List ℕ)) (q class : ℕ) → class_of s q < length s.members → Goes d columns s found q class → class < length s.members + length found
+goes_below d columns s found q class own (inl (same, stays)) = omega arith
+goes_below d columns s found q class own (inr (other, (j, below, at, is))) = omega arith
 
-pub targets_below : (d : Deterministic) (letters : List ℕ) (s : Stage) (found : List (List ℕ)) (waiting targets : List ℕ) → IsSound d letters s → All (λ q. q < states d) waiting → length targets ≡ length waiting
-    → ((i : ℕ) → i < length waiting → Goes d letters s found (get_or waiting i 0) (get_or targets i 0)) → All (λ class. class < length s.members + length found) targets
-targets_below d letters s found waiting targets sound within each goes =
+pub targets_below : (d : Deterministic) (columns : List (List ℕ)) (s : Stage) (found : List (List ℕ)) (waiting targets : List ℕ) → IsSound d columns s → All (λ q. q < states d) waiting → length targets ≡ length waiting
+    → ((i : ℕ) → i < length waiting → Goes d columns s found (get_or waiting i 0) (get_or targets i 0)) → All (λ class. class < length s.members + length found) targets
+targets_below d columns s found waiting targets sound within each goes =
     All-from_get_or (λ class. class < length s.members + length found) targets 0 (λ i below.
     let i_in : i < length waiting = omega arith in
-    goes_below d letters s found (get_or waiting i 0) (get_or targets i 0) (sound.counted (get_or waiting i 0) (within i 0 i_in)) (goes i i_in))
+    goes_below d columns s found (get_or waiting i 0) (get_or targets i 0) (sound.counted (get_or waiting i 0) (within i 0 i_in)) (goes i i_in))
 
-module _ (d : Deterministic) (letters : List ℕ) (s opened s' : Stage) (found : List (List ℕ)) (waiting targets : List ℕ) (sound : IsSound d letters s) (are_waiting : AreWaiting (states d) s.stale waiting)
-    (goes : (i : ℕ) → i < length waiting → Goes d letters s found (get_or waiting i 0) (get_or targets i 0)) (is : IsOpened s found opened) (are : AreAssigned waiting targets (length waiting) opened s') where
+module _ (d : Deterministic) (columns : List (List ℕ)) (s opened s' : Stage) (found : List (List ℕ)) (waiting targets : List ℕ) (sound : IsSound d columns s) (are_waiting : AreWaiting (states d) s.stale waiting)
+    (goes : (i : ℕ) → i < length waiting → Goes d columns s found (get_or waiting i 0) (get_or targets i 0)) (is : IsOpened s found opened) (are : AreAssigned waiting targets (length waiting) opened s') where
   -- a state that has not been put into a class was not stale
   not_stale : (q : ℕ) → is_stale s'.stale q ≡ is_stale opened.stale q → is_stale s.stale q ≡ false
   not_stale q same = elim (cases_Bool (is_stale s.stale q)) [
@@ -108,7 +108,7 @@ module _ (d : Deterministic) (letters : List ℕ) (s opened s' : Stage) (found :
     | inr fresh ↦ fresh
   ]
 
-  pub is_split : IsSplit d letters s found s'
+  pub is_split : IsSplit d columns s found s'
   is_split = record {
     each = are.each ∙ ap length is.classes ∙ sound.each;
     flagged = are.flagged ∙ ap length is.stale ∙ sound.flagged;
@@ -118,7 +118,7 @@ module _ (d : Deterministic) (letters : List ℕ) (s opened s' : Stage) (found :
       | inl (same, stale_same) ↦
           inl (sound.settled q below (not_stale q stale_same), same ∙ ap (λ cs. get_or cs q 0) is.classes)
       | inr (k, k_in, at, to, fresh, held) ↦
-          subst (λ r. Goes d letters s found r (class_of s' q)) at (subst (Goes d letters s found (get_or waiting k 0)) (sym to) (goes k k_in))
+          subst (λ r. Goes d columns s found r (class_of s' q)) at (subst (Goes d columns s found (get_or waiting k 0)) (sym to) (goes k k_in))
     ];
     fresh = λ q below. elim (are.goes q) [
       | inl (same, stale_same) ↦ stale_same ∙ ap (λ st. get_or st q false) is.stale ∙ not_stale q stale_same

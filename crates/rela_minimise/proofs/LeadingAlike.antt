@@ -1,4 +1,4 @@
--- Letters in the label of one edge, and letters that stand for the others.
+-- Letters in the label of one edge, and the columns of letters.
 use Rattle.std.proofs.Common.{◌≡◌, ℕ, ◌+◌, ◌<◌, ◌≤◌, ◌⊎◌, Bool, true, false, not, cond, ◌&&◌, List, [], ◌∷◌, ◌++◌, length, get_or, map, None, Some, refl, sym, ap, ◌∙◌, subst, inl, inr, arith}
 use Rattle.std.specs.List.{All, Contains, count_by}
 use Rattle.std.specs.Option.{option_map, unwrap_or}
@@ -12,7 +12,7 @@ use Rattle.rela_nfa.specs.declared.edge.Edge.{Edge}
 use Rattle.rela_subset.specs.Deterministic.{Deterministic, IsDeterministic, moves_of, next, states, takes, target}
 use Rattle.rela_subset.proofs.Targets.{step_target}
 use Rattle.rela_subset.proofs.Words.{moves_at, split_at, target_at}
-use Rattle.rela_minimise.specs.Refining.{AreKinds, LeadAlike}
+use Rattle.rela_minimise.specs.Refining.{AreColumns, IsColumn, IsMap, LeadAlike}
 
 first_true : (a b : Bool) → (a && b) ≡ true → a ≡ true
 first_true true b both = refl
@@ -76,39 +76,49 @@ alike_more d rest block narrow j q before here k there =
       ],
     )
 
--- the letters stand for those that are not in the rest
-pub record AreKindsBut (d : Deterministic) (rest : List Bool) (letters : List ℕ) : Type 0 where
+-- a letter that leads as another one has its column
+same_column : (d : Deterministic) (j k : ℕ) (column : List ℕ) → LeadAlike d j k → IsColumn d j column → IsColumn d k column
+same_column d j k column alike is = record { map_of = is.map_of; leads = λ q q_in. is.leads q q_in ∙ alike q q_in }
+
+-- the columns are those of the letters that are not in the rest
+pub record AreColumnsBut (d : Deterministic) (rest : List Bool) (columns : List (List ℕ)) : Type 0 where
   pub size : length rest ≡ length d.over
   pub within : (k : ℕ) → has rest k ≡ true → has d.over k ≡ true
-  pub over : All (λ k. has d.over k ≡ true) letters
-  pub each : (k : ℕ) → has d.over k ≡ true → (has rest k ≡ true) ⊎ ((j : ℕ) × Contains letters j × LeadAlike d j k)
+  pub maps : All (IsMap (states d)) columns
+  pub own : All (λ column. (k : ℕ) × (has d.over k ≡ true) × IsColumn d k column) columns
+  pub each : (k : ℕ) → has d.over k ≡ true → (has rest k ≡ true) ⊎ ((column : List ℕ) × Contains columns column × IsColumn d k column)
 
-pub kinds_none : (d : Deterministic) (rest : List Bool) (letters : List ℕ) → rest ≡ d.over → letters ≡ [] → AreKindsBut d rest letters
-kinds_none d rest letters same none = record {
+pub columns_none : (d : Deterministic) (rest : List Bool) (columns : List (List ℕ)) → rest ≡ d.over → columns ≡ [] → AreColumnsBut d rest columns
+columns_none d rest columns same none = record {
   size = ap length same;
   within = λ k there. subst (λ l. has l k ≡ true) same there;
-  over = subst (All (λ k. has d.over k ≡ true)) (sym none) (All-nil (λ k. has d.over k ≡ true));
+  maps = subst (All (IsMap (states d))) (sym none) (All-nil (IsMap (states d)));
+  own = subst (All (λ column. (k : ℕ) × (has d.over k ≡ true) × IsColumn d k column)) (sym none) (All-nil (λ column. (k : ℕ) × (has d.over k ≡ true) × IsColumn d k column));
   each = λ k over. inl (subst (λ l. has l k ≡ true) (sym same) over);
 }
 
-pub kinds_more : (d : Deterministic) (rest block rest' : List Bool) (letters letters' : List ℕ) (j : ℕ) → AreKindsBut d rest letters → has rest j ≡ true → letters' ≡ letters ++ j ∷ []
-    → ((k : ℕ) → has block k ≡ true → (has rest k ≡ true) × LeadAlike d j k) → length rest' ≡ length rest → ((k : ℕ) → has rest' k ≡ (has rest k && not (has block k))) → AreKindsBut d rest' letters'
-kinds_more d rest block rest' letters letters' j are there pushed alike size left = record {
+pub columns_more : (d : Deterministic) (rest block rest' : List Bool) (columns columns' : List (List ℕ)) (j : ℕ) (column : List ℕ) → AreColumnsBut d rest columns → has rest j ≡ true
+    → IsColumn d j column → columns' ≡ columns ++ column ∷ [] → ((k : ℕ) → has block k ≡ true → (has rest k ≡ true) × LeadAlike d j k) → length rest' ≡ length rest
+    → ((k : ℕ) → has rest' k ≡ (has rest k && not (has block k))) → AreColumnsBut d rest' columns'
+columns_more d rest block rest' columns columns' j column are there is pushed alike size left = record {
   size = size ∙ are.size;
   within = λ k in_rest. are.within k (first_true (has rest k) (not (has block k)) (sym (left k) ∙ in_rest));
-  over = subst (All (λ k. has d.over k ≡ true)) (sym pushed) (All-push (λ k. has d.over k ≡ true) letters j are.over (are.within j there));
+  maps = subst (All (IsMap (states d))) (sym pushed) (All-push (IsMap (states d)) columns column are.maps is.map_of);
+  own = subst (All (λ c. (k : ℕ) × (has d.over k ≡ true) × IsColumn d k c)) (sym pushed)
+      (All-push (λ c. (k : ℕ) × (has d.over k ≡ true) × IsColumn d k c) columns column are.own (j, are.within j there, is));
   each = λ k over. elim (are.each k over) [
     | inl in_rest ↦ elim (cases_Bool (has block k)) [
-      | inl inside ↦ inr (j, subst (λ l. Contains l j) (sym pushed) (Contains-push letters j), (alike k inside).1)
+      | inl inside ↦ inr (column, subst (λ l. Contains l column) (sym pushed) (Contains-push columns column), same_column d j k column (alike k inside).1 is)
       | inr outside ↦ inl (left k ∙ both_true (has rest k) (not (has block k)) in_rest (ap not outside))
     ]
-    | inr (i, among, leads) ↦ inr (i, subst (λ l. Contains l i) (sym pushed) (Contains-append_left letters (j ∷ []) i among), leads)
+    | inr (earlier, among, leads) ↦ inr (earlier, subst (λ l. Contains l earlier) (sym pushed) (Contains-append_left columns (column ∷ []) earlier among), leads)
   ];
 }
 
-pub kinds_all : (d : Deterministic) (rest : List Bool) (letters : List ℕ) → AreKindsBut d rest letters → ((k : ℕ) → has rest k ≡ false) → AreKinds d letters
-kinds_all d rest letters are none = record {
-  over = are.over;
+pub columns_all : (d : Deterministic) (rest : List Bool) (columns : List (List ℕ)) → AreColumnsBut d rest columns → ((k : ℕ) → has rest k ≡ false) → AreColumns d columns
+columns_all d rest columns are none = record {
+  maps = are.maps;
+  own = are.own;
   each = λ k over. elim (are.each k over) [
     | inl in_rest ↦ absurd (false≢true (sym (none k) ∙ in_rest))
     | inr listed ↦ listed

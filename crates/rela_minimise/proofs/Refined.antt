@@ -12,7 +12,7 @@ use Rattle.rela_subset.specs.Deterministic.{Deterministic, IsDeterministic, IsOv
 use Rattle.rela_subset.proofs.Targets.{target_step}
 use Rattle.rela_subset.proofs.Words.{next_within, target_at}
 use Rattle.rela_minimise.specs.Classes.{AreClasses, finality}
-use Rattle.rela_minimise.specs.Refining.{AreKinds, ArePredecessors, AreWaiting, IsAfter, IsCoarse, IsRefining, IsSound, IsStable, IsStart, Marks, PrecedesNew, Stage, class_of, is_stale}
+use Rattle.rela_minimise.specs.Refining.{AreColumns, ArePredecessors, AreWaiting, IsAfter, IsCoarse, IsRefining, IsSound, IsStable, IsStart, Marks, PrecedesNew, Stage, class_of, is_stale}
 use Rattle.rela_minimise.proofs.Alike.{truth_same}
 use Rattle.rela_minimise.proofs.Signing.{same_final, same_leads, signature_same}
 
@@ -25,8 +25,8 @@ all_waiting n stale waiting flagged each own = record {
   states = All-from_get_or (λ q. q < n) waiting 0 (λ i below. let at = own i (omega arith) in omega arith);
 }
 
-pub refining_first : (d : Deterministic) (letters : List ℕ) (s : Stage) (waiting : List ℕ) → IsDeterministic d → IsStart (states d) s → length waiting ≡ states d → ((q : ℕ) → q < states d → get_or waiting q 0 ≡ q) → IsRefining d letters 0 s waiting
-refining_first d letters s waiting ok is each own =
+pub refining_first : (d : Deterministic) (columns : List (List ℕ)) (s : Stage) (waiting : List ℕ) → IsDeterministic d → IsStart (states d) s → length waiting ≡ states d → ((q : ℕ) → q < states d → get_or waiting q 0 ≡ q) → IsRefining d columns 0 s waiting
+refining_first d columns s waiting ok is each own =
     let count : length s.members ≡ 1 = ap length is.members in
     let flagged : length s.stale ≡ states d = ap length is.stale ∙ length-replicate (states d) true in
     let class_zero = λ (q : ℕ) (below : q < states d). let at : class_of s q ≡ 0 = ap (λ cs. get_or cs q 0) is.classes ∙ get_or-replicate (states d) q 0 0 below in at in
@@ -57,14 +57,14 @@ refining_first d letters s waiting ok is each own =
       | inr past ↦ get_or_past ([] ∷ []) c [] past
     ]
 
-module _ (d : Deterministic) (ok : IsDeterministic d) (letters : List ℕ) (are : AreKinds d letters) where
+module _ (d : Deterministic) (ok : IsDeterministic d) (columns : List (List ℕ)) (are : AreColumns d columns) where
   -- a state precedes those to which letters lead from it
   precedes : (lists : List (List ℕ)) → ArePredecessors d lists → (q k : ℕ) → q < states d → has d.over k ≡ true → Contains (get_or lists (next d q k) []) q
   precedes lists pred q k below over =
       let (set, among, has_k) = target_step (moves_of d q) k (next d q k) (target_at d ok q k below over) in
       pred.all q (record { label = Some set; to = next d q k }) below among
 
-  module _ (start s : Stage) (stale : List Bool) (waiting : List ℕ) (lists : List (List ℕ)) (pred : ArePredecessors d lists) (after : IsAfter d letters start s)
+  module _ (start s : Stage) (stale : List Bool) (waiting : List ℕ) (lists : List (List ℕ)) (pred : ArePredecessors d lists) (after : IsAfter d columns start s)
       (marks : Marks (PrecedesNew lists s.members (length start.members) (length s.members)) s.stale [] stale waiting) where
     abbrev marked : Stage
     marked = record { classes = s.classes; members = s.members; signatures = s.signatures; stale = stale }
@@ -89,7 +89,7 @@ module _ (d : Deterministic) (ok : IsDeterministic d) (letters : List ℕ) (are 
       | inr past ↦ absurd (false≢true (sym (get_or_past s.stale q false (let flagged = after.flagged in omega arith)) ∙ is))
     ]
 
-    pub refining_next : IsRefining d letters (length start.members) marked waiting
+    pub refining_next : IsRefining d columns (length start.members) marked waiting
     refining_next = record {
       sound = record {
         each = after.each;
@@ -98,7 +98,7 @@ module _ (d : Deterministic) (ok : IsDeterministic d) (letters : List ℕ) (are 
         counted = after.counted;
         within = after.within;
         held = λ q below fresh. after.held q below;
-        settled = λ q below fresh. signature_same d ok letters are s.classes start.classes q q refl (λ k over. leads_old q k below fresh over) ∙ after.settled q below;
+        settled = λ q below fresh. signature_same d ok columns are s.classes start.classes q q below below refl (λ k over. leads_old q k below fresh over) ∙ after.settled q below;
       };
       coarse = record { accepting = after.coarse.accepting; signing = after.coarse.signing; met = after.coarse.met };
       waits = record {
@@ -109,7 +109,7 @@ module _ (d : Deterministic) (ok : IsDeterministic d) (letters : List ℕ) (are 
       stable = λ same. after.stable (sym same);
     }
 
-  module _ (s : Stage) (coarse : IsCoarse d letters s) (sound : IsSound d letters s) where
+  module _ (s : Stage) (coarse : IsCoarse d columns s) (sound : IsSound d columns s) where
     pub few_classes : length s.members ≤ states d
     few_classes =
         let few = le-length_from_below s.classes (length s.members) (λ c below.
@@ -119,14 +119,14 @@ module _ (d : Deterministic) (ok : IsDeterministic d) (letters : List ℕ) (are 
         let each = sound.each in
         omega arith
 
-    accept_stable : IsStable d letters s → (word : List ℕ) (p q : ℕ) → p < states d → q < states d → class_of s p ≡ class_of s q → IsOver d.over word → IsFinal d (led_from d p word) ↔ IsFinal d (led_from d q word)
-    accept_stable stable [] p q p_in q_in same over = truth_same (finality d p) (finality d q) (same_final d ok letters are s.classes s.classes p q (stable p q p_in q_in same))
+    accept_stable : IsStable d columns s → (word : List ℕ) (p q : ℕ) → p < states d → q < states d → class_of s p ≡ class_of s q → IsOver d.over word → IsFinal d (led_from d p word) ↔ IsFinal d (led_from d q word)
+    accept_stable stable [] p q p_in q_in same over = truth_same (finality d p) (finality d q) (same_final d ok columns are s.classes s.classes p q (stable p q p_in q_in same))
     accept_stable stable (k ∷ rest) p q p_in q_in same over =
         let read : has d.over k ≡ true = All-head (λ j. has d.over j ≡ true) k rest over in
         accept_stable stable rest (next d p k) (next d q k) (next_within d ok p k p_in read) (next_within d ok q k q_in read)
-        (same_leads d ok letters are s.classes s.classes p q p_in q_in (stable p q p_in q_in same) k read) (All-tail (λ j. has d.over j ≡ true) k rest over)
+        (same_leads d ok columns are s.classes s.classes p q p_in q_in (stable p q p_in q_in same) k read) (All-tail (λ j. has d.over j ≡ true) k rest over)
 
-    pub refined_classes : IsStable d letters s → AreClasses d (length s.members) s.classes
+    pub refined_classes : IsStable d columns s → AreClasses d (length s.members) s.classes
     refined_classes stable = record {
       each = sound.each;
       alike = λ p q p_in q_in. (λ same word over. accept_stable stable word p q p_in q_in same over, coarse.accepting p q p_in q_in);

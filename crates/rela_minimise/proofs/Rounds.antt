@@ -8,17 +8,17 @@ use Rattle.rela_subset.specs.Deterministic.{Deterministic, IsDeterministic, next
 use Rattle.rela_subset.specs.Sets.{AreDistinct}
 use Rattle.rela_subset.proofs.Words.{next_within}
 use Rattle.rela_minimise.specs.Classes.{AcceptSame}
-use Rattle.rela_minimise.specs.Refining.{AreFrom, AreKinds, AreOrigins, AreWaiting, Goes, HasSettled, IsAfter, IsCoarse, IsHeld, IsSplit, IsStable, Settles, Stage, class_of, is_stale, signature}
+use Rattle.rela_minimise.specs.Refining.{AreFrom, AreColumns, AreOrigins, AreWaiting, Goes, HasSettled, IsAfter, IsCoarse, IsHeld, IsSplit, IsStable, Settles, Stage, class_of, is_stale, signature}
 use Rattle.rela_minimise.proofs.Alike.{accept_final, accept_next}
 use Rattle.rela_minimise.proofs.Assigning.{goes_below}
 use Rattle.rela_minimise.proofs.Signing.{same_final, same_leads, signature_same}
 
-module _ (d : Deterministic) (ok : IsDeterministic d) (letters : List ℕ) (are : AreKinds d letters) (start s s' : Stage) (found : List (List ℕ)) (waiting targets : List ℕ)
-    (coarse : IsCoarse d letters start) (are_waiting : AreWaiting (states d) start.stale waiting) (settles : Settles d letters start s) (each_settled : All (HasSettled s) waiting)
-    (goes : (i : ℕ) → i < length waiting → Goes d letters s found (get_or waiting i 0) (get_or targets i 0))
-    (used : (j : ℕ) → j < length found → (i : ℕ) × (i < length waiting) × (get_or targets i 0 ≡ length s.members + j)) (distinct : AreDistinct found) (is : IsSplit d letters s found s') where
+module _ (d : Deterministic) (ok : IsDeterministic d) (columns : List (List ℕ)) (are : AreColumns d columns) (start s s' : Stage) (found : List (List ℕ)) (waiting targets : List ℕ)
+    (coarse : IsCoarse d columns start) (are_waiting : AreWaiting (states d) start.stale waiting) (settles : Settles d columns start s) (each_settled : All (HasSettled s) waiting)
+    (goes : (i : ℕ) → i < length waiting → Goes d columns s found (get_or waiting i 0) (get_or targets i 0))
+    (used : (j : ℕ) → j < length found → (i : ℕ) × (i < length waiting) × (get_or targets i 0 ≡ length s.members + j)) (distinct : AreDistinct found) (is : IsSplit d columns s found s') where
   sign : ℕ → List ℕ
-  sign = signature d letters s.classes
+  sign = signature d columns s.classes
 
   old_signature : (c : ℕ) → c < length s.members → get_or s'.signatures c [] ≡ get_or s.signatures c []
   old_signature c below = ap (λ l. get_or l c []) is.signatures ∙ get_or_append_left s.signatures found [] c (let signed = settles.sound.signed in omega arith)
@@ -29,7 +29,7 @@ module _ (d : Deterministic) (ok : IsDeterministic d) (letters : List ℕ) (are 
       ∙ ap (λ l. get_or l (length s.signatures + j) []) is.signatures
       ∙ get_or-append-add s.signatures found j []
 
-  settled_at : (q : ℕ) → q < states d → (class : ℕ) → Goes d letters s found q class → sign q ≡ get_or s'.signatures class []
+  settled_at : (q : ℕ) → q < states d → (class : ℕ) → Goes d columns s found q class → sign q ≡ get_or s'.signatures class []
   unfolding sign
   settled_at q below class (inl (same, stays)) = same ∙ sym (ap (λ c. get_or s'.signatures c []) stays ∙ old_signature (class_of s q) (settles.sound.counted q below))
   settled_at q below class (inr (other, (j, j_in, at, to))) = sym at ∙ sym (ap (λ c. get_or s'.signatures c []) to ∙ new_signature j)
@@ -37,7 +37,7 @@ module _ (d : Deterministic) (ok : IsDeterministic d) (letters : List ℕ) (are 
   after_signed : (q : ℕ) → q < states d → sign q ≡ get_or s'.signatures (class_of s' q) []
   after_signed q below = settled_at q below (class_of s' q) (is.goes q below)
 
-  stays_old : (q class : ℕ) → Goes d letters s found q class → class < length s.members → class ≡ class_of s q
+  stays_old : (q class : ℕ) → Goes d columns s found q class → class < length s.members → class ≡ class_of s q
   stays_old q class (inl (same, stays)) below = stays
   stays_old q class (inr (other, (j, j_in, at, to))) below = absurd (omega (arith, below, to))
 
@@ -48,7 +48,7 @@ module _ (d : Deterministic) (ok : IsDeterministic d) (letters : List ℕ) (are 
   ]
 
   -- states of one class that have the same signature go to the same class
-  go_together : (p q class class' : ℕ) → class_of s p ≡ class_of s q → sign p ≡ sign q → Goes d letters s found p class → Goes d letters s found q class' → class ≡ class'
+  go_together : (p q class class' : ℕ) → class_of s p ≡ class_of s q → sign p ≡ sign q → Goes d columns s found p class → Goes d columns s found q class' → class ≡ class'
   unfolding sign
   go_together p q class class' own same (inl (p_same, p_stays)) (inl (q_same, q_stays)) = p_stays ∙ own ∙ sym q_stays
   go_together p q class class' own same (inl (p_same, p_stays)) (inr (q_other, q_goes)) = absurd (q_other (sym same ∙ p_same ∙ ap (λ c. get_or s.signatures c []) own))
@@ -60,9 +60,9 @@ module _ (d : Deterministic) (ok : IsDeterministic d) (letters : List ℕ) (are 
   class_start : (q : ℕ) → class_of s q ≡ class_of start q
   class_start q = ap (λ cs. get_or cs q 0) settles.classes
 
-  sign_start : (q : ℕ) → sign q ≡ signature d letters start.classes q
+  sign_start : (q : ℕ) → sign q ≡ signature d columns start.classes q
   unfolding sign
-  sign_start q = ap (λ cs. signature d letters cs q) settles.classes
+  sign_start q = ap (λ cs. signature d columns cs q) settles.classes
 
   one_class : (p q : ℕ) → p < states d → q < states d → sign p ≡ sign q → class_of s' p ≡ class_of s' q
   one_class p q p_in q_in same =
@@ -94,12 +94,12 @@ module _ (d : Deterministic) (ok : IsDeterministic d) (letters : List ℕ) (are 
         | inr moves ↦ absurd (moves.0 (settles.sound.settled r r_in fresh))
       ]
 
-  goes_new : (q class j : ℕ) → q < states d → Goes d letters s found q class → class ≡ length s.members + j → j < length found → (sign q ≢ get_or s.signatures (class_of s q) []) × (get_or found j [] ≡ sign q)
+  goes_new : (q class j : ℕ) → q < states d → Goes d columns s found q class → class ≡ length s.members + j → j < length found → (sign q ≢ get_or s.signatures (class_of s q) []) × (get_or found j [] ≡ sign q)
   unfolding sign
   goes_new q class j q_in (inl (same, stays)) to j_in = absurd (let counted = settles.sound.counted q q_in in omega (arith, stays, to, counted))
   goes_new q class j q_in (inr (other, (i, i_in, at, is_to))) to j_in = let number : i ≡ j = omega (arith, to, is_to) in (other, ap (λ n. get_or found n []) (sym number) ∙ at)
 
-  stays_new : (q class j : ℕ) → sign q ≢ get_or s.signatures (class_of s q) [] → get_or found j [] ≡ sign q → j < length found → Goes d letters s found q class → class ≡ length s.members + j
+  stays_new : (q class j : ℕ) → sign q ≢ get_or s.signatures (class_of s q) [] → get_or found j [] ≡ sign q → j < length found → Goes d columns s found q class → class ≡ length s.members + j
   unfolding sign
   stays_new q class j other at j_in (inl (same, stays)) = absurd (other same)
   stays_new q class j other at j_in (inr (_, (i, i_in, i_at, to))) = to ∙ ap (λ n. length s.members + n) (one_number i j i_in j_in (i_at ∙ sym at))
@@ -112,13 +112,13 @@ module _ (d : Deterministic) (ok : IsDeterministic d) (letters : List ℕ) (are 
       let (other, at) = goes_new q (get_or targets i 0) j q_in (goes i i_in) to below in
       (q, q_in, stays_new q (class_of s' q) j other at below (is.goes q q_in))
 
-  leads_same : (p q : ℕ) → p < states d → q < states d → signature d letters s'.classes p ≡ signature d letters s'.classes q → sign p ≡ sign q
+  leads_same : (p q : ℕ) → p < states d → q < states d → signature d columns s'.classes p ≡ signature d columns s'.classes q → sign p ≡ sign q
   unfolding sign
   leads_same p q p_in q_in same =
-      signature_same d ok letters are s.classes s.classes p q (same_final d ok letters are s'.classes s'.classes p q same) (λ k over.
+      signature_same d ok columns are s.classes s.classes p q p_in q_in (same_final d ok columns are s'.classes s'.classes p q same) (λ k over.
       let p_next = next_within d ok p k p_in over in
       let q_next = next_within d ok q k q_in over in
-      let one = one_sign (next d p k) (next d q k) p_next q_next (same_leads d ok letters are s'.classes s'.classes p q p_in q_in same k over) in
+      let one = one_sign (next d p k) (next d q k) p_next q_next (same_leads d ok columns are s'.classes s'.classes p q p_in q_in same k over) in
       class_start (next d p k)
       ∙ coarse.signing (next d p k) (next d q k) p_next q_next (sym (sign_start (next d p k)) ∙ one ∙ sign_start (next d q k))
       ∙ sym (class_start (next d q k)))
@@ -126,12 +126,12 @@ module _ (d : Deterministic) (ok : IsDeterministic d) (letters : List ℕ) (are 
   accept_sign : (p q : ℕ) → p < states d → q < states d → AcceptSame d p q → sign p ≡ sign q
   unfolding sign
   accept_sign p q p_in q_in same =
-      signature_same d ok letters are s.classes s.classes p q (accept_final d p q same) (λ k over.
+      signature_same d ok columns are s.classes s.classes p q p_in q_in (accept_final d p q same) (λ k over.
       class_start (next d p k)
       ∙ coarse.accepting (next d p k) (next d q k) (next_within d ok p k p_in over) (next_within d ok q k q_in over) (accept_next d p q k over same)
       ∙ sym (class_start (next d q k)))
 
-  after_coarse : IsCoarse d letters s'
+  after_coarse : IsCoarse d columns s'
   after_coarse = record {
     accepting = λ p q p_in q_in same. one_class p q p_in q_in (accept_sign p q p_in q_in same);
     signing = λ p q p_in q_in same. one_class p q p_in q_in (leads_same p q p_in q_in same);
@@ -147,21 +147,21 @@ module _ (d : Deterministic) (ok : IsDeterministic d) (letters : List ℕ) (are 
       above : (c n : ℕ) → n ≤ c → (j : ℕ) × (c ≡ n + j)
       above c n le = (c - n, omega arith)
 
-  after_stable : length s'.members ≡ length start.members → IsStable d letters s'
+  after_stable : length s'.members ≡ length start.members → IsStable d columns s'
   unfolding sign
   after_stable same p q p_in q_in one =
       let stays = λ (r : ℕ) (r_in : r < states d). let at : class_of s' r ≡ class_of s r = stays_old r (class_of s' r) (is.goes r r_in)
-      (let below = goes_below d letters s found r (class_of s' r) (settles.sound.counted r r_in) (is.goes r r_in) in let grown = is.count in let count = settles.count in omega arith) in at in
-      let as_before = λ (r : ℕ) (r_in : r < states d). let at : signature d letters s'.classes r ≡ signature d letters s.classes r = signature_same d ok letters are s'.classes s.classes r r refl (λ k over. stays (next d r k) (next_within d ok r k r_in over)) in at in
+      (let below = goes_below d columns s found r (class_of s' r) (settles.sound.counted r r_in) (is.goes r r_in) in let grown = is.count in let count = settles.count in omega arith) in at in
+      let as_before = λ (r : ℕ) (r_in : r < states d). let at : signature d columns s'.classes r ≡ signature d columns s.classes r = signature_same d ok columns are s'.classes s.classes r r r_in r_in refl (λ k over. stays (next d r k) (next_within d ok r k r_in over)) in at in
       as_before p p_in ∙ one_sign p q p_in q_in one ∙ sym (as_before q q_in)
 
-  pub after_split : IsAfter d letters start s'
+  pub after_split : IsAfter d columns start s'
   unfolding sign
   after_split = record {
     each = is.each;
     flagged = is.flagged;
     signed = ap length is.signatures ∙ length-append s.signatures found ∙ ap (λ n. n + length found) settles.sound.signed ∙ sym is.count;
-    counted = λ q below. subst (λ n. class_of s' q < n) (sym is.count) (goes_below d letters s found q (class_of s' q) (settles.sound.counted q below) (is.goes q below));
+    counted = λ q below. subst (λ n. class_of s' q < n) (sym is.count) (goes_below d columns s found q (class_of s' q) (settles.sound.counted q below) (is.goes q below));
     within = is.within;
     held = is.held;
     fresh = is.fresh;
@@ -172,9 +172,9 @@ module _ (d : Deterministic) (ok : IsDeterministic d) (letters : List ℕ) (are 
     stable = after_stable;
   }
 
-module _ (d : Deterministic) (letters : List ℕ) (start s s' : Stage) (found : List (List ℕ)) (waiting targets origins : List ℕ) (coarse : IsCoarse d letters start) (within : All (λ q. q < states d) waiting) (settles : Settles d letters start s)
-    (goes : (i : ℕ) → i < length waiting → Goes d letters s found (get_or waiting i 0) (get_or targets i 0)) (is : IsSplit d letters s found s') (are_origins : AreOrigins s waiting targets (length found) origins) where
-  sign_new : (q class j : ℕ) → q < states d → Goes d letters s found q class → class ≡ length s.members + j → get_or found j [] ≡ signature d letters s.classes q
+module _ (d : Deterministic) (columns : List (List ℕ)) (start s s' : Stage) (found : List (List ℕ)) (waiting targets origins : List ℕ) (coarse : IsCoarse d columns start) (within : All (λ q. q < states d) waiting) (settles : Settles d columns start s)
+    (goes : (i : ℕ) → i < length waiting → Goes d columns s found (get_or waiting i 0) (get_or targets i 0)) (is : IsSplit d columns s found s') (are_origins : AreOrigins s waiting targets (length found) origins) where
+  sign_new : (q class j : ℕ) → q < states d → Goes d columns s found q class → class ≡ length s.members + j → get_or found j [] ≡ signature d columns s.classes q
   sign_new q class j q_in (inl (same, stays)) to = absurd (let counted = settles.sound.counted q q_in in omega (arith, stays, to, counted))
   sign_new q class j q_in (inr (other, (i, i_in, at, is_to))) to = let number : i ≡ j = omega (arith, to, is_to) in ap (λ n. get_or found n []) (sym number) ∙ at
 
@@ -187,8 +187,8 @@ module _ (d : Deterministic) (letters : List ℕ) (start s s' : Stage) (found : 
       let other_in : other < states d = within i 0 i_in in
       let q_sign = sign_new q (class_of s' q) j q_in (is.goes q q_in) (let count = settles.count in omega arith) in
       let other_sign = sign_new other (get_or targets i 0) j other_in (goes i i_in) to in
-      let same : signature d letters start.classes q ≡ signature d letters start.classes other =
-      ap (λ cs. signature d letters cs q) (sym settles.classes) ∙ sym q_sign ∙ other_sign ∙ ap (λ cs. signature d letters cs other) settles.classes in
+      let same : signature d columns start.classes q ≡ signature d columns start.classes other =
+      ap (λ cs. signature d columns cs q) (sym settles.classes) ∙ sym q_sign ∙ other_sign ∙ ap (λ cs. signature d columns cs other) settles.classes in
       coarse.signing q other q_in other_in same ∙ sym (ap (λ cs. get_or cs other 0) settles.classes) ∙ sym own
 
   pub origins_below : All (λ class. class < length s.members) origins

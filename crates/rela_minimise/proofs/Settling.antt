@@ -8,7 +8,7 @@ use Rattle.rela_subset.specs.Deterministic.{Deterministic, states}
 use Rattle.rela_minimise.specs.Refining.{AreWaiting, HasSettled, IsSettledIn, IsSound, Settles, Stage, class_of, is_stale, signature}
 use Rattle.rela_minimise.proofs.Putting.{IsPut, is_put, put_here, put_kept, put_within}
 
-module _ (d : Deterministic) (letters : List ℕ) (s : Stage) (sound : IsSound d letters s) (class : ℕ) (class_in : class < length s.members) (list : List ℕ)
+module _ (d : Deterministic) (columns : List (List ℕ)) (s : Stage) (sound : IsSound d columns s) (class : ℕ) (class_in : class < length s.members) (list : List ℕ)
     (kept : (q : ℕ) → Contains (get_or s.members class []) q → IsSettledIn s.classes s.stale class q → Contains list q) (within : All (λ q. q < states d) list) where
   -- the same classes with fewer members that are stale
   abbrev fewer_members : Stage
@@ -31,7 +31,7 @@ module _ (d : Deterministic) (letters : List ℕ) (s : Stage) (sound : IsSound d
     | inr other ↦ subst (All (λ q. q < states d)) (sym (get_or-set_other s.members class c list [] other)) (sound.within c)
   ]
 
-  pub sound_with : (s' : Stage) → s'.classes ≡ s.classes → s'.members ≡ set s.members class list → s'.signatures ≡ s.signatures → s'.stale ≡ s.stale → Settles d letters s s'
+  pub sound_with : (s' : Stage) → s'.classes ≡ s.classes → s'.members ≡ set s.members class list → s'.signatures ≡ s.signatures → s'.stale ≡ s.stale → Settles d columns s s'
   sound_with s' classes members signatures stale =
       let make = λ (cs : List ℕ) (ms : List (List ℕ)) (ss : List (List ℕ)) (st : List Bool). let made : Stage = record { classes = cs; members = ms; signatures = ss; stale = st } in made in
       let same : s' ≡ fewer_members =
@@ -39,7 +39,7 @@ module _ (d : Deterministic) (letters : List ℕ) (s : Stage) (sound : IsSound d
       ∙ ap (λ ms. make s.classes ms s'.signatures s'.stale) members
       ∙ ap (λ ss. make s.classes (set s.members class list) ss s'.stale) signatures
       ∙ ap (λ st. make s.classes (set s.members class list) s.signatures st) stale in
-      subst (Settles d letters s) (sym same) (record {
+      subst (Settles d columns s) (sym same) (record {
         sound = record {
           each = sound.each;
           flagged = sound.flagged;
@@ -57,12 +57,12 @@ module _ (d : Deterministic) (letters : List ℕ) (s : Stage) (sound : IsSound d
   -- where no member of the class is settled, one is given the class's signature
   pub sound_first : (q : ℕ) → q < states d → class_of s q ≡ class → ((r : ℕ) → Contains (get_or s.members class []) r → ¬ IsSettledIn s.classes s.stale class r)
       → (s' : Stage) → s'.classes ≡ s.classes → s'.members ≡ set (set s.members class list) class (get_or (set s.members class list) class [] ++ q ∷ [])
-      → s'.signatures ≡ set s.signatures class (signature d letters s.classes q) → s'.stale ≡ set s.stale q false → Settles d letters s s' × HasSettled s' q
+      → s'.signatures ≡ set s.signatures class (signature d columns s.classes q) → s'.stale ≡ set s.stale q false → Settles d columns s s' × HasSettled s' q
   sound_first q q_in own none s' classes members signatures stale =
       let size = length-set s.members class list in
       let put : IsPut (set s.members class list) class q s'.members = is_put (set s.members class list) class q s'.members (omega arith) members in
       let stale_len : length s'.stale ≡ length s.stale = ap length stale ∙ length-set s.stale q false in
-      let signs_len : length s'.signatures ≡ length s.signatures = ap length signatures ∙ length-set s.signatures class (signature d letters s.classes q) in
+      let signs_len : length s'.signatures ≡ length s.signatures = ap length signatures ∙ length-set s.signatures class (signature d columns s.classes q) in
       let class_same = λ (r : ℕ). let at : class_of s' r ≡ class_of s r = ap (λ cs. get_or cs r 0) classes in at in
       let fresh_here : is_stale s'.stale q ≡ false = ap (λ st. get_or st q false) stale ∙ get_or-set_same s.stale q false false (let flagged = sound.flagged in omega arith) in
       let stale_others = λ (r : ℕ) (other : r ≢ q). let at : is_stale s'.stale r ≡ is_stale s.stale r = ap (λ st. get_or st r false) stale ∙ get_or-set_other s.stale q r false false other in at in
@@ -83,17 +83,17 @@ module _ (d : Deterministic) (letters : List ℕ) (s : Stage) (sound : IsSound d
                   subst (λ c. Contains (get_or s'.members c []) r) (sym (class_same r))
                   (put_kept (set s.members class list) class q s'.members put (class_of s r) r (still_held r below (sym (stale_others r other) ∙ fresh)))
             ];
-            settled = λ r below fresh. subst (λ cs. signature d letters cs r ≡ get_or s'.signatures (get_or cs r 0) []) (sym classes) (elim (cases_eq r q) [
+            settled = λ r below fresh. subst (λ cs. signature d columns cs r ≡ get_or s'.signatures (get_or cs r 0) []) (sym classes) (elim (cases_eq r q) [
               | inl here ↦
-                  ap (signature d letters s.classes) here
+                  ap (signature d columns s.classes) here
                   ∙ sym (ap (λ ss. get_or ss (class_of s r) []) signatures
-                  ∙ ap (λ c. get_or (set s.signatures class (signature d letters s.classes q)) c []) (ap (class_of s) here ∙ own)
-                  ∙ get_or-set_same s.signatures class (signature d letters s.classes q) [] (let signed = sound.signed in omega arith))
+                  ∙ ap (λ c. get_or (set s.signatures class (signature d columns s.classes q)) c []) (ap (class_of s) here ∙ own)
+                  ∙ get_or-set_same s.signatures class (signature d columns s.classes q) [] (let signed = sound.signed in omega arith))
               | inr other ↦
                   let still : is_stale s.stale r ≡ false = sym (stale_others r other) ∙ fresh in
                   sound.settled r below still
                   ∙ sym (ap (λ ss. get_or ss (class_of s r) []) signatures
-                  ∙ get_or-set_other s.signatures class (class_of s r) (signature d letters s.classes q) [] (settled_here r below still))
+                  ∙ get_or-set_other s.signatures class (class_of s r) (signature d columns s.classes q) [] (settled_here r below still))
             ]);
           };
           classes = classes;
@@ -106,11 +106,11 @@ module _ (d : Deterministic) (letters : List ℕ) (s : Stage) (sound : IsSound d
         (q, record { state = subst (λ cs. q < length cs) (sym classes) (let each = sound.each in omega arith); own = refl; fresh = fresh_here }),
       )
 
-pub settles_nothing : (d : Deterministic) (letters : List ℕ) (s : Stage) → IsSound d letters s → Settles d letters s s
-settles_nothing d letters s sound = record { sound = sound; classes = refl; count = refl; fewer = λ q fresh. fresh }
+pub settles_nothing : (d : Deterministic) (columns : List (List ℕ)) (s : Stage) → IsSound d columns s → Settles d columns s s
+settles_nothing d columns s sound = record { sound = sound; classes = refl; count = refl; fewer = λ q fresh. fresh }
 
-pub settles_both : (d : Deterministic) (letters : List ℕ) (s t u : Stage) → Settles d letters s t → Settles d letters t u → Settles d letters s u
-settles_both d letters s t u first second = record {
+pub settles_both : (d : Deterministic) (columns : List (List ℕ)) (s t u : Stage) → Settles d columns s t → Settles d columns t u → Settles d columns s u
+settles_both d columns s t u first second = record {
   sound = second.sound;
   classes = second.classes ∙ first.classes;
   count = second.count ∙ first.count;
@@ -118,8 +118,8 @@ settles_both d letters s t u first second = record {
 }
 
 -- a class that has a settled state keeps it
-pub settled_kept : (d : Deterministic) (letters : List ℕ) (s s' : Stage) → Settles d letters s s' → (q : ℕ) → HasSettled s q → HasSettled s' q
-settled_kept d letters s s' settles q (r, in_class) = (
+pub settled_kept : (d : Deterministic) (columns : List (List ℕ)) (s s' : Stage) → Settles d columns s s' → (q : ℕ) → HasSettled s q → HasSettled s' q
+settled_kept d columns s s' settles q (r, in_class) = (
   r,
   record {
     state = subst (λ cs. r < length cs) (sym settles.classes) in_class.state;
@@ -128,14 +128,14 @@ settled_kept d letters s s' settles q (r, in_class) = (
   },
 )
 
-pub settled_more : (d : Deterministic) (letters : List ℕ) (s s' : Stage) (waiting : List ℕ) (i : ℕ) → i < length waiting → Settles d letters s s' → All (HasSettled s) (take i waiting) → HasSettled s' (get_or waiting i 0)
+pub settled_more : (d : Deterministic) (columns : List (List ℕ)) (s s' : Stage) (waiting : List ℕ) (i : ℕ) → i < length waiting → Settles d columns s s' → All (HasSettled s) (take i waiting) → HasSettled s' (get_or waiting i 0)
     → All (HasSettled s') (take (i + 1) waiting)
-settled_more d letters s s' waiting i below settles before last =
-    All-more (HasSettled s') waiting i 0 below (All-weaker (HasSettled s) (HasSettled s') (settled_kept d letters s s' settles) (take i waiting) before) last
+settled_more d columns s s' waiting i below settles before last =
+    All-more (HasSettled s') waiting i 0 below (All-weaker (HasSettled s) (HasSettled s') (settled_kept d columns s s' settles) (take i waiting) before) last
 
 -- the stale states still wait
-pub still_waiting : (d : Deterministic) (letters : List ℕ) (s s' : Stage) (n : ℕ) (waiting : List ℕ) → Settles d letters s s' → AreWaiting n s.stale waiting → AreWaiting n s'.stale waiting
-still_waiting d letters s s' n waiting settles are = record {
+pub still_waiting : (d : Deterministic) (columns : List (List ℕ)) (s s' : Stage) (n : ℕ) (waiting : List ℕ) → Settles d columns s s' → AreWaiting n s.stale waiting → AreWaiting n s'.stale waiting
+still_waiting d columns s s' n waiting settles are = record {
   listed = λ q stale. are.listed q (elim (cases_Bool (is_stale s.stale q)) [
     | inl was ↦ was
     | inr was_not ↦ absurd (false≢true (sym (settles.fewer q was_not) ∙ stale))

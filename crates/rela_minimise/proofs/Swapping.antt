@@ -9,7 +9,7 @@ use Rattle.std.proofs.lemmas.List.Edits.{length-swap, swapped_from_swap}
 use Rattle.std.proofs.lemmas.List.Elements.{Contains-append_left, Contains-get_or, Contains-push, Contains-push_cases}
 use Rattle.rela_subset.specs.Deterministic.{Deterministic, IsDeterministic, next, states}
 use Rattle.rela_subset.proofs.Words.{next_within}
-use Rattle.rela_minimise.specs.Refining.{AreFrom, AreKinds, IsAfter, IsHeld, IsSwapped, KeepsAfter, Stage, class_of, other_of, signature}
+use Rattle.rela_minimise.specs.Refining.{AreFrom, AreColumns, IsAfter, IsHeld, IsSwapped, KeepsAfter, Stage, class_of, other_of, signature}
 use Rattle.rela_minimise.specs.Stored.{lists_of}
 use Rattle.rela_minimise.proofs.OneByOne.{in_take}
 use Rattle.rela_minimise.proofs.Signing.{same_final, same_leads, signature_same}
@@ -85,8 +85,8 @@ other_below a b c n a_in b_in c_in = elim (cases_Bool (c == a)) [
 ]
 
 -- what held after states had gone by their signatures holds with the number of a class given to a part of it
-module _ (d : Deterministic) (ok : IsDeterministic d) (letters : List ℕ) (are : AreKinds d letters) (start s s' : Stage) (origins : List ℕ) (j : ℕ) (j_in : j < length origins)
-    (old : get_or origins j 0 < length start.members) (fits : length start.members + j < length s.members) (from : AreFrom (states d) (length start.members) origins start s) (after : IsAfter d letters start s)
+module _ (d : Deterministic) (ok : IsDeterministic d) (columns : List (List ℕ)) (are : AreColumns d columns) (start s s' : Stage) (origins : List ℕ) (j : ℕ) (j_in : j < length origins)
+    (old : get_or origins j 0 < length start.members) (fits : length start.members + j < length s.members) (from : AreFrom (states d) (length start.members) origins start s) (after : IsAfter d columns start s)
     (swapped : IsSwapped (states d) (get_or origins j 0) (length start.members + j) s s') where
   abbrev a : ℕ
   a = get_or origins j 0
@@ -106,15 +106,15 @@ module _ (d : Deterministic) (ok : IsDeterministic d) (letters : List ℕ) (are 
   same_on : (p q : ℕ) → p < states d → q < states d → class_of s p ≡ class_of s q → class_of s' p ≡ class_of s' q
   same_on p q p_in q_in same = swapped.classes p p_in ∙ ap (other_of a b) same ∙ sym (swapped.classes q q_in)
 
-  sign_back : (p q : ℕ) → p < states d → q < states d → signature d letters s'.classes p ≡ signature d letters s'.classes q → signature d letters s.classes p ≡ signature d letters s.classes q
+  sign_back : (p q : ℕ) → p < states d → q < states d → signature d columns s'.classes p ≡ signature d columns s'.classes q → signature d columns s.classes p ≡ signature d columns s.classes q
   sign_back p q p_in q_in same =
-      signature_same d ok letters are s.classes s.classes p q (same_final d ok letters are s'.classes s'.classes p q same) (λ k over.
-      same_back (next d p k) (next d q k) (next_within d ok p k p_in over) (next_within d ok q k q_in over) (same_leads d ok letters are s'.classes s'.classes p q p_in q_in same k over))
+      signature_same d ok columns are s.classes s.classes p q p_in q_in (same_final d ok columns are s'.classes s'.classes p q same) (λ k over.
+      same_back (next d p k) (next d q k) (next_within d ok p k p_in over) (next_within d ok q k q_in over) (same_leads d ok columns are s'.classes s'.classes p q p_in q_in same k over))
 
-  sign_on : (p q : ℕ) → p < states d → q < states d → signature d letters s.classes p ≡ signature d letters s.classes q → signature d letters s'.classes p ≡ signature d letters s'.classes q
+  sign_on : (p q : ℕ) → p < states d → q < states d → signature d columns s.classes p ≡ signature d columns s.classes q → signature d columns s'.classes p ≡ signature d columns s'.classes q
   sign_on p q p_in q_in same =
-      signature_same d ok letters are s'.classes s'.classes p q (same_final d ok letters are s.classes s.classes p q same) (λ k over.
-      same_on (next d p k) (next d q k) (next_within d ok p k p_in over) (next_within d ok q k q_in over) (same_leads d ok letters are s.classes s.classes p q p_in q_in same k over))
+      signature_same d ok columns are s'.classes s'.classes p q p_in q_in (same_final d ok columns are s.classes s.classes p q same) (λ k over.
+      same_on (next d p k) (next d q k) (next_within d ok p k p_in over) (next_within d ok q k q_in over) (same_leads d ok columns are s.classes s.classes p q p_in q_in same k over))
 
   -- where a state's number is now, it was, or it was the other one of the two
   kept_now : (q : ℕ) → q < states d → class_of s' q < length start.members → class_of s' q ≡ class_of start q
@@ -139,7 +139,7 @@ module _ (d : Deterministic) (ok : IsDeterministic d) (letters : List ℕ) (are 
         from q i below i_in (back q below ∙ other_neither a b (class_of s' q) not_a not_b ∙ at)
   ]
 
-  pub after_now : IsAfter d letters start s'
+  pub after_now : IsAfter d columns start s'
   after_now =
       let count = swapped.count in
       let a_in : a < length s.members = let grown = after.grown in omega arith in
@@ -265,12 +265,12 @@ module _ {A : Type 0} (xs ys : List (Vec ℕ A)) (a b : ℕ) (d : Vec ℕ A) (a_
 -- one more class that has been given a number
 pub keeps_more : (first : ℕ) (origins : List ℕ) (before s s' : Stage) (n j : ℕ) → KeepsAfter first origins before s → length s.classes ≡ n → j < length origins → get_or origins j 0 < first → first + j < length s.members
     → IsSwapped n (get_or origins j 0) (first + j) s s' → KeepsAfter first origins before s'
-keeps_more first origins before s s' n j keeps size j_in old fits swapped d letters start ok are first_is from after =
-    let both = keeps d letters start ok are first_is from after in
+keeps_more first origins before s s' n j keeps size j_in old fits swapped d columns start ok are first_is from after =
+    let both = keeps d columns start ok are first_is from after in
     let all : n ≡ states d = sym size ∙ both.1.each in
     let from_s : AreFrom (states d) (length start.members) origins start s = subst (λ m. AreFrom (states d) m origins start s) first_is both.0 in
     let swapped_s : IsSwapped (states d) (get_or origins j 0) (length start.members + j) s s' =
     subst (λ m. IsSwapped m (get_or origins j 0) (length start.members + j) s s') all (subst (λ m. IsSwapped n (get_or origins j 0) (m + j) s s') first_is swapped) in (
-      subst (λ m. AreFrom (states d) m origins start s') (sym first_is) (from_now d ok letters are start s s' origins j j_in (omega arith) (omega arith) from_s both.1 swapped_s),
-      after_now d ok letters are start s s' origins j j_in (omega arith) (omega arith) from_s both.1 swapped_s,
+      subst (λ m. AreFrom (states d) m origins start s') (sym first_is) (from_now d ok columns are start s s' origins j j_in (omega arith) (omega arith) from_s both.1 swapped_s),
+      after_now d ok columns are start s s' origins j j_in (omega arith) (omega arith) from_s both.1 swapped_s,
     )

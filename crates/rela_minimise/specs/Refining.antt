@@ -10,14 +10,25 @@ use Rattle.rela_minimise.specs.Classes.{AcceptSame, finality}
 abbrev pub LeadAlike : Deterministic → ℕ → ℕ → Type 0
 LeadAlike d j k = (q : ℕ) → q < states d → next d q j ≡ next d q k
 
--- letters that are read, among which is for each letter that is read one that leads from each state to the same state
-pub record AreKinds (d : Deterministic) (letters : List ℕ) : Type 0 where
-  pub over : All (λ k. has d.over k ≡ true) letters
-  pub each : (k : ℕ) → has d.over k ≡ true → (j : ℕ) × Contains letters j × LeadAlike d j k
+-- a state for each state
+pub record IsMap (n : ℕ) (column : List ℕ) : Type 0 where
+  pub each : length column ≡ n
+  pub within : All (λ q. q < n) column
 
--- whether the state is final, and the class to which each of the letters leads from it
-abbrev pub signature : Deterministic → List ℕ → List ℕ → ℕ → List ℕ
-signature d letters classes q = (if finality d q then 1 else 0) ∷ map (λ k. slice_index classes (next d q k)) letters
+-- the state to which the letter leads from each state
+pub record IsColumn (d : Deterministic) (k : ℕ) (column : List ℕ) : Type 0 where
+  pub map_of : IsMap (states d) column
+  pub leads : (q : ℕ) → q < states d → slice_index column q ≡ next d q k
+
+-- where letters lead that are read; each such letter leads as one of the columns says
+pub record AreColumns (d : Deterministic) (columns : List (List ℕ)) : Type 0 where
+  pub maps : All (IsMap (states d)) columns
+  pub own : All (λ column. (k : ℕ) × (has d.over k ≡ true) × IsColumn d k column) columns
+  pub each : (k : ℕ) → has d.over k ≡ true → (column : List ℕ) × Contains columns column × IsColumn d k column
+
+-- whether the state is final, and the class of the state to which each column leads from it
+abbrev pub signature : Deterministic → List (List ℕ) → List ℕ → ℕ → List ℕ
+signature d columns classes q = (if finality d q then 1 else 0) ∷ map (λ column. slice_index classes (slice_index column q)) columns
 
 -- the number of each state's class, states of each class, the signature of each class, and for each state whether it is
 -- stale, since its signature may no longer be that of its class
@@ -40,24 +51,24 @@ pub record IsSettledIn (classes : List ℕ) (stale : List Bool) (class q : ℕ) 
   pub fresh : is_stale stale q ≡ false
 
 -- each list is as long as it should be, each state that is not stale has its class's signature, and is among the members of its class
-pub record IsSound (d : Deterministic) (letters : List ℕ) (s : Stage) : Type 0 where
+pub record IsSound (d : Deterministic) (columns : List (List ℕ)) (s : Stage) : Type 0 where
   pub each : length s.classes ≡ states d
   pub flagged : length s.stale ≡ states d
   pub signed : length s.signatures ≡ length s.members
   pub counted : (q : ℕ) → q < states d → class_of s q < length s.members
   pub within : (c : ℕ) → All (λ q. q < states d) (slice_index_or s.members c [])
   pub held : (q : ℕ) → q < states d → is_stale s.stale q ≡ false → Contains (slice_index_or s.members (class_of s q) []) q
-  pub settled : (q : ℕ) → q < states d → is_stale s.stale q ≡ false → signature d letters s.classes q ≡ slice_index_or s.signatures (class_of s q) []
+  pub settled : (q : ℕ) → q < states d → is_stale s.stale q ≡ false → signature d columns s.classes q ≡ slice_index_or s.signatures (class_of s q) []
 
 -- states that accept the same words, or have the same signature, are in one class, and each class has a state
-pub record IsCoarse (d : Deterministic) (letters : List ℕ) (s : Stage) : Type 0 where
+pub record IsCoarse (d : Deterministic) (columns : List (List ℕ)) (s : Stage) : Type 0 where
   pub accepting : (p q : ℕ) → p < states d → q < states d → AcceptSame d p q → class_of s p ≡ class_of s q
-  pub signing : (p q : ℕ) → p < states d → q < states d → signature d letters s.classes p ≡ signature d letters s.classes q → class_of s p ≡ class_of s q
+  pub signing : (p q : ℕ) → p < states d → q < states d → signature d columns s.classes p ≡ signature d columns s.classes q → class_of s p ≡ class_of s q
   pub met : (c : ℕ) → c < length s.members → (q : ℕ) × (q < states d) × (class_of s q ≡ c)
 
 -- the states of one class have one signature
-abbrev pub IsStable : Deterministic → List ℕ → Stage → Type 0
-IsStable d letters s = (p q : ℕ) → p < states d → q < states d → class_of s p ≡ class_of s q → signature d letters s.classes p ≡ signature d letters s.classes q
+abbrev pub IsStable : Deterministic → List (List ℕ) → Stage → Type 0
+IsStable d columns s = (p q : ℕ) → p < states d → q < states d → class_of s p ≡ class_of s q → signature d columns s.classes p ≡ signature d columns s.classes q
 
 -- each stale state is in the list, which has states alone
 pub record AreWaiting (n : ℕ) (stale : List Bool) (waiting : List ℕ) : Type 0 where
@@ -65,11 +76,11 @@ pub record AreWaiting (n : ℕ) (stale : List Bool) (waiting : List ℕ) : Type 
   pub states : All (λ q. q < n) waiting
 
 -- a state stays in its class if it has the signature of the class, and goes to the new class of its signature otherwise
-abbrev pub Goes : Deterministic → List ℕ → Stage → List (List ℕ) → ℕ → ℕ → Type 0
-Goes d letters s found q class =
-    ((signature d letters s.classes q ≡ slice_index_or s.signatures (class_of s q) []) × (class ≡ class_of s q))
-    ⊎ ((signature d letters s.classes q ≢ slice_index_or s.signatures (class_of s q) [])
-    × ((j : ℕ) × (j < length found) × (slice_index_or found j [] ≡ signature d letters s.classes q) × (class ≡ length s.members + j)))
+abbrev pub Goes : Deterministic → List (List ℕ) → Stage → List (List ℕ) → ℕ → ℕ → Type 0
+Goes d columns s found q class =
+    ((signature d columns s.classes q ≡ slice_index_or s.signatures (class_of s q) []) × (class ≡ class_of s q))
+    ⊎ ((signature d columns s.classes q ≢ slice_index_or s.signatures (class_of s q) [])
+    × ((j : ℕ) × (j < length found) × (slice_index_or found j [] ≡ signature d columns s.classes q) × (class ≡ length s.members + j)))
 
 -- for each state, the states from which an edge leads to it
 pub record ArePredecessors (d : Deterministic) (lists : List (List ℕ)) : Type 0 where
@@ -89,8 +100,8 @@ abbrev pub HasSettled : Stage → ℕ → Type 0
 HasSettled s q = (r : ℕ) × IsSettledIn s.classes s.stale (class_of s q) r
 
 -- some states that were stale are no longer, and no class has changed
-pub record Settles (d : Deterministic) (letters : List ℕ) (s s' : Stage) : Type 0 where
-  pub sound : IsSound d letters s'
+pub record Settles (d : Deterministic) (columns : List (List ℕ)) (s s' : Stage) : Type 0 where
+  pub sound : IsSound d columns s'
   pub classes : s'.classes ≡ s.classes
   pub count : length s'.members ≡ length s.members
   pub fewer : (q : ℕ) → is_stale s.stale q ≡ false → is_stale s'.stale q ≡ false
@@ -124,12 +135,12 @@ pub record IsAssigned (q class : ℕ) (s s' : Stage) : Type 0 where
   pub only : (c r : ℕ) → Contains (slice_index_or s'.members c []) r → Contains (slice_index_or s.members c []) r ⊎ (r ≡ q)
 
 -- each state has gone where its signature says, and none is stale
-pub record IsSplit (d : Deterministic) (letters : List ℕ) (s : Stage) (found : List (List ℕ)) (s' : Stage) : Type 0 where
+pub record IsSplit (d : Deterministic) (columns : List (List ℕ)) (s : Stage) (found : List (List ℕ)) (s' : Stage) : Type 0 where
   pub each : length s'.classes ≡ states d
   pub flagged : length s'.stale ≡ states d
   pub signatures : s'.signatures ≡ s.signatures ++ found
   pub count : length s'.members ≡ length s.members + length found
-  pub goes : (q : ℕ) → q < states d → Goes d letters s found q (class_of s' q)
+  pub goes : (q : ℕ) → q < states d → Goes d columns s found q (class_of s' q)
   pub fresh : (q : ℕ) → q < states d → is_stale s'.stale q ≡ false
   pub held : (q : ℕ) → q < states d → Contains (slice_index_or s'.members (class_of s' q) []) q
   pub within : (c : ℕ) → All (λ q. q < states d) (slice_index_or s'.members c [])
@@ -148,7 +159,7 @@ pub record AreAssigned (waiting targets : List ℕ) (i : ℕ) (s s' : Stage) : T
 
 -- each state has the signature that it had as that of its class, none is stale, states of old numbers have stayed, and
 -- where no class is new the states of each class have one signature
-pub record IsAfter (d : Deterministic) (letters : List ℕ) (s s' : Stage) : Type 0 where
+pub record IsAfter (d : Deterministic) (columns : List (List ℕ)) (s s' : Stage) : Type 0 where
   pub each : length s'.classes ≡ states d
   pub flagged : length s'.stale ≡ states d
   pub signed : length s'.signatures ≡ length s'.members
@@ -156,11 +167,11 @@ pub record IsAfter (d : Deterministic) (letters : List ℕ) (s s' : Stage) : Typ
   pub within : (c : ℕ) → All (λ q. q < states d) (slice_index_or s'.members c [])
   pub held : (q : ℕ) → q < states d → Contains (slice_index_or s'.members (class_of s' q) []) q
   pub fresh : (q : ℕ) → q < states d → is_stale s'.stale q ≡ false
-  pub settled : (q : ℕ) → q < states d → signature d letters s.classes q ≡ slice_index_or s'.signatures (class_of s' q) []
+  pub settled : (q : ℕ) → q < states d → signature d columns s.classes q ≡ slice_index_or s'.signatures (class_of s' q) []
   pub kept : (q : ℕ) → q < states d → class_of s' q < length s.members → class_of s' q ≡ class_of s q
   pub grown : length s.members ≤ length s'.members
-  pub coarse : IsCoarse d letters s'
-  pub stable : length s'.members ≡ length s.members → IsStable d letters s'
+  pub coarse : IsCoarse d columns s'
+  pub stable : length s'.members ≡ length s.members → IsStable d columns s'
 
 -- the states of P are stale, none is no longer, and those that are stale are waiting
 pub record Marks (P : ℕ → Type 0) (stale : List Bool) (waiting : List ℕ) (stale' : List Bool) (waiting' : List ℕ) : Type 0 where
@@ -183,12 +194,12 @@ pub record IsStart (n : ℕ) (s : Stage) : Type 0 where
   pub stale : s.stale ≡ replicate n true
 
 -- what is known before each round, where there were `before` classes before the last
-pub record IsRefining (d : Deterministic) (letters : List ℕ) (before : ℕ) (s : Stage) (waiting : List ℕ) : Type 0 where
-  pub sound : IsSound d letters s
-  pub coarse : IsCoarse d letters s
+pub record IsRefining (d : Deterministic) (columns : List (List ℕ)) (before : ℕ) (s : Stage) (waiting : List ℕ) : Type 0 where
+  pub sound : IsSound d columns s
+  pub coarse : IsCoarse d columns s
   pub waits : AreWaiting (states d) s.stale waiting
   pub grown : before ≤ length s.members
-  pub stable : before ≡ length s.members → IsStable d letters s
+  pub stable : before ≡ length s.members → IsStable d columns s
 
 -- one of the two for the other
 abbrev pub other_of : ℕ → ℕ → ℕ → ℕ
@@ -220,5 +231,5 @@ AreFrom n first origins start s = (q j : ℕ) → q < n → j < length origins �
 
 -- what holds after states have gone by their signatures holds too where some new classes have been given the numbers of those of which they were parts
 abbrev pub KeepsAfter : ℕ → List ℕ → Stage → Stage → Type 0
-KeepsAfter first origins s s' = (d : Deterministic) (letters : List ℕ) (start : Stage) → IsDeterministic d → AreKinds d letters → first ≡ length start.members
-    → AreFrom (states d) first origins start s → IsAfter d letters start s → AreFrom (states d) first origins start s' × IsAfter d letters start s'
+KeepsAfter first origins s s' = (d : Deterministic) (columns : List (List ℕ)) (start : Stage) → IsDeterministic d → AreColumns d columns → first ≡ length start.members
+    → AreFrom (states d) first origins start s → IsAfter d columns start s → AreFrom (states d) first origins start s' × IsAfter d columns start s'

@@ -1,7 +1,7 @@
 //! The minimal automaton of a language, by the refinement of classes of states.
 #![tactic(auto)]
 
-mod kinds;
+mod columns;
 mod largest;
 mod lists;
 mod marking;

@@ -1,9 +1,8 @@
 //! Classes of states in the course of their refinement.
-ghost use Rattle.std.specs.Prelude.{◌≡◌, ◌⊎◌, ℕ, ◌+◌, ◌<◌, ◌≤◌, true, false, List, [], ◌++◌, IfOk, length, slice_index, slice_index_or};
+ghost use Rattle.std.specs.Prelude.{◌≡◌, ◌⊎◌, ℕ, ◌+◌, ◌<◌, ◌≤◌, false, List, [], ◌++◌, IfOk, length, slice_index, slice_index_or};
 ghost use Rattle.std.specs.List.{All};
-ghost use Rattle.rela_labels.specs.Letters.{has};
 ghost use Rattle.rela_subset.specs.Deterministic.{IsDeterministic, states};
-ghost use Rattle.rela_minimise.specs.Refining.{AreAssigned, AreKinds, AreWaiting, Goes, HasFound, HasSettled, IsAfter, IsAssigned, IsCoarse, IsOpened, IsSettledIn, IsSound, Settles};
+ghost use Rattle.rela_minimise.specs.Refining.{AreAssigned, AreColumns, AreWaiting, Goes, HasFound, HasSettled, IsAfter, IsAssigned, IsCoarse, IsMap, IsOpened, IsSettledIn, IsSound, Settles};
 ghost use Rattle.rela_minimise.specs.Stored.{lists_of, stage_of};
 
 use crate::lists::{has_settled, put, same};
@@ -32,20 +31,20 @@ impl Refinement {
         &mut self,
         alloc: Global,
         dfa: &Dfa<L>,
-        letters: &[u32],
+        columns: &[Vec<usize>],
         q: usize,
     ) -> Result<(), AllocError>
-        requires letters { All (λ k. has dfa.now.over k ≡ true) letters.now }
+        requires columns { All (IsMap (states dfa.now)) (lists_of columns.now) }
         requires state { q < states dfa.now }
-        requires sound { IsSound dfa.now letters.now (stage_of self.old) }
-        ensures settles { IfOk result (λ _. Settles dfa.now letters.now (stage_of self.old) (stage_of self.new)) }
+        requires sound { IsSound dfa.now (lists_of columns.now) (stage_of self.old) }
+        ensures settles { IfOk result (λ _. Settles dfa.now (lists_of columns.now) (stage_of self.old) (stage_of self.new)) }
         ensures settled { IfOk result (λ _. HasSettled (stage_of self.new) q) }
     {
         let class = self.classes[q];
         if has_settled(&mut self.members[class], &self.classes, &self.stale, class)? {
             return Ok(());
         }
-        self.signatures[class] = signature(alloc, dfa, letters, &self.classes, q)?;
+        self.signatures[class] = signature(alloc, dfa, columns, &self.classes, q)?;
         self.stale[q] = false;
         put(&mut self.members, class, q)?;
         Ok(())
@@ -56,17 +55,17 @@ impl Refinement {
         &mut self,
         alloc: Global,
         dfa: &Dfa<L>,
-        letters: &[u32],
+        columns: &[Vec<usize>],
         waiting: &[usize],
     ) -> Result<(), AllocError>
-        requires letters { All (λ k. has dfa.now.over k ≡ true) letters.now }
+        requires columns { All (IsMap (states dfa.now)) (lists_of columns.now) }
         requires states { All (λ q. q < states dfa.now) waiting.now }
-        requires sound { IsSound dfa.now letters.now (stage_of self.old) }
-        ensures settles { IfOk result (λ _. Settles dfa.now letters.now (stage_of self.old) (stage_of self.new)) }
+        requires sound { IsSound dfa.now (lists_of columns.now) (stage_of self.old) }
+        ensures settles { IfOk result (λ _. Settles dfa.now (lists_of columns.now) (stage_of self.old) (stage_of self.new)) }
         ensures settled { IfOk result (λ _. All (HasSettled (stage_of self.new)) waiting.now) }
     {
         for q in waiting {
-            self.settle(alloc, dfa, letters, *q)?;
+            self.settle(alloc, dfa, columns, *q)?;
         }
         Ok(())
     }
@@ -76,17 +75,17 @@ impl Refinement {
         &self,
         alloc: Global,
         dfa: &Dfa<L>,
-        letters: &[u32],
+        columns: &[Vec<usize>],
         found: &mut Signatures,
         q: usize,
     ) -> Result<usize, AllocError>
-        requires letters { All (λ k. has dfa.now.over k ≡ true) letters.now }
+        requires columns { All (IsMap (states dfa.now)) (lists_of columns.now) }
         requires state { q < states dfa.now }
-        requires sound { IsSound dfa.now letters.now (stage_of self.now) }
-        ensures goes { IfOk result (λ class. Goes dfa.now letters.now (stage_of self.now) found.new q class) }
+        requires sound { IsSound dfa.now (lists_of columns.now) (stage_of self.now) }
+        ensures goes { IfOk result (λ class. Goes dfa.now (lists_of columns.now) (stage_of self.now) found.new q class) }
         ensures found { IfOk result (λ class. HasFound (length self.now.members.items) found.old found.new class) }
     {
-        let signature = signature(alloc, dfa, letters, &self.classes, q)?;
+        let signature = signature(alloc, dfa, columns, &self.classes, q)?;
         let class = self.classes[q];
         if same(&signature, &self.signatures[class]) {
             return Ok(class);
@@ -100,21 +99,21 @@ impl Refinement {
         &self,
         alloc: Global,
         dfa: &Dfa<L>,
-        letters: &[u32],
+        columns: &[Vec<usize>],
         found: &mut Signatures,
         waiting: &[usize],
     ) -> Result<Vec<usize>, AllocError>
-        requires letters { All (λ k. has dfa.now.over k ≡ true) letters.now }
+        requires columns { All (IsMap (states dfa.now)) (lists_of columns.now) }
         requires states { All (λ q. q < states dfa.now) waiting.now }
-        requires sound { IsSound dfa.now letters.now (stage_of self.now) }
+        requires sound { IsSound dfa.now (lists_of columns.now) (stage_of self.now) }
         requires none { found.old ≡ [] }
         ensures each { IfOk result (λ targets. length targets.items ≡ length waiting.now) }
-        ensures goes { IfOk result (λ targets. (i : ℕ) → i < length waiting.now → Goes dfa.now letters.now (stage_of self.now) found.new (slice_index waiting.now i) (slice_index targets.items i)) }
+        ensures goes { IfOk result (λ targets. (i : ℕ) → i < length waiting.now → Goes dfa.now (lists_of columns.now) (stage_of self.now) found.new (slice_index waiting.now i) (slice_index targets.items i)) }
         ensures used { IfOk result (λ targets. (j : ℕ) → j < length found.new → (i : ℕ) × (i < length waiting.now) × (slice_index targets.items i ≡ length self.now.members.items + j)) }
     {
         let mut targets = Vec::with_capacity(alloc, waiting.len())?;
         for q in waiting {
-            targets.push(self.target(alloc, dfa, letters, found, *q)?)?;
+            targets.push(self.target(alloc, dfa, columns, found, *q)?)?;
         }
         Ok(targets)
     }
@@ -163,19 +162,19 @@ impl Refinement {
         &mut self,
         alloc: Global,
         dfa: &Dfa<L>,
-        letters: &[u32],
+        columns: &[Vec<usize>],
         waiting: &[usize],
     ) -> Result<(), AllocError>
         requires deterministic { IsDeterministic dfa.now }
-        requires letters { AreKinds dfa.now letters.now }
+        requires columns { AreColumns dfa.now (lists_of columns.now) }
         requires waiting { AreWaiting (states dfa.now) self.old.stale.items waiting.now }
-        requires sound { IsSound dfa.now letters.now (stage_of self.old) }
-        requires coarse { IsCoarse dfa.now letters.now (stage_of self.old) }
-        ensures { IfOk result (λ _. IsAfter dfa.now letters.now (stage_of self.old) (stage_of self.new)) }
+        requires sound { IsSound dfa.now (lists_of columns.now) (stage_of self.old) }
+        requires coarse { IsCoarse dfa.now (lists_of columns.now) (stage_of self.old) }
+        ensures { IfOk result (λ _. IsAfter dfa.now (lists_of columns.now) (stage_of self.old) (stage_of self.new)) }
     {
-        self.settle_all(alloc, dfa, letters, waiting)?;
+        self.settle_all(alloc, dfa, columns, waiting)?;
         let mut found = Signatures::new(alloc);
-        let targets = self.targets(alloc, dfa, letters, &mut found, waiting)?;
+        let targets = self.targets(alloc, dfa, columns, &mut found, waiting)?;
         let first = self.members.len();
         let origins = self.origins(alloc, waiting, &targets, found.len())?;
         self.open(alloc, &found)?;

@@ -5,7 +5,7 @@ ghost use Rattle.rela_minimise.specs.Classes.{AreClasses};
 ghost use Rattle.rela_minimise.specs.Refining.{IsStart};
 ghost use Rattle.rela_minimise.specs.Stored.{stage_of};
 
-use crate::kinds::kinds;
+use crate::columns::columns;
 use crate::marking::mark_before_new;
 use crate::predecessors::predecessors;
 use crate::refinement::Refinement;
@@ -21,14 +21,14 @@ pub(crate) fn refined<L: LabelSet>(alloc: Global, dfa: &Dfa<L>) -> Result<Refine
     requires { IsDeterministic dfa.now }
     ensures { IfOk result (λ made. AreClasses dfa.now (length made.members.items) made.classes.items) }
 {
-    let letters = kinds(alloc, dfa)?;
+    let columns = columns(alloc, dfa)?;
     let predecessors = predecessors(alloc, dfa)?;
     let mut refinement = one_class(alloc, dfa.states())?;
     let mut waiting = numbers_below(alloc, dfa.states())?;
     let mut before = 0;
     while before < refinement.members.len() {
         before = refinement.members.len();
-        refinement.split(alloc, dfa, &letters, &waiting)?;
+        refinement.split(alloc, dfa, &columns, &waiting)?;
         waiting.clear();
         mark_before_new(
             &mut refinement.stale,

@@ -1,7 +1,7 @@
 ghost use Rattle.std.specs.Prelude.{◌≡◌, IfOk, length};
 
 use super::*;
-use crate::kinds::kinds;
+use crate::columns::columns;
 use rela_labels::{BlockSet, LabelSet, WideSet};
 use rela_nfa::Nfa;
 use rela_subset::{complement, determinise};
@@ -82,6 +82,6 @@ fn many_letters_of_two_kinds(rt: HostRuntime) -> Result<(), Fail> {
     let dfa = determinise(alloc, &words, &all, 100)?;
     assert!(rt; dfa.states() > 64);
     assert_eq!(rt; minimise(alloc, &dfa)?.states(), 64);
-    assert_eq!(rt; kinds(alloc, &dfa)?.len(), 2);
+    assert_eq!(rt; columns(alloc, &dfa)?.len(), 2);
     Ok(())
 }

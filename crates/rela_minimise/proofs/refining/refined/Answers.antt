@@ -10,7 +10,7 @@ use Rattle.rela_minimise.proofs.refining.refined.Goals as goal
 
 pub loop-before-init : goal.loop-before-init
 loop-before-init g c =
-    refining_first c.args.dfa.now c.in_ok-letters.letters.items (stage_of c.in_ok-refinement.refinement) c.in_ok-waiting.waiting.items c.requires
+    refining_first c.args.dfa.now (lists_of c.in_ok-columns.columns.items) (stage_of c.in_ok-refinement.refinement) c.in_ok-waiting.waiting.items c.requires
     (subst (λ n. IsStart n (stage_of c.in_ok-refinement.refinement)) c.states.ensures.states c.in_ok-refinement.ensures)
     (c.in_ok-waiting.ensures.each ∙ c.states-2.ensures.states)
     (λ q below. c.in_ok-waiting.ensures.own q (subst (λ n. q < n) (sym c.states-2.ensures.states) below))
@@ -24,8 +24,8 @@ mark_before_new-requires-clause-members g c class =
 
 pub loop-before-smaller : goal.loop-before-smaller
 loop-before-smaller g c =
-    let are = c.in_ok-letters.ensures in
-    let few = few_classes c.args.dfa.now c.requires c.in_ok-letters.letters.items are (stage_of c.loop-before.refinement) c.loop-before.invariant.coarse c.loop-before.invariant.sound in
+    let are = c.in_ok-columns.ensures in
+    let few = few_classes c.args.dfa.now c.requires (lists_of c.in_ok-columns.columns.items) are (stage_of c.loop-before.refinement) c.loop-before.invariant.coarse c.loop-before.invariant.sound in
     let count = length-map c.loop-before.refinement.members.items (λ v. v.items) in
     let len = c.len.ensures in
     let len_before = c.len-before.ensures in
@@ -35,24 +35,24 @@ loop-before-smaller g c =
 
 pub loop-before-preserved : goal.loop-before-preserved
 loop-before-preserved g c =
-    let are = c.in_ok-letters.ensures in
+    let are = c.in_ok-columns.ensures in
     let count = length-map c.loop-before.refinement.members.items (λ v. v.items) in
     let before : c.len-before.result ≡ length (lists_of c.loop-before.refinement.members.items) = c.len-before.ensures ∙ c.loop-before.refinement.members.ok.0 ∙ sym count in
     let split = c.split.new.self in
     let made : Stage = record { classes = split.classes.items; members = lists_of split.members.items; signatures = lists_of split.signatures.items; stale = c.mark_before_new.new.stale } in
     let flags : take split.stale.len (c.mark_before_new.new.stale ++ drop (length c.mark_before_new.new.stale) split.stale.items) ≡ c.mark_before_new.new.stale =
     kept_flags split.stale.len c.mark_before_new.new.stale (drop (length c.mark_before_new.new.stale) split.stale.items) (c.in_ok-mark_before_new.ensures.each ∙ ap length c.deref_mut.ensures.value ∙ sym split.stale.ok.0) in
-    subst (λ (st : List Bool). IsRefining c.args.dfa.now c.in_ok-letters.letters.items c.len-before.result (record { classes = split.classes.items; members = lists_of split.members.items; signatures = lists_of split.signatures.items; stale = st }) c.mark_before_new.new.waiting.items) (sym flags)
-    (subst (λ n. IsRefining c.args.dfa.now c.in_ok-letters.letters.items n made c.mark_before_new.new.waiting.items) (sym before)
-    (refining_next c.args.dfa.now c.requires c.in_ok-letters.letters.items are (stage_of c.loop-before.refinement) (stage_of c.split.new.self) c.mark_before_new.new.stale c.mark_before_new.new.waiting.items
+    subst (λ (st : List Bool). IsRefining c.args.dfa.now (lists_of c.in_ok-columns.columns.items) c.len-before.result (record { classes = split.classes.items; members = lists_of split.members.items; signatures = lists_of split.signatures.items; stale = st }) c.mark_before_new.new.waiting.items) (sym flags)
+    (subst (λ n. IsRefining c.args.dfa.now (lists_of c.in_ok-columns.columns.items) n made c.mark_before_new.new.waiting.items) (sym before)
+    (refining_next c.args.dfa.now c.requires (lists_of c.in_ok-columns.columns.items) are (stage_of c.loop-before.refinement) (stage_of c.split.new.self) c.mark_before_new.new.stale c.mark_before_new.new.waiting.items
     (lists_of c.in_ok-predecessors.predecessors.items) c.in_ok-predecessors.ensures
-    (subst (λ (ls : List ℕ). IsAfter c.args.dfa.now ls (stage_of c.loop-before.refinement) (stage_of c.split.new.self)) c.deref.ensures.value c.in_ok-split.ensures)
+    (subst (λ (ls : List (List ℕ)). IsAfter c.args.dfa.now ls (stage_of c.loop-before.refinement) (stage_of c.split.new.self)) (ap lists_of c.deref.ensures.value) c.in_ok-split.ensures)
     (marks_read _ _ _ _ _ _ _ _ _ _ _ _ _ _ (ap lists_of c.deref-in-loop-before-2.ensures.value) (ap lists_of c.deref-in-loop-before-3.ensures.value) before
     (ap length c.deref-in-loop-before-3.ensures.value ∙ sym (length-map c.split.new.self.members.items (λ v. v.items))) c.deref_mut.ensures.value c.clear.ensures.items c.in_ok-mark_before_new.ensures)))
 
 pub returns : goal.returns
 returns g c =
-    let are = c.in_ok-letters.ensures in
+    let are = c.in_ok-columns.ensures in
     let count = length-map c.loop-before.refinement.members.items (λ v. v.items) in
     let kept = c.loop-before.refinement.members.ok.0 in
     let grown = c.loop-before.invariant.grown in
@@ -60,4 +60,4 @@ returns g c =
     let len = c.len.ensures in
     let same : c.loop-before.before ≡ length (lists_of c.loop-before.refinement.members.items) = omega arith in
     subst (λ n. AreClasses c.args.dfa.now n c.loop-before.refinement.classes.items) count
-    (refined_classes c.args.dfa.now c.requires c.in_ok-letters.letters.items are (stage_of c.loop-before.refinement) c.loop-before.invariant.coarse c.loop-before.invariant.sound (c.loop-before.invariant.stable same))
+    (refined_classes c.args.dfa.now c.requires (lists_of c.in_ok-columns.columns.items) are (stage_of c.loop-before.refinement) c.loop-before.invariant.coarse c.loop-before.invariant.sound (c.loop-before.invariant.stable same))

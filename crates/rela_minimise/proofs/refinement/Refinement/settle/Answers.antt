@@ -46,15 +46,15 @@ module _ (g : Rattle.rela_minimise.proofs.refinement.Refinement.settle.Given.Ove
 pub returns-then-branch-clause-settles : goal.returns-then-branch-clause-settles
 returns-then-branch-clause-settles g c =
     let b = (goal.at.returns-then-branch-clause-settles g c).In_ok-has_settled in
-    sound_with c.args.dfa.now c.args.letters.now (s g b) c.requires.sound (class g b) (class_in g b) (list g b) (kept g b) (within g b) _ refl
+    sound_with c.args.dfa.now (lists_of c.args.columns.now) (s g b) c.requires.sound (class g b) (class_in g b) (list g b) (kept g b) (within g b) _ refl
     (map-set (λ v. v.items) c.args.self.now.members.items c.index-class.result.now c.has_settled.new.list) refl refl
 
 pub returns-clause-settles : goal.returns-clause-settles
 returns-clause-settles g c =
     let b = (goal.at.returns-clause-settles g c).In_ok-has_settled in
-    (sound_first c.args.dfa.now c.args.letters.now (s g b) c.requires.sound (class g b) (class_in g b) (list g b) (kept g b) (within g b)
+    (sound_first c.args.dfa.now (lists_of c.args.columns.now) (s g b) c.requires.sound (class g b) (class_in g b) (list g b) (kept g b) (within g b)
     c.args.q c.requires.state (sym (class_is g b)) (none g b c.if-branch.false) _ refl
     (c.in_ok-put.ensures ∙ ap (λ ls. set ls c.index-class.result.now (get_or ls c.index-class.result.now [] ++ c.args.q ∷ [])) (map-set (λ v. v.items) c.args.self.now.members.items c.index-class.result.now c.has_settled.new.list))
     (map-set (λ v. v.items) c.args.self.now.signatures.items c.index-class.result.now c.in_ok-self.field-0
-    ∙ ap (set (lists_of c.args.self.now.signatures.items) c.index-class.result.now) (c.in_ok-self.ensures ∙ ap (λ cs. signature c.args.dfa.now c.args.letters.now cs c.args.q) c.deref-3.ensures.value))
+    ∙ ap (set (lists_of c.args.self.now.signatures.items) c.index-class.result.now) (c.in_ok-self.ensures ∙ ap (λ cs. signature c.args.dfa.now (lists_of c.args.columns.now) cs c.args.q) c.deref-3.ensures.value))
     refl).0

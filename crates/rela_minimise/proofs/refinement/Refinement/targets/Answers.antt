@@ -15,12 +15,12 @@ module _ (g : Rattle.rela_minimise.proofs.refinement.Refinement.targets.Given.Ov
 
 pub loop-q-preserved : goal.loop-q-preserved
 loop-q-preserved g c = record {
-  each = each_more c.args.dfa.now c.args.letters.now (stage_of c.args.self.now) c.args.waiting.now c.loop-q.targets.items c.push.new.self.items c.loop-q.found c.target.new.found c.loop-q.q-index c.in_ok-target.field-0
+  each = each_more c.args.dfa.now (lists_of c.args.columns.now) (stage_of c.args.self.now) c.args.waiting.now c.loop-q.targets.items c.push.new.self.items c.loop-q.found c.target.new.found c.loop-q.q-index c.in_ok-target.field-0
       c.loop-q.invariant.each c.in_ok-push.ensures.items (has g c);
-  goes = goes_more c.args.dfa.now c.args.letters.now (stage_of c.args.self.now) c.args.waiting.now c.loop-q.targets.items c.push.new.self.items c.loop-q.found c.target.new.found c.loop-q.q-index c.in_ok-target.field-0
+  goes = goes_more c.args.dfa.now (lists_of c.args.columns.now) (stage_of c.args.self.now) c.args.waiting.now c.loop-q.targets.items c.push.new.self.items c.loop-q.found c.target.new.found c.loop-q.q-index c.in_ok-target.field-0
       c.loop-q.invariant.each c.in_ok-push.ensures.items (has g c) c.loop-q.invariant.goes c.in_ok-target.ensures.goes;
   used = λ j below.
-      let (k, k_in, at) = used_more c.args.dfa.now c.args.letters.now (stage_of c.args.self.now) c.args.waiting.now c.loop-q.targets.items c.push.new.self.items c.loop-q.found c.target.new.found c.loop-q.q-index c.in_ok-target.field-0
+      let (k, k_in, at) = used_more c.args.dfa.now (lists_of c.args.columns.now) (stage_of c.args.self.now) c.args.waiting.now c.loop-q.targets.items c.push.new.self.items c.loop-q.found c.target.new.found c.loop-q.q-index c.in_ok-target.field-0
       c.loop-q.invariant.each c.in_ok-push.ensures.items (has g c)
       (λ i i_in. let (m, m_in, is) = c.loop-q.invariant.used i i_in in (m, m_in, is ∙ ap (λ n. n + i) (sym (count g c)))) j below in
       (k, k_in, at ∙ ap (λ n. n + j) (count g c));

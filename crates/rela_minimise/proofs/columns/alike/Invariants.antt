@@ -1,7 +1,7 @@
 use Rattle.std.proofs.Common.{◌≡◌, ℕ, ◌<◌, true, length}
 use Rattle.rela_labels.specs.Letters.{has}
 use Rattle.rela_subset.specs.Deterministic.{next}
-use Rattle.rela_minimise.proofs.kinds.alike.Given as goal
+use Rattle.rela_minimise.proofs.columns.alike.Given as goal
 
 abbrev pub invariant-loop-q : goal.invariant-loop-q
 invariant-loop-q g l = record {

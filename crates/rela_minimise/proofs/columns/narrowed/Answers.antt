@@ -4,7 +4,7 @@ use Rattle.std.proofs.lemmas.Result.{IfOk-weaker}
 use Rattle.rela_nfa.specs.Stored.{move_of}
 use Rattle.rela_subset.specs.Deterministic.{target}
 use Rattle.rela_minimise.proofs.LeadingAlike.{has_target, label_sized, meets_alike}
-use Rattle.rela_minimise.proofs.kinds.narrowed.Goals as goal
+use Rattle.rela_minimise.proofs.columns.narrowed.Goals as goal
 
 pub meet-requires : goal.meet-requires
 meet-requires g c =

@@ -1,28 +1,45 @@
-//! Letters that lead from each state to the same state.
+//! Where letters lead from each state.
 ghost use Rattle.std.specs.Prelude.{◌≡◌, ℕ, ◌<◌, true, IfOk, length};
 ghost use Rattle.rela_labels.specs.Letters.{has};
 ghost use Rattle.rela_subset.specs.Deterministic.{IsDeterministic, next, states};
-ghost use Rattle.rela_minimise.specs.Refining.{AreKinds, LeadAlike};
+ghost use Rattle.rela_minimise.specs.Refining.{AreColumns, IsColumn, LeadAlike};
+ghost use Rattle.rela_minimise.specs.Stored.{lists_of};
 
 use rela_labels::LabelSet;
 use rela_subset::Dfa;
 use std::alloc::{AllocError, Global};
 
-/// A letter of each kind: letters are of one kind where at each state they are in the label of the
-/// same edge. Many letters may be of few kinds. A kind costs one set operation for each state, and a
-/// look at each edge.
-pub(crate) fn kinds<L: LabelSet>(alloc: Global, dfa: &Dfa<L>) -> Result<Vec<u32>, AllocError>
+/// Where letters lead: one list for each kind of letters, of the state to which they lead from each
+/// state. Letters are of one kind where at each state they are in the label of the same edge, so many
+/// letters may be of few kinds. A kind costs one set operation for each state, and a look at each
+/// edge.
+pub(crate) fn columns<L: LabelSet>(
+    alloc: Global,
+    dfa: &Dfa<L>,
+) -> Result<Vec<Vec<usize>>, AllocError>
     requires { IsDeterministic dfa.now }
-    ensures { IfOk result (λ letters. AreKinds dfa.now letters.items) }
+    ensures { IfOk result (λ columns. AreColumns dfa.now (lists_of columns.items)) }
 {
-    let mut letters = Vec::new(alloc);
+    let mut columns = Vec::new(alloc);
     let mut rest = dfa.over().copy(alloc)?;
     while let Some(letter) = rest.least() {
         let block = alike(alloc, dfa, &rest, letter)?;
         rest = rest.minus(alloc, &block)?;
-        letters.push(letter)?;
+        columns.push(column(alloc, dfa, letter)?)?;
     }
-    Ok(letters)
+    Ok(columns)
+}
+
+/// The state to which the letter leads from each state.
+fn column<L: LabelSet>(alloc: Global, dfa: &Dfa<L>, letter: u32) -> Result<Vec<usize>, AllocError>
+    requires { has dfa.now.over letter ≡ true }
+    ensures { IfOk result (λ column. IsColumn dfa.now letter column.items) }
+{
+    let mut column = Vec::with_capacity(alloc, dfa.states())?;
+    for q in 0..dfa.states() {
+        column.push(dfa.next(q, letter))?;
+    }
+    Ok(column)
 }
 
 /// The letters of the rest that are of one kind with this one.
