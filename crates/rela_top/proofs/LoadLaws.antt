@@ -28,7 +28,7 @@ use Rattle.rela_top.specs.declared.reading.Halt.TheVariants.{Refused, Memory}
 use Rattle.rela_top.specs.declared.refusal.Input.{Input}
 use Rattle.rela_top.specs.declared.refusal.Input.TheVariants.{Locations, Spec}
 use Rattle.rela_top.specs.declared.refusal.Refusal.{Refusal}
-use Rattle.rela_top.specs.declared.refusal.Refusal.TheVariants.{Load, FlowDiffers, Specification}
+use Rattle.rela_top.specs.declared.refusal.Refusal.TheVariants.{Load, Specification}
 use Rattle.rela_top.proofs.InputLaws.{gives_read}
 
 -- an error that ends a command with a refusal

@@ -11,7 +11,7 @@ use Rattle.rela_spec.specs.Print.{print_of}
 use Rattle.rela_spec.specs.declared.tree.SpecFile.{SpecFile}
 use Rattle.rela_top.specs.Inputs.{IsTooLong, HasBytes}
 use Rattle.rela_top.specs.Loading.{spec_halt}
-use Rattle.rela_top.specs.Specifications.{IsParsed, ReadsTree, ReadsCanonical, Formatted, canonical_of}
+use Rattle.rela_top.specs.Specifications.{IsParsed, ReadsTree, ReadsCanonical, Formatted}
 use Rattle.rela_top.specs.Specified.{Specified, ReadsSpecified}
 use Rattle.rela_top.specs.Words.{Command}
 use Rattle.rela_translate.specs.Checked.{Checked as Check}
