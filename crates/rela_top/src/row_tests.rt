@@ -276,9 +276,9 @@ fn rows_follow_flows_and_checks(rt: HostRuntime) -> Result<(), Fail> {
             "flow f1 check c1 compliant\nflow f3 unselected\nflow f2 check c1 violated\n  extra: r1 r3 r4\n  after: r1 r3 r4\ntotal 3 compliant 1 violated 1 undecided 0 unselected 1\n",
         ),
         (
-            "level device; check late for flow f1 : { .* : preserve }; check all : { r1 r2 r4 : preserve };",
+            "level device; check late for flow f1 : { .* : preserve }; check each : { r1 r2 r4 : preserve };",
             MET,
-            "flow f1 check late compliant\nflow f1 check all compliant\nflow f3 check all compliant\nflow f2 check all compliant\ntotal 4 compliant 4 violated 0 undecided 0 unselected 0\n",
+            "flow f1 check late compliant\nflow f1 check each compliant\nflow f3 check each compliant\nflow f2 check each compliant\ntotal 4 compliant 4 violated 0 undecided 0 unselected 0\n",
         ),
         (
             "path unused = .;",
