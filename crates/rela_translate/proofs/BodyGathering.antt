@@ -96,7 +96,7 @@ unit_stops scope start mid zone c z e known more first second =
     (ap (λ (names : List ℕ → Option Shape). change_shape (record { network = scope.locations.now; level = scope.level }) names c) (sym (named_stays start mid scope.names.now more known)) ∙ second)
 
 -- what names stand for stays as forms and bodies are added
-specs_stay : (old new : List BodyShape) (d : Definitions) → Grows old new → AreBodiesKnown old d → specs_named new d ≡ specs_named old d
+pub specs_stay : (old new : List BodyShape) (d : Definitions) → Grows old new → AreBodiesKnown old d → specs_named new d ≡ specs_named old d
 specs_stay old new d more known = λ i name. by_meaning name (meaning_of d name) refl i
   where
     by_meaning : (name : List ℕ) (m : Option Meaning) → meaning_of d name ≡ m → spec_at new m ≡ spec_at old m

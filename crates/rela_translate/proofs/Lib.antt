@@ -33,5 +33,10 @@ pub mod BodyGathering
 pub mod SpecShapes
 pub mod BodyUnfolding
 pub mod Walking
+pub mod WalkNames
+pub mod WalkItems
+pub mod ExpandedFile
 pub mod Entries
 pub mod Marks
+pub mod Making
+pub mod Tables

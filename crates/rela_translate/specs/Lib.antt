@@ -19,6 +19,7 @@ pub mod BodyGathers
 pub mod Expand
 pub mod Tables
 pub mod Walk
+pub mod Walks
 pub mod LangW
 pub mod ZonesW
 pub mod Faithful

@@ -40,9 +40,8 @@ impl Model for Check {
 }
 
 impl Check {
-    // The check of these parts.
-    #[cfg(test)]
-    pub fn new(
+    /// The check of these parts.
+    pub(crate) fn new(
         name: Name,
         level: Level,
         when: Predicate,

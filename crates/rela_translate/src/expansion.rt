@@ -17,6 +17,7 @@ mod spec_gathering;
 mod trees;
 mod unfit;
 mod unfolding;
+mod walking;
 
 ghost use Rattle.std.specs.Prelude.{◌≡◌, ◌≢◌, IfErr, IfOk, Err, Ok, map};
 ghost use Rattle.std.specs.List.{All, AllZip};
@@ -28,6 +29,7 @@ ghost use Rattle.rela_translate.specs.Faithful.{IsFaithful};
 ghost use Rattle.rela_translate.specs.ZonesW.{bodies_of};
 
 use crate::checks::Check;
+use crate::expansion::walking::walk_items;
 use rela_lex::SpecError;
 use rela_locations::Locations;
 use rela_spec::SpecFile;
@@ -46,7 +48,7 @@ use std::alloc::Global;
 /// 1,000, and `TooLarge` where the two have more than 20,000 nodes together, or its classes list
 /// more than 4,000,000 symbols. `Memory`.
 pub fn expand(
-    _alloc: Global,
+    alloc: Global,
     file: &SpecFile,
     locations: &Locations,
 ) -> Result<Vec<Check>, SpecError>
@@ -58,7 +60,5 @@ pub fn expand(
         AllZip (IsFaithful (record { network = locations.now; level = file.now.level }) file.now.items) (bodies_of file.now.items) checks.items) }
     ensures refused { IfErr result (λ e. e ≢ Memory → expanded locations.now file.now ≡ Err e) }
 {
-    let _ = file;
-    let _ = locations;
-    Err(SpecError::Memory)
+    walk_items(alloc, locations, file.level, file.items.as_slice())
 }

@@ -1,24 +1,35 @@
 //! Checks from the bodies that stand for them, where these are small enough.
 
-ghost use Rattle.std.specs.Prelude.{◌≡◌, ◌≢◌, ◌<◌, ◌≤◌, Err, IfErr, IfOk, Ok, length};
+ghost use Rattle.std.specs.Prelude.{◌≡◌, ◌≢◌, ◌<◌, ◌≤◌, ◌^◌, Err, IfErr, IfOk, Ok, OnOk, length, map};
 ghost use Rattle.rela_flows.specs.Selects.{depth};
 ghost use Rattle.rela_lex.specs.declared.error.SpecError.TheVariants.{Memory};
 ghost use Rattle.rela_translate.specs.Bodies.{AreBodies, body_at, bodies_of};
-ghost use Rattle.rela_translate.specs.Expand.{in_size, outcome_of};
+ghost use Rattle.rela_translate.specs.Expand.{in_size, listing_of, outcome_of, symbols_in};
 ghost use Rattle.rela_translate.specs.Forms.{shapes_of};
+ghost use Rattle.rela_translate.specs.Measures.{weight_of};
 ghost use Rattle.rela_translate.specs.Numbered.{numbered_body};
 ghost use Rattle.rela_translate.specs.Numbering.{Step, nothing_numbered};
 ghost use Rattle.rela_translate.specs.Places.{locations_at};
+ghost use Rattle.rela_translate.specs.Tables.{entry_of};
 ghost use Rattle.rela_translate.specs.declared.body.Core.{Core as CoreType};
 
+use crate::body::Core;
 use crate::checks::Check;
 use crate::expansion::bodies::Bodies;
+use crate::expansion::body_unfolding::unfold_body;
+use crate::expansion::entry::Entry;
+use crate::expansion::fitting::fit;
 use crate::expansion::forms::Forms;
+use crate::expansion::numbers::Numbers;
+use crate::expansion::unfit::Unfit;
+use crate::expansion::unfolding::MAX_LISTED;
+use indexmap::IndexSet;
 use rela_flows::Predicate;
 use rela_lex::SpecError;
 use rela_locations::Locations;
-use rela_names::{Level, Name};
-use std::alloc::Global;
+use rela_names::{Level, Name, Word};
+use rela_rir::SymbolSet;
+use std::alloc::{AllocError, Global};
 
 /// What is written of a check beside its body: its name and where that stands, the flows that it is
 /// for, and whether only added paths offend.
@@ -38,7 +49,7 @@ pub(crate) struct Heading<'a> {
 /// where the two have more than 20,000 nodes together, or its classes list more than 4,000,000 symbols.
 /// `Memory`.
 pub(crate) fn made(
-    _alloc: Global,
+    alloc: Global,
     locations: &Locations,
     level: Level,
     forms: &Forms<'_>,
@@ -56,11 +67,65 @@ pub(crate) fn made(
     ensures refused { IfErr result (λ e. e ≢ Memory →
         in_size (locations_at (record { network = locations.now; level = level })) heading.now.at (numbered_body (record { network = locations.now; level = level }) (body_at (bodies_of (shapes_of forms.now.forms.items) bodies.now.forms.items) place) nothing_numbered) ≡ Err e) }
 {
-    let _ = locations;
-    let _ = level;
-    let _ = forms;
-    let _ = bodies;
-    let _ = place;
-    let _ = heading;
-    Err(SpecError::Memory)
+    fit(bodies.size(place), heading.at)?;
+    let (body, classes) = match unfolded(alloc, locations, level, forms, bodies, place) {
+        Ok(parts) => parts,
+        Err(Unfit::TooLarge) => return Err(SpecError::TooLarge { at: heading.at }),
+        Err(Unfit::Memory) => return Err(SpecError::Memory),
+    };
+    let name = heading.name.copy(alloc)?;
+    let when = heading.when.copy(alloc)?;
+    Ok(Check::new(name, level, when, heading.at_most, classes, body))
+}
+
+/// The body at this place, and its class table.
+///
+/// # Errors
+///
+/// `TooLarge` where the classes list more than 4,000,000 symbols together; `Memory`.
+fn unfolded(
+    alloc: Global,
+    locations: &Locations,
+    level: Level,
+    forms: &Forms<'_>,
+    bodies: &Bodies,
+    place: usize,
+) -> Result<(Core, Vec<SymbolSet>), Unfit>
+    requires inside { place < length bodies.now.forms.items }
+    requires are { AreBodies (shapes_of forms.now.forms.items) bodies.now.forms.items }
+    requires light { weight_of (body_at (bodies_of (shapes_of forms.now.forms.items) bodies.now.forms.items) place) < 2 ^ 32 }
+    ensures body { IfOk result (λ p. (numbered_body (record { network = locations.now; level = level }) (body_at (bodies_of (shapes_of forms.now.forms.items) bodies.now.forms.items) place) nothing_numbered).value ≡ p.0) }
+    ensures classes { IfOk result (λ p. (numbered_body (record { network = locations.now; level = level }) (body_at (bodies_of (shapes_of forms.now.forms.items) bodies.now.forms.items) place) nothing_numbered).after.classes ≡ map listing_of p.1.items) }
+    ensures few { OnOk result (symbols_in (numbered_body (record { network = locations.now; level = level }) (body_at (bodies_of (shapes_of forms.now.forms.items) bodies.now.forms.items) place) nothing_numbered).after.classes ≤ 4000000) }
+    ensures too_large { IfErr result (λ e. e ≡ Unfit.TooLarge → 4000000 < symbols_in (numbered_body (record { network = locations.now; level = level }) (body_at (bodies_of (shapes_of forms.now.forms.items) bodies.now.forms.items) place) nothing_numbered).after.classes) }
+{
+    let mut numbers = Numbers::new(alloc);
+    let body = unfold_body(alloc, locations, level, forms, bodies, place, &mut numbers)?;
+    if numbers.listed > MAX_LISTED {
+        return Err(Unfit::TooLarge);
+    }
+    let classes = class_table(alloc, numbers.classes)?;
+    Ok((body, classes))
+}
+
+/// The sets of the entries, in their order.
+fn class_table(alloc: Global, entries: IndexSet<Entry>) -> Result<Vec<SymbolSet>, AllocError>
+    ensures { IfOk result (λ sets. map listing_of sets.items ≡ map entry_of entries.keys) }
+{
+    let mut sets = Vec::new(alloc);
+    for entry in entries {
+        sets.push(set_of(entry))?;
+    }
+    Ok(sets)
+}
+
+/// The set of the symbols of an entry.
+fn set_of(entry: Entry) -> SymbolSet
+    ensures { listing_of result ≡ entry_of entry }
+{
+    let Entry { negated, members } = entry;
+    SymbolSet {
+        negated,
+        members: Word::from_symbols(members),
+    }
 }

@@ -20,7 +20,7 @@ use std::alloc::{AllocError, Global};
 use std::slice;
 
 /// The greatest number of symbols that the classes of a check may list together.
-const MAX_LISTED: u64 = 4_000_000;
+pub(super) const MAX_LISTED: u64 = 4_000_000;
 
 /// The expression that stands at this place. It goes as deep into the stack as its term is deep.
 ///
