@@ -1,20 +1,21 @@
 -- What a check is made of: a body whose terms are small, and its class table.
-use Rattle.std.proofs.Common.{◌≡◌, ℕ, ◌+◌, ◌<◌, ◌≤◌, ◌⊎◌, inl, inr, Bool, true, false, ◌||◌, List, length, map, Result, Ok, Err, refl, ap, sym, subst, ◌∙◌, arith}
+use Rattle.std.proofs.Common.{◌≡◌, ℕ, ◌+◌, ◌<◌, ◌≤◌, ◌^◌, ◌⊎◌, inl, inr, Bool, true, false, ◌||◌, List, length, map, Result, Ok, Err, refl, ap, sym, subst, ◌∙◌, arith}
 use Rattle.std.proofs.lemmas.Bool.{le-ltb, lt-ltb}
 use Rattle.std.proofs.lemmas.List.{length-map}
 use Rattle.std.specs.Prelude.{nat_lt, if◌then◌else◌}
 use Rattle.std.specs.List.{All, range_with_len}
 use Rattle.rela_flows.specs.Selects.{depth}
+use Rattle.rela_flows.specs.declared.predicate.Predicate.{Predicate}
 use Rattle.rela_lex.specs.declared.error.SpecError.{SpecError}
 use Rattle.rela_lex.specs.declared.error.SpecError.TheVariants.{TooDeep, TooLarge}
 use Rattle.rela_rir.specs.Size.{nodes_of_rel, depth_of_rel}
 use Rattle.rela_spec.specs.declared.tree.Modifier.{Modifier}
 use Rattle.rela_spec.specs.declared.tree.Modifier.TheVariants as m
 use Rattle.rela_translate.specs.Checked.{Checked, IsCheck, entries_of, markers_of}
-use Rattle.rela_translate.specs.Expand.{in_size, listing_of, symbols_in}
+use Rattle.rela_translate.specs.Expand.{in_size, listing_of, outcome_of, symbols_in}
 use Rattle.rela_translate.specs.Measures.{Measures, measure_of, modifier_measures, unit_measures, body_measures, weight_of, weight_of_modifier}
 use Rattle.rela_translate.specs.Numbered.{numbered_body}
-use Rattle.rela_translate.specs.Numbering.{Step, nothing_numbered}
+use Rattle.rela_translate.specs.Numbering.{Listing, Step, nothing_numbered}
 use Rattle.rela_translate.specs.Places.{Place, locations_at}
 use Rattle.rela_translate.specs.Shapes.{Shape, BodyShape, Unit as Unit', Then, Else, nodes_of_shape}
 use Rattle.rela_translate.specs.Terms.{before_of, after_of}
@@ -117,3 +118,31 @@ module _ (place : Place) (s : BodyShape) where
     shallow_after = λ locations. subst (λ (b : Core). depth_of_rel (after_of locations b) ≤ 1000) body
         (subst (λ (n : ℕ). n ≤ 1000) (sym (after_depth locations)) after);
   }
+
+  -- what is refused as too deep or too large before it is unfolded
+  pub is_refused : (at : ℕ) (e : SpecError) → (e ≡ TooDeep at) ⊎ (e ≡ TooLarge at)
+      → (e ≡ TooDeep at → (1000 < (body_measures s).before.depth) ⊎ (1000 < (body_measures s).after.depth))
+      → (e ≡ TooLarge at → ((body_measures s).before.depth ≤ 1000) × ((body_measures s).after.depth ≤ 1000) × (20000 < (body_measures s).before.nodes + (body_measures s).after.nodes))
+      → in_size (locations_at place) at step_of ≡ Err e
+  is_refused at e (inl is) deep large = is_too_deep at (deep is) ∙ ap (λ (x : SpecError). let r : Result (Step Core) SpecError = Err x in r) (sym is)
+  is_refused at e (inr is) deep large =
+      let h = large is in
+      is_too_large at h.0 h.1 (inl h.2) ∙ ap (λ (x : SpecError). let r : Result (Step Core) SpecError = Err x in r) (sym is)
+
+  pub is_light : (body_measures s).before.nodes + (body_measures s).after.nodes ≤ 20000 → weight_of s < 2 ^ 32
+  is_light few = let h = weight_within s in omega arith
+
+outcome_parts : (check : Checked) {name : List ℕ} {at_most : Bool} {when : Predicate} {classes : List Listing} {body : Core}
+    → check.name ≡ name → check.at_most ≡ at_most → check.when ≡ when → map listing_of check.classes ≡ classes → check.body ≡ body
+    → outcome_of check ≡ record { name = name; at_most = at_most; when = when; classes = classes; body = body }
+outcome_parts check a b c d e = λ i. record { name = a i; at_most = b i; when = c i; classes = d i; body = e i }
+
+pub check_is_made : (place : Place) (s : BodyShape) (at : ℕ) (check : Checked) (name : List ℕ) (at_most : Bool) (when : Predicate)
+    → check.name ≡ name → check.at_most ≡ at_most → check.when ≡ when
+    → (numbered_body place s nothing_numbered).value ≡ check.body → (numbered_body place s nothing_numbered).after.classes ≡ map listing_of check.classes
+    → (body_measures s).before.depth ≤ 1000 → (body_measures s).after.depth ≤ 1000 → (body_measures s).before.nodes + (body_measures s).after.nodes ≤ 20000
+    → symbols_in (numbered_body place s nothing_numbered).after.classes ≤ 4000000
+    → (step : Step Core) × (in_size (locations_at place) at (numbered_body place s nothing_numbered) ≡ Ok step)
+    × (outcome_of check ≡ record { name = name; at_most = at_most; when = when; classes = step.after.classes; body = step.value })
+check_is_made place s at check name at_most when a b c body classes before after few listed =
+    (numbered_body place s nothing_numbered, is_sized place s at before after few listed, outcome_parts check a b c (sym classes) (sym body))
