@@ -1,9 +1,20 @@
 use super::*;
 use rela_flows::Predicate;
-use rela_names::{Alphabet, Level, Name, Word};
+use rela_lex::{MAX_TEXT_LEN, SpecError, tokens};
+use rela_locations::Locations;
+use rela_names::{Alphabet, Boxed, Level, Name, Word};
 use rela_rir::{PathTerm, RelTerm, SymbolSet};
+use rela_spec::parse;
 use std::alloc::{AllocError, Global};
+use std::process::Abort;
 use std::test::Fail;
+
+const NETWORK: &[u8] =
+    b"{\"version\":1,\"groups\":[{\"name\":\"core\",\"devices\":[{\"name\":\"r2\",\"interfaces\":[\"r2:0\"]},{\"name\":\"r3\",\"interfaces\":[\"r3:0\"]}]},{\"name\":\"edge\",\"devices\":[{\"name\":\"r1\",\"tags\":[\"border\"],\"interfaces\":[\"r1:0\"]},{\"name\":\"r4\",\"interfaces\":[\"r4:0\",\"r4:1\"]}]}]}";
+
+/// Forty paths, each of which is twice the one before it.
+const DOUBLING: &[u8] =
+    b"path a0 = .; path a1 = $a0 $a0; path a2 = $a1 $a1; path a3 = $a2 $a2; path a4 = $a3 $a3; path a5 = $a4 $a4; path a6 = $a5 $a5; path a7 = $a6 $a6; path a8 = $a7 $a7; path a9 = $a8 $a8; path a10 = $a9 $a9; path a11 = $a10 $a10; path a12 = $a11 $a11; path a13 = $a12 $a12; path a14 = $a13 $a13; path a15 = $a14 $a14; path a16 = $a15 $a15; path a17 = $a16 $a16; path a18 = $a17 $a17; path a19 = $a18 $a18; path a20 = $a19 $a19; path a21 = $a20 $a20; path a22 = $a21 $a21; path a23 = $a22 $a22; path a24 = $a23 $a23; path a25 = $a24 $a24; path a26 = $a25 $a25; path a27 = $a26 $a26; path a28 = $a27 $a27; path a29 = $a28 $a28; path a30 = $a29 $a29; path a31 = $a30 $a30; path a32 = $a31 $a31; path a33 = $a32 $a32; path a34 = $a33 $a33; path a35 = $a34 $a34; path a36 = $a35 $a35; path a37 = $a36 $a36; path a38 = $a37 $a37; path a39 = $a38 $a38; path a40 = $a39 $a39; check c1 : { $a40 : preserve };";
 
 fn set(alloc: Global, negated: bool) -> SymbolSet {
     SymbolSet {
@@ -54,5 +65,98 @@ fn tells_its_parts(rt: HostRuntime) -> Result<(), Fail> {
     assert!(rt; !check.at_most());
     assert_eq!(rt; check.classes().len(), 2);
     assert!(rt; matches!(check.body(), Core::Unit { .. }));
+    Ok(())
+}
+
+/// The checks of the text.
+fn checks_of(
+    rt: &impl Abort,
+    alloc: Global,
+    locations: &Locations,
+    text: &[u8],
+) -> Result<Vec<Check>, SpecError> {
+    assert!(rt; text.len() <= MAX_TEXT_LEN);
+    let tokens = tokens(alloc, text)?;
+    let file = parse(alloc, tokens.as_slice(), text.len() as u32)?;
+    expand(alloc, &file, locations)
+}
+
+/// Says that the text is refused so.
+fn refused(rt: &impl Abort, alloc: Global, locations: &Locations, text: &[u8], fault: SpecError) {
+    let found = checks_of(rt, alloc, locations, text).err();
+    assert_eq!(rt; found, Some(fault));
+}
+
+#[test]
+fn refuses_names(rt: HostRuntime) -> Result<(), Fail> {
+    let alloc = rt.alloc();
+    let locations = Locations::decode(alloc, NETWORK)?;
+    refused(
+        &rt,
+        alloc,
+        &locations,
+        b"check c1 : { $x : preserve };",
+        SpecError::UnknownName { at: 13 },
+    );
+    refused(
+        &rt,
+        alloc,
+        &locations,
+        b"path p = .; path p = .;",
+        SpecError::RepeatedName { at: 17 },
+    );
+    refused(
+        &rt,
+        alloc,
+        &locations,
+        b"level group; check c1 : { device(r1) : preserve };",
+        SpecError::FinerLevel { at: 33 },
+    );
+    refused(
+        &rt,
+        alloc,
+        &locations,
+        b"check c1 : { r9 : preserve };",
+        SpecError::UnknownLocation { at: 13 },
+    );
+    Ok(())
+}
+
+#[test]
+fn refuses_what_is_too_large(rt: HostRuntime) -> Result<(), Fail> {
+    let alloc = rt.alloc();
+    let locations = Locations::decode(alloc, NETWORK)?;
+    refused(
+        &rt,
+        alloc,
+        &locations,
+        DOUBLING,
+        SpecError::TooLarge { at: 870 },
+    );
+    Ok(())
+}
+
+#[test]
+fn numbers_classes_and_markers(rt: HostRuntime) -> Result<(), Fail> {
+    let alloc = rt.alloc();
+    let locations = Locations::decode(alloc, NETWORK)?;
+    let text = b"level device; path e = r1; check atmost c1 : { ($e | .)* : any(r1) };";
+    let checks = checks_of(&rt, alloc, &locations, text.as_slice())?;
+    assert_eq!(rt; checks.len(), 1);
+    let either = Expr::Alt(
+        Boxed::new(alloc, Expr::Class(0))?,
+        Boxed::new(alloc, Expr::Class(1))?,
+    );
+    let body = Core::Unit {
+        zone: Expr::Star(Boxed::new(alloc, either)?),
+        modifier: Change::AnyOf {
+            path: Expr::Class(0),
+            marker: 1,
+        },
+    };
+    assert_eq!(rt; *checks[0].body(), body);
+    assert_eq!(rt; checks[0].classes().len(), 2);
+    assert_eq!(rt; checks[0].level(), Level::Device);
+    assert!(rt; checks[0].at_most());
     Ok(())
 }

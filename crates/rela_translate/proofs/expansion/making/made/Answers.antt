@@ -1,4 +1,4 @@
-use Rattle.std.proofs.Common.{◌≡◌, ◌≤◌, Err, map, refl, ap, sym, subst, ◌∙◌, arith, inr}
+use Rattle.std.proofs.Common.{◌≡◌, ◌≤◌, Err, map, ap, sym, subst, ◌∙◌, arith, inr}
 use Rattle.rela_flows.specs.Selects.{depth}
 use Rattle.rela_flows.specs.declared.predicate.Predicate.{Predicate}
 use Rattle.rela_translate.specs.Bodies.{bodies_of, body_at, size_of_body}
