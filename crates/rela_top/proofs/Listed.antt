@@ -4,8 +4,7 @@ use Rattle.std.specs.Prelude.{nat_eq}
 use Rattle.std.specs.List.{All, list_any, range_with_len}
 use Rattle.std.proofs.lemmas.List.FromFn.{length-range_with_len, get_or-range_with_len}
 use Rattle.std.proofs.lemmas.List.Elements.{All-nil, All-push, All-filter, All-weaker}
-use Rattle.rela_json.specs.Results.{◌>>=◌, try_fold, try_map}
-use Rattle.rela_lex.specs.declared.error.SpecError.{SpecError}
+use Rattle.rela_json.specs.Results.{try_fold}
 use Rattle.rela_locations.specs.Network.{Network, alphabet_of}
 use Rattle.rela_spec.specs.declared.tree.Item.{Item}
 use Rattle.rela_spec.specs.declared.tree.Item.TheVariants.{Path, Spec, Check}
@@ -15,9 +14,9 @@ use Rattle.rela_spec.specs.declared.tree.Modifier.TheVariants as m
 use Rattle.rela_spec.specs.declared.tree.SpecFile.{SpecFile}
 use Rattle.rela_translate.specs.Checked.{Checked}
 use Rattle.rela_translate.specs.Expand.{Expanded, Sofar, at_first, expanded, listing_of, outcome_of, with_item}
-use Rattle.rela_translate.specs.Numbered.{listing, numbered, numbered_body, numbered_change, or_none}
+use Rattle.rela_translate.specs.Numbered.{found, listing, named_by, numbered, numbered_body, numbered_change}
 use Rattle.rela_translate.specs.Numbering.{Listing, Numbering, nothing_numbered, same_listing, with_class}
-use Rattle.rela_translate.specs.Places.{Place, in_some, listed, path_symbols_at, symbols_of}
+use Rattle.rela_translate.specs.Places.{Place, path_symbols_at}
 use Rattle.rela_translate.specs.Shapes.{Shape, Empty, Class, Seq, Alt, Meet, Not, Star, BodyShape, Unit as Unit', Then, Else, Shapes}
 use Rattle.rela_translate.proofs.Membership.{bound, from_ok}
 use Rattle.rela_translate.proofs.Steps.{state, shapes_with_path, shapes_with_spec, path_step, spec_step, check_step}
@@ -40,14 +39,10 @@ module _ (place : Place) where
       let at : _ = get_or-range_with_len 0 n k d below in
       omega (arith, below, at)
 
-  members_listed : (members : List Member) → All IsPath (or_none (listed place members))
-  unfolding listed
-  members_listed members = by_lists (try_map (symbols_of place) members)
-    where
-      by_lists : (r : Result (List (List ℕ)) SpecError) → All IsPath (or_none (r >>= (λ lists. Ok (in_some place lists))))
-      by_lists (Ok lists) =
-          All-filter (λ s. list_any (λ list. list_any (nat_eq s) list) lists) IsPath (range_with_len 0 (path_symbols_at place)) (in_range (path_symbols_at place))
-      by_lists (Err e) = All-nil IsPath
+  members_listed : (members : List Member) → All IsPath (found place members)
+  members_listed members =
+      let lists = map (named_by place) members in
+      All-filter (λ s. list_any (λ list. list_any (nat_eq s) list) lists) IsPath (range_with_len 0 (path_symbols_at place)) (in_range (path_symbols_at place))
 
   class_added : (classes : List Listing) (c : Listing) → ListPaths classes → ListsPaths c → ListPaths (with_class classes c)
   class_added classes c each one = by_test (list_any (same_listing c) classes)
