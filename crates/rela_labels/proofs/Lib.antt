@@ -1,6 +1,9 @@
+pub mod ApartBlocks
+pub mod AscendingLists
 pub mod BlocksInOrder
 pub mod KeysInOrder
 pub mod LettersOfWords
 pub mod Members
 pub mod MovedKeys
+pub mod ReachedSymbols
 pub mod WordBits

@@ -1,3 +1,4 @@
+pub mod Apart
 pub mod Letters
 pub mod Numbering
 pub mod Partition

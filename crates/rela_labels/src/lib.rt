@@ -1,6 +1,8 @@
 //! Sets of letters, and partitions of symbols into blocks.
 #![tactic(auto)]
 
+mod ascending;
+mod base;
 mod block_set;
 mod label_set;
 mod numbering;

@@ -1,28 +1,43 @@
 ghost use Rattle.std.specs.Prelude.{◌≡◌, ℕ, ◌^◌, ◌<◌, ◌≤◌, ◌↔◌, IfOk, IfErr, All, Contains, length};
-ghost use Rattle.rela_labels.specs.Partition.{block_of, block_count, Together, IsPartition, IsLeastOf};
+ghost use Rattle.rela_labels.specs.Partition.{block_of, block_count, Together, IsPartition, IsLeastOf, IsNumbered};
 
+use crate::ascending::{ascending_union, place_in};
+use crate::base::{Base, number_apart};
 use crate::numbering::{number_keys, numbers_below, split_keys};
 use rela_names::Symbol;
 use std::alloc::{AllocError, Global};
 use std::marker::Model;
+use std::rc::Rc;
 
 /// The symbols below some number, put into blocks. The blocks are numbered from 0 in the order of
 /// their least symbols. Contracts see it as the list of each symbol's block.
+///
+/// A partition may share the most of its blocks with others: it has a base, which it may share, and
+/// symbols that are apart, each a block of its own.
 #[derive(Debug, Drop)]
 pub struct Partition {
-    blocks: Vec<u32>,
+    base: Rc<Base>,
+    // the symbols that are apart, ascending
+    apart: Vec<Symbol>,
+    // the number of the block of each symbol that is apart
+    beside: Vec<u32>,
+    // for each block of the base the number of the block of its symbols that are not apart
+    numbers: Vec<u32>,
+    // the least symbol of each block
     least: Vec<Symbol>,
 }
 
 impl Model for Partition {
     ghost use Rattle.std.specs.Prelude.{List, ℕ};
-    ghost use Rattle.rela_labels.specs.Partition.{IsNumbered};
+    ghost use Rattle.rela_labels.specs.Apart.{blocks_now, IsLayered};
 
     ghost Value = { List ℕ };
 
-    ghost view = { λ partition. partition.blocks.items };
+    ghost view = { λ partition. blocks_now partition.apart.items partition.beside.items partition.numbers.items
+        partition.base.value.blocks.items };
 
-    ghost invariant = { λ partition. IsNumbered partition.blocks.items partition.least.items };
+    ghost invariant = { λ partition. IsLayered partition.base.value.blocks.items partition.base.value.first.items partition.base.value.next.items
+        partition.apart.items partition.beside.items partition.numbers.items partition.least.items };
 }
 
 impl Partition {
@@ -36,7 +51,7 @@ impl Partition {
     {
         let blocks = vec![in alloc; 0; symbols as usize]?;
         let least = vec![in alloc; 0; 1]?;
-        Ok(Partition { blocks, least })
+        Partition::fresh(alloc, blocks, least)
     }
 
     /// The partition of this many symbols in which each is a block of its own.
@@ -49,7 +64,7 @@ impl Partition {
     {
         let blocks = numbers_below(alloc, symbols)?;
         let least = numbers_below(alloc, symbols)?;
-        Ok(Partition { blocks, least })
+        Partition::fresh(alloc, blocks, least)
     }
 
     /// Splits each block into the members and the others, in one pass over the symbols. The members
@@ -62,9 +77,10 @@ impl Partition {
             → Together self.new s t ↔ (Together self.old s t × (Contains members.now s ↔ Contains members.now t))) }
         ensures unchanged { IfErr result (λ _. self.new ≡ self.old) }
     {
-        let keys = split_keys(alloc, &self.blocks, members)?;
+        let old = self.block_numbers(alloc)?;
+        let keys = split_keys(alloc, &old, members)?;
         let (blocks, least) = number_keys(alloc, &keys, 2 * self.least.len())?;
-        *self = Partition { blocks, least };
+        *self = Partition::fresh(alloc, blocks, least)?;
         Ok(())
     }
 
@@ -84,7 +100,47 @@ impl Partition {
             → Together partition s t ↔ Together keys.now s t) }
     {
         let (blocks, least) = number_keys(alloc, keys, bound)?;
-        Ok(Partition { blocks, least })
+        Partition::fresh(alloc, blocks, least)
+    }
+
+    /// The partition with these blocks and their least symbols.
+    fn fresh(alloc: Global, blocks: Vec<u32>, least: Vec<Symbol>) -> Result<Partition, AllocError>
+        requires { IsNumbered blocks.items least.items }
+        ensures { IfOk result (λ partition. partition ≡ blocks.items) }
+    {
+        let numbers = numbers_below(alloc, least.len() as u32)?;
+        let first = Vec::from_slice(alloc, &least)?;
+        let shared = Base::new(alloc, blocks, first)?;
+        let base = Rc::new(alloc, shared)?;
+        Ok(Partition {
+            base,
+            apart: Vec::new(alloc),
+            beside: Vec::new(alloc),
+            numbers,
+            least,
+        })
+    }
+
+    /// The same blocks, but that each of these symbols is a block of its own. It takes the time of
+    /// the blocks and of these symbols, n log n, and not that of all symbols: the two partitions share
+    /// what they have in common.
+    pub fn with_alone(&self, alloc: Global, symbols: &[Symbol]) -> Result<Partition, AllocError>
+        requires { All (λ s. s < length self.now) symbols.now }
+        ensures symbols { IfOk result (λ partition. length partition ≡ length self.now) }
+        ensures partition { IfOk result IsPartition }
+        ensures together { IfOk result (λ partition. (s t : ℕ) → s < length self.now → t < length self.now
+            → Together partition s t ↔ (Together self.now s t × ((u : ℕ) → Contains symbols.now u → (s ≡ u) ↔ (t ≡ u)))) }
+    {
+        let apart = ascending_union(alloc, &self.apart, symbols)?;
+        let (beside, numbers, least) = number_apart(alloc, &self.base, &apart)?;
+        let base = self.base.clone()?;
+        Ok(Partition {
+            base,
+            apart,
+            beside,
+            numbers,
+            least,
+        })
     }
 
     /// The number of each symbol's block.
@@ -92,10 +148,28 @@ impl Partition {
         ensures blocks { IfOk result (λ keys. keys.items ≡ self.now) }
         ensures few { length self.now < 2 ^ 32 }
     {
-        self.blocks
-            .iter()
-            .map(|block| *block as usize)
-            .collect(alloc)
+        let blocks = self.block_numbers(alloc)?;
+        blocks.iter().map(|block| *block as usize).collect(alloc)
+    }
+
+    /// The number of each symbol's block.
+    fn block_numbers(&self, alloc: Global) -> Result<Vec<u32>, AllocError>
+        ensures blocks { IfOk result (λ blocks. blocks.items ≡ self.now) }
+        ensures few { length self.now < 2 ^ 32 }
+    {
+        let symbols = self.symbols();
+        let mut blocks = Vec::with_capacity(alloc, symbols as usize)?;
+        for s in 0..symbols {
+            blocks.push(self.block_of(s))?;
+        }
+        Ok(blocks)
+    }
+
+    /// How many symbols there are.
+    fn symbols(&self) -> u32
+        ensures { result ≡ length self.now }
+    {
+        self.base.blocks.len() as u32
     }
 
     /// Two partitions of as many symbols are the same where their symbols share blocks alike. The
@@ -105,8 +179,8 @@ impl Partition {
             → ((s t : ℕ) → s < length self.now → t < length self.now → Together self.now s t ↔ Together other.now s t)
             → self.now ≡ other.now }
     {
-        let _ = &self.blocks;
-        let _ = &other.blocks;
+        let _ = &self.least;
+        let _ = &other.least;
     }
 
     /// How many blocks there are: just the numbers below it are blocks.
@@ -123,7 +197,10 @@ impl Partition {
         ensures block { result ≡ block_of self.now s }
         ensures below { result < block_count self.now }
     {
-        self.blocks[s as usize]
+        match place_in(&self.apart, s) {
+            Some(place) => self.beside[place],
+            None => self.numbers[self.base.blocks[s as usize] as usize],
+        }
     }
 
     /// The least symbol of the block.

@@ -1,4 +1,4 @@
-ghost use Rattle.std.specs.Prelude.{◌≡◌, IfOk, length};
+ghost use Rattle.std.specs.Prelude.{◌≡◌, ◌<◌, All, IfOk, length};
 
 use super::*;
 use std::alloc::{AllocError, Global};
@@ -76,6 +76,50 @@ fn refines(rt: HostRuntime) -> Result<(), Fail> {
     let finest = Partition::finest(alloc, 3)?;
     assert_eq!(rt; finest.blocks(), 3);
     assert_eq!(rt; finest.representative(2), 2);
+    Ok(())
+}
+
+// Whether the six symbols have these blocks, once the symbols of one list after the other are set apart.
+fn has_apart(
+    alloc: Global,
+    first: &[u32],
+    second: &[u32],
+    expected: &[u32],
+) -> Result<bool, AllocError>
+    requires first { All (λ s. s < 6) first.now }
+    requires second { All (λ s. s < 6) second.now }
+{
+    let mut partition = Partition::new(alloc, 6)?;
+    partition.refine(alloc, &[1, 2])?;
+    let once = partition.with_alone(alloc, first)?;
+    let twice = once.with_alone(alloc, second)?;
+    let blocks = (0..6)
+        .map(|s| twice.block_of(s))
+        .collect::<Vec<u32>>(alloc)?;
+    Ok(blocks.as_slice() == expected)
+}
+
+#[test]
+fn middle_apart(rt: HostRuntime) -> Result<(), Fail> {
+    assert!(rt; has_apart(rt.alloc(), &[3], &[], &[0, 1, 1, 2, 0, 0])?);
+    Ok(())
+}
+
+#[test]
+fn least_apart(rt: HostRuntime) -> Result<(), Fail> {
+    assert!(rt; has_apart(rt.alloc(), &[0], &[], &[0, 1, 1, 2, 2, 2])?);
+    Ok(())
+}
+
+#[test]
+fn whole_block_apart(rt: HostRuntime) -> Result<(), Fail> {
+    assert!(rt; has_apart(rt.alloc(), &[2, 1, 2], &[], &[0, 1, 2, 0, 0, 0])?);
+    Ok(())
+}
+
+#[test]
+fn twice_apart(rt: HostRuntime) -> Result<(), Fail> {
+    assert!(rt; has_apart(rt.alloc(), &[0], &[3, 1], &[0, 1, 2, 3, 4, 4])?);
     Ok(())
 }
 

@@ -5,4 +5,4 @@ use Rattle.rela_labels.proofs.partition.Partition.determined_by_blocks.Goals as 
 
 pub returns : goal.returns
 returns c =
-    same_partitions _ _ (subst IsPartition c.self.view_is c.self.invariant.partition) (subst IsPartition c.other.view_is c.other.invariant.partition)
+    same_partitions _ _ (subst IsPartition c.self.view_is c.self.invariant.numbered.partition) (subst IsPartition c.other.view_is c.other.invariant.numbered.partition)
