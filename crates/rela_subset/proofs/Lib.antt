@@ -3,7 +3,6 @@ pub mod Blocks
 pub mod Bundling
 pub mod Closing
 pub mod Determined
-pub mod Ends
 pub mod Expanding
 pub mod Exploring
 pub mod Fewer
@@ -11,14 +10,15 @@ pub mod Finding
 pub mod Following
 pub mod Growing
 pub mod LastLetters
+pub mod Marking
 pub mod Narrowing
 pub mod Placing
 pub mod Reached
 pub mod Searching
 pub mod SetsFound
 pub mod SetsSpread
+pub mod Stamps
 pub mod Standing
 pub mod Targets
 pub mod Views
-pub mod Visiting
 pub mod Words

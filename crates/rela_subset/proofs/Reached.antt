@@ -8,8 +8,7 @@ use Rattle.std.proofs.lemmas.List.Elements.{All-get_or, All-from_get_or, Contain
 use Rattle.rela_nfa.specs.Automaton.{Automaton, IsAutomaton, IsMove, moves_of, states}
 use Rattle.rela_nfa.specs.Runs.{Step, StepIn, HasStep, Follow, Reach, spelled}
 use Rattle.rela_subset.specs.Sets.{Lists, Silently, SilentlyFrom, NextFrom, ReachedBy}
-use Rattle.rela_subset.proofs.Targets.{Contains-nil, Contains-head, step_within}
-use Rattle.rela_subset.proofs.Visiting.{Contains-one}
+use Rattle.rela_subset.proofs.Targets.{Contains-nil, Contains-head, Contains-one, step_within}
 
 no_step : (letter : Option ℕ) (q : ℕ) → ¬ StepIn [] letter q
 no_step None q step = Contains-nil _ step

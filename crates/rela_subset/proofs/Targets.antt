@@ -24,6 +24,9 @@ Contains-head x xs = (0, omega arith, refl)
 pub Contains-tail : {X : Type 0} (y : X) (xs : List X) (x : X) → Contains xs x → Contains (y ∷ xs) x
 Contains-tail y xs x c = (suc c.0, omega (arith, c.1), c.2)
 
+pub Contains-one : {X : Type 0} (x y : X) → Contains (x ∷ []) y → x ≡ y
+Contains-one x y c = elim (Contains-cons_cases x [] y c) [ inl same ↦ same | inr later ↦ absurd (Contains-nil y later) ]
+
 -- the label that has the letter
 takes_label : (k : ℕ) (label : Option (List Bool)) (to : ℕ) → takes k (record { label = label; to = to }) ≡ true
     → (set : List Bool) × (label ≡ Some set) × (has set k ≡ true)

@@ -1,10 +1,11 @@
 -- Sets of numbers as lists in ascending order, and sets of the states of an automaton.
-use Rattle.std.specs.Prelude.{◌≡◌, ◌≢◌, ℕ, ◌+◌, ◌<◌, ◌⊎◌, ◌↔◌, Bool, List, [], length, slice_index_or, Contains, Option, None, Some, is_none}
+use Rattle.std.specs.Prelude.{◌≡◌, ◌≢◌, ℕ, ◌<◌, ◌↔◌, Bool, List, [], length, slice_index_or, Contains, Some, nat_eq}
+use Rattle.std.specs.List.{IsDistinct}
 use Rattle.std.specs.List.Sorted.{IsStrictlySortedBy}
 use Rattle.std.specs.Ordering.{nat_cmp}
-use Rattle.rela_nfa.specs.Automaton.{Automaton, IsFinal, Move}
+use Rattle.rela_nfa.specs.Automaton.{Automaton, IsFinal}
 use Rattle.rela_nfa.specs.Runs.{Step, Follow, HasStep, Reach, spelled}
-use Rattle.rela_subset.specs.Deterministic.{takes}
+use Rattle.rela_nfa.specs.StateSet.{AreFlagged}
 
 -- the numbers of P, each once, in ascending order
 pub record Lists (P : ℕ → Type 0) (set : List ℕ) : Type 0 where
@@ -39,26 +40,7 @@ HasFinal a set = (q : ℕ) × Contains set q × IsFinal a q
 abbrev pub AreDistinct : List (List ℕ) → Type 0
 AreDistinct sets = (i j : ℕ) → i < j → j < length sets → slice_index_or sets i [] ≢ slice_index_or sets j []
 
--- whether the edge may be taken by the letter, or is silent where there is none
-abbrev pub leads_by : Option ℕ → Move → Bool
-leads_by None move = is_none move.label
-leads_by (Some letter) move = takes letter move
-
--- the states have been put with those that are seen, and the new ones with those that wait
-pub record Adds (states seen waiting seen' waiting' : List ℕ) : Type 0 where
-  pub kept : (q : ℕ) → Contains seen q → Contains seen' q
-  pub added : (q : ℕ) → Contains states q → Contains seen' q
-  pub only : (q : ℕ) → Contains seen' q → Contains seen q ⊎ Contains states q
-  pub waits : (q : ℕ) → Contains seen' q → Contains seen q ⊎ Contains waiting' q
-  pub stays : (q : ℕ) → Contains waiting q → Contains waiting' q
-  pub visited : (q : ℕ) → Contains waiting' q → Contains waiting q ⊎ Contains states q
-  pub ordered : IsStrictlySortedBy nat_cmp seen → IsStrictlySortedBy nat_cmp seen'
-  pub balance : length waiting' + length seen ≡ length waiting + length seen'
-
--- the states that are seen, with those of them that wait: their silent edges have not been followed
-pub record IsClosing (a : Automaton) (starts seen waiting : List ℕ) : Type 0 where
-  pub ordered : IsStrictlySortedBy nat_cmp seen
-  pub started : (q : ℕ) → Contains starts q → Contains seen q
-  pub sound : (q : ℕ) → Contains seen q → SilentlyFrom a starts q
-  pub left : (p q : ℕ) → Contains seen p → HasStep a p None q → Contains waiting p ⊎ Contains seen q
-  pub waits : (q : ℕ) → Contains waiting q → Contains seen q
+-- the flags of just the states are set, and no state stands twice
+pub record AreMarked (flags : List Bool) (states : List ℕ) : Type 0 where
+  pub flagged : AreFlagged flags states
+  pub distinct : IsDistinct nat_eq states

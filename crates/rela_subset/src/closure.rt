@@ -1,121 +1,117 @@
-//! The states that silent edges lead to.
-ghost use Rattle.std.specs.Prelude.{◌≡◌, ◌⊎◌, ℕ, ◌<◌, ◌↔◌, true, IfOk, List, [], ◌∷◌, Contains, map};
+//! The states that edges by a letter lead to, and those that silent edges then lead to.
+ghost use Rattle.std.specs.Prelude.{◌≡◌, ℕ, ◌<◌, ◌↔◌, [], ◌∷◌, IfOk, Contains, map};
 ghost use Rattle.std.specs.List.{All};
 ghost use Rattle.rela_nfa.specs.Automaton.{IsAutomaton, states};
+ghost use Rattle.rela_nfa.specs.Reading.{takes as takes_by};
 ghost use Rattle.rela_nfa.specs.Runs.{StepIn};
+ghost use Rattle.rela_nfa.specs.StateSet.{Adds};
 ghost use Rattle.rela_nfa.specs.Stored.{move_of};
-ghost use Rattle.rela_subset.specs.Sets.{Adds, Lists, NextFrom, SilentlyFrom, leads_by as is_by};
+ghost use Rattle.rela_subset.specs.Sets.{Lists, NextFrom, SilentlyFrom};
 
+use crate::visited::Visited;
 use rela_labels::LabelSet;
 use rela_nfa::{Edge, Nfa};
 use std::alloc::{AllocError, Global};
-use std::collections::BTreeSet;
 
 /// The states that silent edges lead to from the starts, which are among them, in ascending order.
+/// The walk, in `visited`, looks once at each edge out of these states, and takes memory for the
+/// result alone.
 pub(crate) fn closure<L: LabelSet>(
     alloc: Global,
     a: &Nfa<L>,
     starts: &[usize],
+    visited: &mut Visited,
 ) -> Result<Vec<usize>, AllocError>
     requires automaton { IsAutomaton a.now }
     requires states { All (λ q. q < states a.now) starts.now }
-    ensures { IfOk result (λ set. Lists (SilentlyFrom a.now starts.now) set.items) }
+    requires count { visited.old.count ≡ states a.now }
+    ensures closure { IfOk result (λ set. Lists (SilentlyFrom a.now starts.now) set.items) }
+    ensures count { visited.new.count ≡ visited.old.count }
 {
-    let mut seen = BTreeSet::new(alloc);
-    let mut waiting = Vec::new(alloc);
-    visit_all(&mut seen, &mut waiting, starts)?;
-    let mut ends = Vec::new(alloc);
-    while let Some(q) = waiting.pop() {
-        ends.clear();
-        push_ends(&mut ends, a.edges(q), None)?;
-        visit_all(&mut seen, &mut waiting, &ends)?;
+    visited.clear();
+    for q in starts {
+        visited.insert(*q)?;
     }
-    in_order(alloc, &seen)
+    close(a, visited)?;
+    visited.sorted(alloc)
 }
 
-/// The states of the set, in ascending order.
-fn in_order(alloc: Global, set: &BTreeSet<usize>) -> Result<Vec<usize>, AllocError>
-    ensures { IfOk result (λ states. states.items ≡ set.now.keys) }
-{
-    set.iter().copied().collect(alloc)
-}
-
-/// The states that follow those of the set by the letter, with those that silent edges then lead to.
+/// The states that follow those of the set by the letter, with those that silent edges then lead to,
+/// in ascending order. They are found as by `closure`.
 pub(crate) fn following<L: LabelSet>(
     alloc: Global,
     a: &Nfa<L>,
     set: &[usize],
     letter: u32,
+    visited: &mut Visited,
 ) -> Result<Vec<usize>, AllocError>
     requires automaton { IsAutomaton a.now }
     requires states { All (λ q. q < states a.now) set.now }
-    ensures { IfOk result (λ next. Lists (NextFrom a.now set.now letter) next.items) }
+    requires count { visited.old.count ≡ states a.now }
+    ensures following { IfOk result (λ next. Lists (NextFrom a.now set.now letter) next.items) }
+    ensures count { visited.new.count ≡ visited.old.count }
 {
-    let mut ends = Vec::new(alloc);
+    visited.clear();
     for q in set {
-        push_ends(&mut ends, a.edges(*q), Some(letter))?;
+        insert_ends(visited, a.edges(*q), Some(letter))?;
     }
-    closure(alloc, a, &ends)
+    close(a, visited)?;
+    visited.sorted(alloc)
 }
 
-/// Puts the states with those that are seen, and those that were not with those that wait.
-fn visit_all(
-    seen: &mut BTreeSet<usize>,
-    waiting: &mut Vec<usize>,
-    states: &[usize],
-) -> Result<(), AllocError>
-    ensures { IfOk result (λ _. Adds states.now seen.old.keys waiting.old.items seen.new.keys waiting.new.items) }
+/// Puts those states behind the others that silent edges lead to from them.
+fn close<L: LabelSet>(a: &Nfa<L>, visited: &mut Visited) -> Result<(), AllocError>
+    requires automaton { IsAutomaton a.now }
+    requires count { visited.old.count ≡ states a.now }
+    ensures closed { IfOk result (λ _. (q : ℕ) → Contains visited.new.states q ↔ SilentlyFrom a.now visited.old.states q) }
+    ensures count { visited.new.count ≡ visited.old.count }
 {
-    for q in states {
-        visit(seen, waiting, *q)?;
+    // The states stand in a queue: those before `done` have been followed.
+    let mut done = 0;
+    while done < visited.states().len() {
+        let q = visited.states()[done];
+        insert_ends(visited, a.edges(q), None)?;
+        done += 1;
     }
     Ok(())
 }
 
-/// The same for one state.
-fn visit(seen: &mut BTreeSet<usize>, waiting: &mut Vec<usize>, q: usize) -> Result<(), AllocError>
-    ensures { IfOk result (λ _. Adds (q ∷ []) seen.old.keys waiting.old.items seen.new.keys waiting.new.items) }
-{
-    if !seen.insert(q)? {
-        return Ok(());
-    }
-    waiting.push(q)?;
-    Ok(())
-}
-
-/// Pushes the ends of the edges that may be taken by the letter, or of the silent ones where there
-/// is none.
-fn push_ends<L: LabelSet>(
-    ends: &mut Vec<usize>,
+/// Puts the ends of the edges that may be taken by the letter, or of the silent ones where there is
+/// none, with the others.
+fn insert_ends<L: LabelSet>(
+    visited: &mut Visited,
     edges: &[Edge<L>],
     letter: Option<u32>,
 ) -> Result<(), AllocError>
-    ensures { IfOk result (λ _. (q : ℕ) → Contains ends.new.items q ↔ (Contains ends.old.items q ⊎ StepIn (map (move_of L.letters) edges.now) letter q)) }
+    requires { All (λ edge. edge.to < visited.old.count) edges.now }
+    ensures adds { IfOk result (λ _. Adds (StepIn (map (move_of L.letters) edges.now) letter) visited.old.states visited.new.states) }
+    ensures count { visited.new.count ≡ visited.old.count }
 {
     for edge in edges {
-        push_end(ends, edge, letter)?;
+        insert_end(visited, edge, letter)?;
     }
     Ok(())
 }
 
 /// The same for one edge.
-fn push_end<L: LabelSet>(
-    ends: &mut Vec<usize>,
+fn insert_end<L: LabelSet>(
+    visited: &mut Visited,
     edge: &Edge<L>,
     letter: Option<u32>,
 ) -> Result<(), AllocError>
-    ensures { IfOk result (λ _. (q : ℕ) → Contains ends.new.items q ↔ (Contains ends.old.items q ⊎ ((is_by letter (move_of L.letters edge.now) ≡ true) × (edge.now.to ≡ q)))) }
+    requires { edge.now.to < visited.old.count }
+    ensures adds { IfOk result (λ _. Adds (StepIn (move_of L.letters edge.now ∷ []) letter) visited.old.states visited.new.states) }
+    ensures count { visited.new.count ≡ visited.old.count }
 {
-    if !leads_by(edge, letter) {
-        return Ok(());
+    if is_taken(edge, letter) {
+        visited.insert(edge.to)?;
     }
-    ends.push(edge.to)?;
     Ok(())
 }
 
 /// Whether the edge may be taken by the letter, or is silent where there is none.
-fn leads_by<L: LabelSet>(edge: &Edge<L>, letter: Option<u32>) -> bool
-    ensures { result ≡ is_by letter (move_of L.letters edge.now) }
+fn is_taken<L: LabelSet>(edge: &Edge<L>, letter: Option<u32>) -> bool
+    ensures { result ≡ takes_by (move_of L.letters edge.now).label letter }
 {
     match (&edge.label, letter) {
         (None, None) => true,

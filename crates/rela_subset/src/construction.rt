@@ -13,6 +13,7 @@ use crate::closure::closure;
 use crate::dfa::Dfa;
 use crate::expansion::expand;
 use crate::state_sets::StateSets;
+use crate::visited::Visited;
 use rela_labels::LabelSet;
 use rela_nfa::{BuildError, Edge, Nfa};
 use std::alloc::{AllocError, Global};
@@ -46,10 +47,11 @@ pub fn determinise<L: LabelSet>(
 {
     prove!(a.start() < a.states());
     let mut sets = StateSets::new(alloc);
+    let mut visited = Visited::new(alloc, a.states())?;
     let start = a.start();
-    let first = closure(alloc, a, &[start])?;
+    let first = closure(alloc, a, &[start], &mut visited)?;
     sets.number(first, limit)?;
-    let edges = explore(alloc, a, over, &mut sets, limit)?;
+    let edges = explore(alloc, a, over, &mut sets, limit, &mut visited)?;
     let finals = finals(alloc, a, &sets)?;
     let over = over.copy(alloc)?;
     let dfa = Dfa::new(over, 0, finals, edges);
@@ -63,11 +65,13 @@ fn explore<L: LabelSet>(
     over: &L,
     sets: &mut StateSets,
     limit: usize,
+    visited: &mut Visited,
 ) -> Result<Vec<Vec<Edge<L>>>, BuildError>
     requires automaton { IsAutomaton a.now }
     requires letters { length (L.letters over.now) ≡ a.now.letters }
     requires few { length sets.old ≤ limit }
     requires explored { IsExplored a.now (L.letters over.now) sets.old [] }
+    requires count { visited.old.count ≡ nfa_states a.now }
     ensures explored { IfOk result (λ edges. IsExplored a.now (L.letters over.now) sets.new (moves_in L.letters edges.items)) }
     ensures each { IfOk result (λ edges. length (moves_in L.letters edges.items) ≡ length sets.new) }
     ensures few { IfOk result (λ _. length sets.new ≤ limit) }
@@ -78,7 +82,7 @@ fn explore<L: LabelSet>(
     let mut edges = Vec::new(alloc);
     while edges.len() < sets.len() {
         let set = Vec::from_slice(alloc, sets.get(edges.len()))?;
-        let out = expand(alloc, a, over, sets, &set, limit)?;
+        let out = expand(alloc, a, over, sets, &set, limit, visited)?;
         edges.push(out)?;
     }
     Ok(edges)

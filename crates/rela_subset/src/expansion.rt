@@ -10,6 +10,7 @@ use crate::alike::alike;
 use crate::bundle::Bundle;
 use crate::closure::following;
 use crate::state_sets::StateSets;
+use crate::visited::Visited;
 use rela_labels::LabelSet;
 use rela_nfa::{BuildError, Edge, Nfa};
 use std::alloc::Global;
@@ -25,13 +26,16 @@ pub(crate) fn expand<L: LabelSet>(
     sets: &mut StateSets,
     set: &[usize],
     limit: usize,
+    visited: &mut Visited,
 ) -> Result<Vec<Edge<L>>, BuildError>
     requires automaton { IsAutomaton a.now }
     requires states { All (λ q. q < states a.now) set.now }
     requires letters { length (L.letters over.now) ≡ a.now.letters }
     requires few { length sets.old ≤ limit }
+    requires count { visited.old.count ≡ states a.now }
     ensures expanded { IfOk result (λ edges. IsExpandedOver a.now (L.letters over.now) set.now sets.old sets.new (map (move_of L.letters) edges.items)) }
     ensures few { IfOk result (λ _. length sets.new ≤ limit) }
+    ensures count { visited.new.count ≡ visited.old.count }
     ensures limit { IfErr result (λ e. e ≡ BuildError.Limit → (length sets.new ≡ limit + 1) × AreDistinct sets.new × ((letters : List ℕ) × HasGrown a.now (L.letters over.now) set.now sets.old sets.new letters)) }
     ensures bounded { IfErr result (λ e. e ≡ BuildError.Limit → limit < 2 ^ 63) }
 {
@@ -40,7 +44,7 @@ pub(crate) fn expand<L: LabelSet>(
     while let Some(letter) = rest.least() {
         let block = alike(alloc, a, set, &rest, letter)?;
         rest = rest.minus(alloc, &block)?;
-        let next = following(alloc, a, set, letter)?;
+        let next = following(alloc, a, set, letter, visited)?;
         let to = sets.number(next, limit)?;
         bundle.put(alloc, block, to)?;
     }

@@ -10,10 +10,12 @@ mod construction;
 mod copies;
 mod dfa;
 mod expansion;
+mod marks;
 mod opposite;
 mod search;
 mod spreading;
 mod state_sets;
+mod visited;
 mod wanted;
 
 pub use construction::determinise;

@@ -1,7 +1,7 @@
 //! The first word that leads to a set of states with a property.
 ghost use Rattle.std.specs.Prelude.{◌≡◌, ℕ, ◌+◌, ◌^◌, ◌<◌, ◌≤◌, Bool, List, [], IfOk, IfErr, IfSome, IfNone, length, slice_index_or};
 ghost use Rattle.rela_names.specs.Shortlex.{First, IsBefore};
-ghost use Rattle.rela_nfa.specs.Automaton.{IsAutomaton};
+ghost use Rattle.rela_nfa.specs.Automaton.{IsAutomaton, states};
 ghost use Rattle.rela_subset.specs.Deterministic.{IsOver};
 ghost use Rattle.rela_subset.specs.Searching.{AreTraced, AreUnwanted, IsFirstAt, IsSearched};
 ghost use Rattle.rela_subset.specs.declared.arrival.Arrival.{Arrival};
@@ -11,6 +11,7 @@ use crate::arrival::Arrival;
 use crate::closure::closure;
 use crate::spreading::spread;
 use crate::state_sets::StateSets;
+use crate::visited::Visited;
 use crate::wanted::Wanted;
 use rela_labels::LabelSet;
 use rela_names::Word;
@@ -47,9 +48,19 @@ pub fn first_word<L: LabelSet, W: Wanted>(
     let start = a.start();
     let mut sets = StateSets::new(alloc);
     let mut arrivals = Vec::new(alloc);
-    let first = closure(alloc, a, &[start])?;
+    let mut visited = Visited::new(alloc, a.states())?;
+    let first = closure(alloc, a, &[start], &mut visited)?;
     sets.number(first, limit)?;
-    let found = search(alloc, a, over, wanted, &mut sets, &mut arrivals, limit)?;
+    let found = search(
+        alloc,
+        a,
+        over,
+        wanted,
+        &mut sets,
+        &mut arrivals,
+        limit,
+        &mut visited,
+    )?;
     match found {
         Some(number) => Ok(Some(word_of(alloc, &arrivals, number)?)),
         None => Ok(None),
@@ -66,17 +77,20 @@ fn search<L: LabelSet, W: Wanted>(
     sets: &mut StateSets,
     arrivals: &mut Vec<Arrival>,
     limit: usize,
+    visited: &mut Visited,
 ) -> Result<Option<usize>, BuildError>
     requires automaton { IsAutomaton a.now }
     requires letters { length (L.letters over.now) ≡ a.now.letters }
     requires few { length sets.old ≤ limit }
     requires searched { IsSearched a.now (L.letters over.now) [] sets.old arrivals.old.items 0 }
+    requires count { visited.old.count ≡ states a.now }
     ensures found { IfOk result (λ found. IfSome found (λ number. IsFirstAt (W.wants wanted.now) sets.new number
         × ((left : ℕ) × (rest : List Bool) × IsSearched a.now (L.letters over.now) rest sets.new arrivals.new.items left))) }
     ensures none { IfOk result (λ found. IfNone found (AreUnwanted (W.wants wanted.now) sets.new
         × IsSearched a.now (L.letters over.now) [] sets.new arrivals.new.items (length sets.new))) }
     ensures limit { IfErr result (λ e. e ≡ BuildError.Limit → ReachSetsBefore a.now (L.letters over.now) (W.wants wanted.now) (limit + 1)) }
     ensures bounded { IfErr result (λ e. e ≡ BuildError.Limit → limit < 2 ^ 63) }
+    ensures count { visited.new.count ≡ visited.old.count }
 {
     if let Some(found) = first_wanted(wanted, sets, 0) {
         return Ok(Some(found));
@@ -84,7 +98,7 @@ fn search<L: LabelSet, W: Wanted>(
     let mut number = 0;
     while number < sets.len() {
         let known = sets.len();
-        spread(alloc, a, over, sets, arrivals, number, limit)?;
+        spread(alloc, a, over, sets, arrivals, number, limit, visited)?;
         if let Some(found) = first_wanted(wanted, sets, known) {
             return Ok(Some(found));
         }

@@ -8,6 +8,7 @@ use crate::alike::alike;
 use crate::arrival::Arrival;
 use crate::closure::following;
 use crate::state_sets::StateSets;
+use crate::visited::Visited;
 use rela_labels::LabelSet;
 use rela_nfa::{BuildError, Nfa};
 use std::alloc::Global;
@@ -24,13 +25,16 @@ pub(crate) fn spread<L: LabelSet>(
     arrivals: &mut Vec<Arrival>,
     number: usize,
     limit: usize,
+    visited: &mut Visited,
 ) -> Result<(), BuildError>
     requires automaton { IsAutomaton a.now }
     requires number { number < length sets.old }
     requires states { All (λ q. q < states a.now) (slice_index_or sets.old number []) }
     requires letters { length (L.letters over.now) ≡ a.now.letters }
+    requires count { visited.old.count ≡ states a.now }
     ensures spread { IfOk result (λ _. (letters : List ℕ) × (arrivals.new.items ≡ arrivals.old.items ++ arrivals_from number letters)
         × IsSpreadUpTo limit a.now (L.letters over.now) (slice_index_or sets.old number []) sets.old sets.new letters) }
+    ensures count { visited.new.count ≡ visited.old.count }
     ensures memory { IfErr result (λ e. e ≢ BuildError.Limit) }
 {
     let set = Vec::from_slice(alloc, sets.get(number))?;
@@ -41,7 +45,7 @@ pub(crate) fn spread<L: LabelSet>(
         }
         let block = alike(alloc, a, &set, &rest, letter)?;
         rest = rest.minus(alloc, &block)?;
-        let next = following(alloc, a, &set, letter)?;
+        let next = following(alloc, a, &set, letter, visited)?;
         let arrival = Arrival {
             from: number,
             letter,

@@ -1,40 +1,33 @@
-use Rattle.std.proofs.Common.{map, None, sym, subst, ◌∙◌}
-use Rattle.std.proofs.lemmas.List.{nil_from_length}
+use Rattle.std.proofs.Common.{[], sym, ◌∙◌, subst}
+use Rattle.std.specs.List.{Contains}
+use Rattle.std.proofs.lemmas.List.{take_all}
 use Rattle.std.proofs.lemmas.Result.{IfOk-weaker}
-use Rattle.rela_nfa.specs.Automaton.{moves_of}
-use Rattle.rela_nfa.specs.Stored.{move_of}
-use Rattle.rela_subset.specs.Sets.{Lists, SilentlyFrom}
-use Rattle.rela_subset.proofs.Closing.{closing_start, closing_step, closing_done, fresh_ends, waiting_within}
+use Rattle.rela_nfa.specs.StateSet.{Adds}
+use Rattle.rela_nfa.proofs.Growing.{adds_all, adds_nothing}
+use Rattle.rela_subset.specs.Sets.{SilentlyFrom}
+use Rattle.rela_subset.proofs.Closing.{start_more}
+use Rattle.rela_subset.proofs.Following.{lists_same, silent_from}
+use Rattle.rela_subset.proofs.Targets.{Contains-nil}
 use Rattle.rela_subset.proofs.closure.closure.Goals as goal
 
 pub loop-q-init : goal.loop-q-init
-loop-q-init g c =
-    closing_start c.args.a.now c.args.starts.now c.new-seen.result.keys c.new-waiting.result.items c.visit_all.new.seen.keys c.visit_all.new.waiting.items
-    c.new-seen.ensures.empty c.new-waiting.ensures.items c.new-seen.ensures.ordered c.in_ok-visit_all.ensures
-
-pub edges-requires : goal.edges-requires
-edges-requires g c =
-    waiting_within c.args.a.now c.args.starts.now c.loop-q.seen.keys c.loop-q.waiting.items c.pop.new.self.items c.in-Some.q
-    c.requires.automaton c.requires.states c.loop-q.invariant c.in-Some.ensures.items
-
-pub loop-q-smaller : goal.loop-q-smaller
-loop-q-smaller g c =
-    (closing_step c.args.a.now c.args.starts.now c.loop-q.seen.keys c.loop-q.waiting.items c.in-Some.q c.deref.result.now c.pop.new.self.items
-    c.visit_all-in-Some.new.seen.keys c.visit_all-in-Some.new.waiting.items c.requires.automaton c.requires.states c.loop-q.invariant c.in-Some.ensures.items
-    (fresh_ends c.clear.new.self.items c.deref.result.now (map (move_of g.L.LabelSet.letters) c.edges.result.now) (moves_of c.args.a.now c.in-Some.q) None
-    c.clear.ensures.items c.edges.ensures.moves (rw (← c.deref.ensures.value) at c.in_ok-push_ends.ensures))
-    c.in_ok-visit_all-2.ensures).1
+loop-q-init g c = record {
+  count = c.clear.ensures.count;
+  adds = subst (Adds (Contains []) []) (sym c.clear.ensures.none) (adds_nothing (Contains []) [] (λ m none. Contains-nil m none));
+}
 
 pub loop-q-preserved : goal.loop-q-preserved
-loop-q-preserved g c =
-    (closing_step c.args.a.now c.args.starts.now c.loop-q.seen.keys c.loop-q.waiting.items c.in-Some.q c.deref.result.now c.pop.new.self.items
-    c.visit_all-in-Some.new.seen.keys c.visit_all-in-Some.new.waiting.items c.requires.automaton c.requires.states c.loop-q.invariant c.in-Some.ensures.items
-    (fresh_ends c.clear.new.self.items c.deref.result.now (map (move_of g.L.LabelSet.letters) c.edges.result.now) (moves_of c.args.a.now c.in-Some.q) None
-    c.clear.ensures.items c.edges.ensures.moves (rw (← c.deref.ensures.value) at c.in_ok-push_ends.ensures))
-    c.in_ok-visit_all-2.ensures).0
+loop-q-preserved g c = record {
+  count = c.in_ok-insert.ensures.count ∙ c.loop-q.invariant.count;
+  adds =
+      start_more c.args.starts.now c.loop-q.q-index [] c.loop-q.visited.states c.insert.new.self.states c.loop-q-test.true c.loop-q.invariant.adds c.in_ok-insert.ensures.inserted;
+}
 
-pub returns : goal.returns
-returns g c =
-    IfOk-weaker c.in_order.result _ _ (λ set is. subst (Lists (SilentlyFrom c.args.a.now c.args.starts.now)) (sym is)
-    (closing_done c.args.a.now c.args.starts.now c.loop-q.seen.keys c.loop-q.waiting.items
-    (nil_from_length c.loop-q.waiting.items (sym c.loop-q.waiting.ok.0 ∙ c.in_default.ensures.cases.0)) c.loop-q.invariant)) c.in_order.ensures
+pub returns-clause-closure : goal.returns-clause-closure
+returns-clause-closure g c =
+    IfOk-weaker c.sorted.result _ _
+    (λ set is. lists_same (Contains c.close.new.visited.states) (SilentlyFrom c.args.a.now c.args.starts.now) set.items
+    (silent_from c.args.a.now c.args.starts.now c.loop-q.visited.states c.close.new.visited.states
+    (adds_all (Contains c.args.starts.now) c.loop-q.visited.states
+    (subst (λ l. Adds (Contains l) [] c.loop-q.visited.states) (take_all c.loop-q.q-index c.args.starts.now c.loop-q-test.false) c.loop-q.invariant.adds))
+    c.in_ok-close.ensures.closed) is) c.sorted.ensures

@@ -1,5 +1,10 @@
-use Rattle.rela_subset.proofs.Following.{HasSteps}
+use Rattle.std.proofs.Common.{◌≡◌, [], take, Some}
+use Rattle.rela_nfa.specs.StateSet.{Adds}
+use Rattle.rela_nfa.proofs.Growing.{After}
 use Rattle.rela_subset.proofs.closure.following.Given as goal
 
 abbrev pub invariant-loop-q : goal.invariant-loop-q
-invariant-loop-q g l = HasSteps l.a l.set l.letter l.q-index l.ends.items
+invariant-loop-q g l = record {
+  count : l.visited.count ≡ l.fn.visited.count;
+  adds : Adds (After l.a (take l.q-index l.set) (Some l.letter)) [] l.visited.states;
+}

@@ -13,7 +13,7 @@ pub explore-requires-clause-explored : goal.explore-requires-clause-explored
 explore-requires-clause-explored g c =
     explored_start c.args.a.now (g.L.LabelSet.letters c.args.over.now) c.in_ok-first.first.items c.number.new.self
     (first_alone c.new-sets.result c.number.new.self c.in_ok-first.first.items c.in_ok-number.field-0 c.new-sets.ensures c.in_ok-number.ensures.within c.in_ok-number.ensures.grown)
-    (reached_start c.args.a.now c.in_ok-first.first.items (rw c.start-start.ensures.start at c.in_ok-first.ensures))
+    (reached_start c.args.a.now c.in_ok-first.first.items (rw c.start-start.ensures.start at c.in_ok-first.ensures.closure))
 
 pub finals-requires : goal.finals-requires
 finals-requires g c =

@@ -45,5 +45,6 @@ loop-alloc-preserved g c =
           (sym (ap (moves_in letters) c.in_ok-push.ensures.items ∙ map_push (λ v. map (move_of letters) v.items) edges c.in_ok-out.out))
           (explored_more c.args.a.now (letters c.args.over.now) c.loop-alloc.sets (moves_in letters edges) c.expand.new.sets c.deref.result.now (map (move_of letters) c.in_ok-out.out.items)
           c.loop-alloc.invariant.explored left set_is c.in_ok-out.ensures.expanded);
+      count = c.in_ok-out.ensures.count ∙ c.loop-alloc.invariant.count;
       few = c.in_ok-out.ensures.few;
     }

@@ -1,4 +1,4 @@
-use Rattle.std.proofs.Common.{length, ap, sym, ◌∙◌}
+use Rattle.std.proofs.Common.{length, refl, ap, sym, ◌∙◌}
 use Rattle.std.proofs.lemmas.Result.{err_from_is_err_and}
 use Rattle.rela_subset.proofs.Blocks.{itself}
 use Rattle.rela_subset.proofs.Expanding.{expanded_none, expanded_more, grown_last}
@@ -11,6 +11,7 @@ loop-letter-init g c = record {
       expanded_none c.args.a.now (g.L.LabelSet.letters c.args.over.now) (g.L.LabelSet.letters c.in_ok-rest.rest) c.args.set.now c.args.sets.now c.new-bundle.result
       c.in_ok-rest.ensures.same c.new-bundle.ensures;
   few = c.requires.few;
+  count = refl;
   size = ap length c.in_ok-rest.ensures.same;
 }
 
@@ -22,7 +23,7 @@ returns-in_err-to-clause-limit g c =
       limit.1,
       c.in_err-to.ensures.distinct,
       grown_last c.args.a.now (g.L.LabelSet.letters c.args.over.now) (g.L.LabelSet.letters c.loop-letter.rest) c.args.set.now c.args.sets.now c.loop-letter.sets c.number.new.self
-          c.in-Some.letter c.in_ok-next.next.items c.loop-letter.bundle c.loop-letter.invariant.expanded c.in-Some.ensures.member c.in_ok-next.ensures limit.0,
+          c.in-Some.letter c.in_ok-next.next.items c.loop-letter.bundle c.loop-letter.invariant.expanded c.in-Some.ensures.member c.in_ok-next.ensures.following limit.0,
     ))
 
 pub put-requires : goal.put-requires
@@ -40,8 +41,9 @@ loop-letter-preserved g c = record {
   expanded =
       expanded_more c.args.a.now (g.L.LabelSet.letters c.args.over.now) (g.L.LabelSet.letters c.loop-letter.rest) (g.L.LabelSet.letters c.in_ok-rest-2.rest) (g.L.LabelSet.letters c.in_ok-block.block)
       c.args.set.now c.args.sets.now c.loop-letter.sets c.number.new.self c.in-Some.letter c.in_ok-to.to c.in_ok-next.next.items c.loop-letter.bundle c.put.new.self
-      c.loop-letter.invariant.expanded c.in-Some.ensures.member c.in-Some.ensures.least c.in_ok-block.ensures.alike c.in_ok-rest-2.ensures.first_only c.in_ok-next.ensures
+      c.loop-letter.invariant.expanded c.in-Some.ensures.member c.in-Some.ensures.least c.in_ok-block.ensures.alike c.in_ok-rest-2.ensures.first_only c.in_ok-next.ensures.following
       c.in_ok-to.ensures.at c.in_ok-to.ensures.within c.in_ok-put.ensures (c.in_ok-block.ensures.size ∙ c.loop-letter.invariant.size) c.in_ok-to.ensures.grown;
   few = c.in_ok-to.ensures.few;
+  count = c.in_ok-next.ensures.count ∙ c.loop-letter.invariant.count;
   size = c.in_ok-rest-2.ensures.size ∙ c.loop-letter.invariant.size;
 }

@@ -7,6 +7,7 @@ abbrev pub invariant-loop-letter : goal.invariant-loop-letter
 invariant-loop-letter g l = record {
   expanded : IsExpanded l.a (g.L.LabelSet.letters l.over) (g.L.LabelSet.letters l.rest) l.set l.initial.sets l.sets l.bundle;
   few : length l.sets ≤ l.limit;
+  count : l.visited.count ≡ l.fn.visited.count;
   size : length (g.L.LabelSet.letters l.rest) ≡ length (g.L.LabelSet.letters l.over);
 }
 

@@ -13,7 +13,7 @@ search-requires-clause-searched g c =
     searched_start c.args.a.now (g.L.LabelSet.letters c.args.over.now) c.in_ok-first.first.items c.number.new.self c.new-arrivals.result.items
     (first_alone c.new-sets.result c.number.new.self c.in_ok-first.first.items c.in_ok-number.field-0 c.new-sets.ensures c.in_ok-number.ensures.within c.in_ok-number.ensures.grown)
     c.new-arrivals.ensures.items
-    (reached_start c.args.a.now c.in_ok-first.first.items (rw c.start-start.ensures.start at c.in_ok-first.ensures))
+    (reached_start c.args.a.now c.in_ok-first.first.items (rw c.start-start.ensures.start at c.in_ok-first.ensures.closure))
 
 pub returns-in-Some-clause-first : goal.returns-in-Some-clause-first
 returns-in-Some-clause-first g c =

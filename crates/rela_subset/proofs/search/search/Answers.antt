@@ -1,4 +1,4 @@
-use Rattle.std.proofs.Common.{◌≡◌, ℕ, ◌+◌, ◌<◌, false, length, inl, inr, arith}
+use Rattle.std.proofs.Common.{◌≡◌, ℕ, ◌+◌, ◌<◌, ◌∙◌, false, length, inl, inr, arith}
 use Rattle.rela_labels.specs.Letters.{has}
 use Rattle.rela_subset.specs.Searching.{IsSearched}
 use Rattle.rela_subset.proofs.Finding.{found_within}
@@ -65,6 +65,7 @@ loop-number-preserved g c =
           searched_whole c.args.a.now over upto.0 c.spread.new.sets c.spread.new.arrivals.items (c.loop-number.number + 1) none
           (searched_more c.args.a.now over upto.0 sets c.loop-number.arrivals.items c.loop-number.number c.loop-number.invariant.searched left c.spread.new.sets letters
           c.spread.new.arrivals.items arrived upto.1);
+      count = c.in_ok-spread.ensures.count ∙ c.loop-number.invariant.count;
       few = omega (arith, c.if-len-limit.false, c.len-in-loop-number.ensures.len);
       unwanted =
           more_unwanted c.args.a.now over upto.0 sets c.loop-number.arrivals.items c.loop-number.number c.loop-number.invariant.searched left c.spread.new.sets letters c.spread.new.arrivals.items

@@ -24,7 +24,8 @@ loop-letter-preserved g c =
           c.in-Some.ensures.member c.in-Some.ensures.least
           (subst (λ s. IsAlike c.args.a.now s (letters c.loop-letter.rest) c.in-Some.letter (letters c.in_ok-block.block)) (c.deref.ensures.value ∙ stored) c.in_ok-block.ensures.alike)
           c.in_ok-rest-2.ensures.first_only
-          (subst (λ s. Lists (NextFrom c.args.a.now s c.in-Some.letter) c.in_ok-next.next.items) (c.deref-in-Some.ensures.value ∙ stored) c.in_ok-next.ensures)
+          (subst (λ s. Lists (NextFrom c.args.a.now s c.in-Some.letter) c.in_ok-next.next.items) (c.deref-in-Some.ensures.value ∙ stored) c.in_ok-next.ensures.following)
           c.args.number c.args.arrivals.now.items c.loop-letter.arrivals.items c.arrive.new.arrivals.items c.loop-letter.invariant.spreads c.in_ok-arrive.ensures.arrived;
+      count = c.in_ok-next.ensures.count ∙ c.loop-letter.invariant.count;
       size = c.in_ok-rest-2.ensures.size ∙ c.loop-letter.invariant.size;
     }
