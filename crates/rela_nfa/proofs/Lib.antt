@@ -6,6 +6,7 @@ pub mod Edges
 pub mod Concats
 pub mod Stars
 pub mod Chains
+pub mod InTurn
 pub mod Flagged
 pub mod Growing
 pub mod Joint

@@ -1,14 +1,12 @@
 -- Two automata that read one word together.
 use Rattle.std.specs.Prelude.{◌≡◌, ℕ, ◌&&◌, Bool, false, List, [], ◌∷◌, ◌++◌, length, map, Option, None, Some, slice_get, slice_index_or, if◌then◌else◌}
 use Rattle.std.specs.List.{Contains, flat_map, list_any, range_with_len}
-use Rattle.std.specs.Option.{option_map}
 use Rattle.rela_labels.specs.Letters.{has}
 use Rattle.rela_pairs.specs.Exploration.{Exploration}
 use Rattle.rela_pairs.specs.Reachable.{AreDistinct}
 use Rattle.rela_pairs.specs.declared.pair.Pair.{Pair}
 use Rattle.rela_nfa.specs.Automaton.{Automaton, Move, moves_of, states}
 use Rattle.rela_nfa.specs.Runs.{Reach}
-use Rattle.rela_nfa.specs.declared.meeting.JointEdge.{JointEdge}
 
 -- the word leads the first automaton to the left state and the second to the right one
 abbrev pub ReachBoth : Automaton → Automaton → Pair → List ℕ → Type 0
@@ -34,10 +32,6 @@ common s t = map (λ k. has s k && has t k) (range_with_len 0 (length s))
 pub record JointMove : Type 0 where
   pub label : Option (List Bool)
   pub to : Pair
-
--- the edge, its label by its letters
-abbrev pub joint_of : {L : Type 0} → (L → List Bool) → JointEdge L → JointMove
-joint_of letters edge = record { label = option_map letters edge.label; to = edge.to }
 
 -- an edge of each by a common letter, where there is one
 abbrev pub labelled_both : Option (List Bool) → Option (List Bool) → Pair → List JointMove

@@ -2,7 +2,9 @@
 #![tactic(auto)]
 
 mod copying;
+mod directing;
 mod edge;
+mod followers;
 mod meet;
 mod meeting;
 mod nfa;
@@ -12,6 +14,7 @@ mod relabel;
 mod state_set;
 mod words;
 
+pub use directing::{add_directed, add_silent};
 pub use edge::Edge;
 pub use nfa::Nfa;
 pub use rela_pairs::BuildError;

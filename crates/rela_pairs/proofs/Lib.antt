@@ -1,3 +1,4 @@
 pub mod Distinct
 pub mod Numbering
+pub mod Parting
 pub mod Steps

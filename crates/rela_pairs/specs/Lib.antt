@@ -1,3 +1,4 @@
 pub mod Exploration
 pub mod Finding
+pub mod Parting
 pub mod Reachable

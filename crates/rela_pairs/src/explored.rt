@@ -1,6 +1,7 @@
 ghost use Rattle.std.specs.Prelude.{◌≡◌, ◌<◌, [], length, slice_index_or};
 
 use crate::found::Found;
+use crate::lists::Lists;
 use crate::pair::Pair;
 use std::marker::Model;
 
@@ -9,16 +10,15 @@ use std::marker::Model;
 #[derive(Drop)]
 pub struct Explored {
     pub(crate) found: Found,
-    pub(crate) targets: Vec<Vec<usize>>,
+    pub(crate) targets: Lists,
 }
 
 impl Model for Explored {
-    ghost use Rattle.std.specs.Prelude.{map};
     ghost use Rattle.rela_pairs.specs.Exploration.{Exploration};
 
     ghost Value = { Exploration };
 
-    ghost view = { λ e. record { pairs = e.found; targets = map (λ v. v.items) e.targets.items } };
+    ghost view = { λ e. record { pairs = e.found; targets = e.targets } };
 }
 
 impl Explored {
@@ -34,6 +34,6 @@ impl Explored {
         requires { number < length self.now.targets }
         ensures { result.now ≡ slice_index_or self.now.targets number [] }
     {
-        self.targets[number].as_slice()
+        self.targets.list(number)
     }
 }

@@ -6,6 +6,7 @@ ghost use Rattle.rela_pairs.specs.declared.pair.Pair.{Pair};
 use crate::errors::BuildError;
 use crate::explored::Explored;
 use crate::found::Found;
+use crate::lists::Lists;
 use crate::pair::Pair;
 use crate::successors::Successors;
 use std::alloc::Global;
@@ -39,12 +40,16 @@ pub fn explore<S: Successors>(
 {
     let mut found = Found::new(alloc);
     found.number(start, limit)?;
-    let mut targets = Vec::new(alloc);
+    let mut targets = Lists::new(alloc);
+    let mut followers = Vec::new(alloc);
+    let mut numbers = Vec::new(alloc);
     // The pairs that were found stand in a queue: those with targets were asked for what follows.
     'queue: while targets.len() < found.pairs().len() {
         let pair = found.pairs()[targets.len()];
-        let next = successors.next(alloc, pair)?;
-        targets.push(found.number_all(alloc, &next, limit)?)?;
+        followers.clear();
+        successors.add_next(alloc, pair, &mut followers)?;
+        found.number_all(&followers, limit, &mut numbers)?;
+        targets.push(&numbers)?;
     }
     Ok(Explored { found, targets })
 }

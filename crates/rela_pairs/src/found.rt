@@ -1,4 +1,4 @@
-ghost use Rattle.std.specs.Prelude.{◌≡◌, ◌<◌, ◌≤◌, ◌^◌, [], ◌∷◌, Some, IfOk, IfErr, length, slice_get};
+ghost use Rattle.std.specs.Prelude.{◌≡◌, ◌<◌, ◌≤◌, ◌^◌, [], ◌∷◌, Some, IfOk, IfErr, OnOk, length, slice_get};
 ghost use Rattle.rela_pairs.specs.Finding.{Finds, GrowsBy, AreNumbers, Passes};
 ghost use Rattle.rela_pairs.specs.Reachable.{AreDistinct};
 
@@ -63,23 +63,23 @@ impl Found {
         Ok(number)
     }
 
-    /// The numbers of the pairs.
+    /// Puts the numbers of the pairs in place of those that are there.
     pub(crate) fn number_all(
         &mut self,
-        alloc: Global,
         pairs: &[Pair],
         limit: usize,
-    ) -> Result<Vec<usize>, BuildError>
+        numbers: &mut Vec<usize>,
+    ) -> Result<(), BuildError>
         requires { length self.old ≤ limit }
-        ensures numbers { IfOk result (λ numbers. AreNumbers self.new pairs.now numbers.items) }
-        ensures grows { IfOk result (λ _. GrowsBy pairs.now self.old self.new) }
-        ensures few { IfOk result (λ _. length self.new ≤ limit) }
+        ensures numbers { OnOk result (AreNumbers self.new pairs.now numbers.new.items) }
+        ensures grows { OnOk result (GrowsBy pairs.now self.old self.new) }
+        ensures few { OnOk result (length self.new ≤ limit) }
         ensures limit { IfErr result (λ e. e ≡ BuildError.Limit → Passes limit pairs.now self.old self.new) }
     {
-        let mut numbers = Vec::with_capacity(alloc, pairs.len())?;
+        numbers.clear();
         for pair in pairs {
             numbers.push(self.number(*pair, limit)?)?;
         }
-        Ok(numbers)
+        Ok(())
     }
 }

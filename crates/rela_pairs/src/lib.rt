@@ -5,6 +5,7 @@ mod errors;
 mod explored;
 mod exploring;
 mod found;
+mod lists;
 mod pair;
 mod successors;
 

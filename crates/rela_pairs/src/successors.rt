@@ -1,4 +1,4 @@
-ghost use Rattle.std.specs.Prelude.{◌≡◌, List, IfOk};
+ghost use Rattle.std.specs.Prelude.{◌≡◌, ◌++◌, List, OnOk};
 ghost use Rattle.std.specs.List.{All};
 ghost use Rattle.rela_pairs.specs.declared.pair.Pair.{Pair};
 
@@ -14,9 +14,15 @@ pub trait Successors {
     // the pairs that follow, in order
     ghost next: { Self → Pair → List Pair };
 
-    /// The pairs that follow, in order; a pair may come more than once.
-    fn next(&self, alloc: Global, pair: Pair) -> Result<Vec<Pair>, AllocError>
+    /// Puts the pairs that follow behind those that are there, in order; a pair may come more than
+    /// once.
+    fn add_next(
+        &self,
+        alloc: Global,
+        pair: Pair,
+        followers: &mut Vec<Pair>,
+    ) -> Result<(), AllocError>
         requires { is_pair self.now pair }
-        ensures next { IfOk result (λ pairs. pairs.items ≡ next self.now pair) }
-        ensures pairs { IfOk result (λ pairs. All (is_pair self.now) pairs.items) };
+        ensures next { OnOk result (followers.new.items ≡ followers.old.items ++ next self.now pair) }
+        ensures pairs { OnOk result (All (is_pair self.now) (next self.now pair)) };
 }

@@ -13,12 +13,19 @@ impl Successors for Exchange {
 
     ghost next = { λ _ pair. record { left = pair.right; right = pair.left } ∷ (pair ∷ []) };
 
-    fn next(&self, alloc: Global, pair: Pair) -> Result<Vec<Pair>, AllocError> {
+    fn add_next(
+        &self,
+        _alloc: Global,
+        pair: Pair,
+        followers: &mut Vec<Pair>,
+    ) -> Result<(), AllocError> {
         let turned = Pair {
             left: pair.right,
             right: pair.left,
         };
-        Vec::from_slice(alloc, &[turned, pair])
+        followers.push(turned)?;
+        followers.push(pair)?;
+        Ok(())
     }
 }
 
@@ -31,6 +38,7 @@ fn exchanged_pairs(rt: HostRuntime) -> Result<(), Fail> {
         explored.pairs(),
         [start, Pair { left: 2, right: 1 }].as_slice()
     );
+    assert_eq!(rt; explored.targets(1), [0, 1].as_slice());
     let refused = explore(alloc, &Exchange, start, 1);
     assert!(rt; refused.is_err_and(|e| e == BuildError::Limit));
     Ok(())

@@ -16,5 +16,7 @@ pub mod Composed
 pub mod MappedWords
 pub mod WrittenWords
 pub mod ImagePairs
+pub mod WrittenEdges
+pub mod ImageMade
 pub mod ReadLetters
 pub mod SymbolLetters

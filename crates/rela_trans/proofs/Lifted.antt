@@ -113,7 +113,7 @@ lifted_sized n Output (Some set) sized = sized set refl
 lifted_sized n Both (Some set) sized = sized set refl
 
 module _ (tape : Tape) (a : Automaton) (r : Machine) (ok : IsAutomaton a) (built : IsLifted tape a r) where
-  same_moves : (p : ℕ) → moves_of r p ≡ map (lifted tape) (edges_of a p)
+  pub same_moves : (p : ℕ) → moves_of r p ≡ map (lifted tape) (edges_of a p)
   same_moves p = ap (λ l. get_or l p []) built.moves ∙ elim (cases_lt p (states a)) [
     | inl below ↦ get_or-map-range_with_len (lifted_at tape a) 0 (states a) p p [] below (omega arith)
     | inr past ↦

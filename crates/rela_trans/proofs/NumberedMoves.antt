@@ -1,8 +1,8 @@
 -- Joint moves that get the numbers of their ends from the last to the first.
-use Rattle.std.proofs.Common.{◌≡◌, ℕ, ◌+◌, ◌<◌, ◌≤◌, Bool, inl, inr, List, [], ◌∷◌, ◌++◌, length, get_or, map, take, drop, reverse, refl, sym, ap, ◌∙◌, subst, arith}
-use Rattle.std.specs.List.{All, Contains}
-use Rattle.std.proofs.lemmas.List.{drop_more, drop-map, get_or-map, length-map, reverse-append, reverse-reverse, map-append, take_all}
-use Rattle.std.proofs.lemmas.List.Elements.{All-map}
+use Rattle.std.proofs.Common.{◌≡◌, ℕ, ◌+◌, ◌<◌, Bool, inl, inr, List, [], ◌∷◌, ◌++◌, length, get_or, map, take, drop, reverse, refl, sym, ap, ◌∙◌, subst, arith}
+use Rattle.std.specs.List.{All}
+use Rattle.std.proofs.lemmas.List.{drop_more, drop-map, get_or-map, length-map, reverse-append, reverse-reverse, map-append, same_from_push, take_more}
+use Rattle.std.proofs.lemmas.List.Elements.{All-map, Contains-get_or}
 use Rattle.std.proofs.lemmas.Option.{slice_get-get_or}
 use Rattle.rela_pairs.specs.Exploration.{Exploration, NumbersNext}
 use Rattle.rela_pairs.specs.declared.pair.Pair.{Pair}
@@ -46,32 +46,28 @@ module _ {L : Type 0} (letters : L → List Bool) where
       map-reverse_is move moves ∙ ap reverse (done ∙ ap (λ k. reverse (numbered (map (joint_of letters) (drop k all)) (drop k targets))) none)
       ∙ reverse-reverse (numbered (map (joint_of letters) all) targets)
 
-  -- joint moves lead to pairs of states
-  pub joint_lead : (a b : Machine) → IsMachine a → IsMachine b → (x : Pair) → x.left < machine_states a → x.right < machine_states b → (moves : List (JointMove L))
-      → map (joint_of letters) moves ≡ joint_moves a b x → All (λ move. (move.to.left < machine_states a) × (move.to.right < machine_states b)) moves
-  joint_lead a b ok_a ok_b x left right moves same k d below =
-      let move : JointMove L = get_or moves k d in
-      let among : Contains (joint_moves a b x) (joint_of letters move) =
-      subst (λ l. Contains l (joint_of letters move)) same
-      (k, omega (arith, below, length-map moves (joint_of letters)), get_or-map (joint_of letters) moves k d (joint_of letters move) below) in
-      let step = joint_some a b x ok_a (joint_of letters move) among in
-      within move.to step.0 step.1 step.2
-    where
-      within : (y : Pair) (input output : List ℕ) → JointStep (λ i. i) a b x input output y → (y.left < machine_states a) × (y.right < machine_states b)
-      within y input output step = elim step [
-        | inl one ↦ (leads_to_state (λ i. i) a ok_a x.left y.left input [] one.0, subst (λ n. n < machine_states b) one.1 right)
-        | inr others ↦ elim others [
-          | inl two ↦ (subst (λ n. n < machine_states a) two.0 left, leads_to_state (λ i. i) b ok_b x.right y.right [] output two.1)
-          | inr both ↦ (leads_to_state (λ i. i) a ok_a x.left y.left input (both.0 ∷ []) both.1, leads_to_state (λ i. i) b ok_b x.right y.right (both.0 ∷ []) output both.2)
-        ]
+-- joint moves lead to pairs of states
+pub next_lead : (a b : Machine) → IsMachine a → IsMachine b → (x : Pair) → x.left < machine_states a → x.right < machine_states b
+    → All (λ (y : Pair). (y.left < machine_states a) × (y.right < machine_states b)) (next_pairs a b x)
+next_lead a b ok_a ok_b x left right =
+    All-map (λ (y : Pair). (y.left < machine_states a) × (y.right < machine_states b)) (λ (j : JointMove (List Bool)). j.to) (joint_moves a b x)
+    (λ k d below.
+    let j : JointMove (List Bool) = get_or (joint_moves a b x) k d in
+    let step = joint_some a b x ok_a j (Contains-get_or (joint_moves a b x) k d below) in
+    within j.to step.0 step.1 step.2)
+  where
+    within : (y : Pair) (input output : List ℕ) → JointStep (λ i. i) a b x input output y → (y.left < machine_states a) × (y.right < machine_states b)
+    within y input output step = elim step [
+      | inl one ↦ (leads_to_state (λ i. i) a ok_a x.left y.left input [] one.0, subst (λ n. n < machine_states b) one.1 right)
+      | inr others ↦ elim others [
+        | inl two ↦ (subst (λ n. n < machine_states a) two.0 left, leads_to_state (λ i. i) b ok_b x.right y.right [] output two.1)
+        | inr both ↦ (leads_to_state (λ i. i) a ok_a x.left y.left input (both.0 ∷ []) both.1, leads_to_state (λ i. i) b ok_b x.right y.right (both.0 ∷ []) output both.2)
       ]
+    ]
 
-module _ {L : Type 0} (letters : L → List Bool) (moves : List (JointMove L)) (pairs : List Pair) (i : ℕ) (over : length moves ≤ i)
-    (so_far : pairs ≡ map (λ (j : JointMove (List Bool)). j.to) (map (joint_of letters) (take i moves))) where
-  pub next_valid : (P : Pair → Type 0) → All (λ move. P move.to) moves → All P pairs
-  next_valid P each =
-      subst (λ l. All P l) (sym (so_far ∙ ap (λ l. map (λ (j : JointMove (List Bool)). j.to) (map (joint_of letters) l)) (take_all i moves over)))
-      (All-map P (λ (j : JointMove (List Bool)). j.to) (map (joint_of letters) moves) (All-map (λ (j : JointMove (List Bool)). P j.to) (joint_of letters) moves each))
+-- the last of a front
+pub popped : {X : Type 0} (all old new : List X) (n : ℕ) (x : X) → old ≡ take (n + 1) all → n < length all → old ≡ new ++ x ∷ [] → (new ≡ take n all) × (x ≡ get_or all n x)
+popped all old new n x front below last = same_from_push new (take n all) x (get_or all n x) (sym last ∙ front ∙ take_more all n x below)
 
 module _ (a b : Machine) (explored : Exploration) (number : ℕ) (below : number < length explored.pairs) (none : Pair) where
   pub targets_count : NumbersNext (next_pairs a b) explored → length (get_or explored.targets number []) ≡ length (joint_moves a b (get_or explored.pairs number none))

@@ -1,5 +1,6 @@
 pub mod Composition
 pub mod Construction
+pub mod ImageMoves
 pub mod Images
 pub mod Machine
 pub mod Relabelling

@@ -26,7 +26,7 @@ fn joint_moves<L: LabelSet>(
     requires left { pair.left < machine_states first.now }
     requires right { pair.right < machine_states second.now }
     ensures moves { IfOk result (λ joint. map (joint_of L.letters) joint.items ≡ joint_moves first.now second.now pair) }
-    ensures lead { IfOk result (λ joint. All (λ move. (move.to.left < machine_states first.now) × (move.to.right < machine_states second.now)) joint.items) }
+    ensures lead { IfOk result (λ _. All (λ x. (x.left < machine_states first.now) × (x.right < machine_states second.now)) (next_pairs first.now second.now pair)) }
 {
     let left = first.moves(pair.left);
     let right = second.moves(pair.right);
@@ -72,13 +72,17 @@ impl<'a, L: LabelSet> Successors for Composing<'a, L> {
 
     ghost next = { λ composing pair. next_pairs composing.first.now composing.second.now pair };
 
-    fn next(&self, alloc: Global, pair: Pair) -> Result<Vec<Pair>, AllocError> {
+    fn add_next(
+        &self,
+        alloc: Global,
+        pair: Pair,
+        followers: &mut Vec<Pair>,
+    ) -> Result<(), AllocError> {
         let joint = joint_moves(alloc, self.first, self.second, pair)?;
-        let mut pairs = Vec::with_capacity(alloc, joint.len())?;
         for made in &joint {
-            pairs.push(made.to)?;
+            followers.push(made.to)?;
         }
-        Ok(pairs)
+        Ok(())
     }
 }
 

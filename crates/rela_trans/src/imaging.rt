@@ -8,10 +8,12 @@ ghost use Rattle.rela_trans.specs.Composition.{Covers};
 ghost use Rattle.rela_trans.specs.Images.{IsImage, AreReachedFrom};
 ghost use Rattle.rela_trans.specs.Runs.{Relates};
 
+use crate::image_edges::{image_edges, image_finals};
+use crate::image_pairs::ReadingSources;
 use crate::transducer::Transducer;
 use rela_labels::LabelSet;
 use rela_nfa::Nfa;
-use rela_pairs::BuildError;
+use rela_pairs::{BuildError, Pair, explore};
 use std::alloc::{AllocError, Global};
 
 /// The words that the transducer writes where it reads a word of the automaton, the source. Each state
@@ -42,9 +44,18 @@ pub fn image<L: LabelSet>(
     ensures limit { IfErr result (λ e. e ≡ BuildError.Limit → MoreThan limit (AreReachedFrom a.now transducer.now)) }
     ensures greatest { limit ≡ usize.MAX → IfErr result (λ e. e ≢ BuildError.Limit) }
 {
-    let source = Transducer::identity(alloc, a)?;
-    let composed = source.compose(alloc, transducer, limit)?;
-    let image = composed.into_outputs(alloc)?;
+    let reading = ReadingSources {
+        source: a,
+        transducer,
+    };
+    let start = Pair {
+        left: a.start(),
+        right: transducer.start(),
+    };
+    let explored = explore(alloc, &reading, start, limit)?;
+    let finals = image_finals(alloc, a, transducer, explored.pairs())?;
+    let edges = image_edges(alloc, a, transducer, &explored)?;
+    let image = Nfa::from_parts(alloc, a.letters(), 0, &finals, edges)?;
     Ok(image)
 }
 

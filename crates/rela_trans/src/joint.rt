@@ -53,7 +53,7 @@ fn first_alone<L: LabelSet>(
 }
 
 /// What the second transducer does alone by a move of this kind: it reads nothing.
-fn second_alone<L: LabelSet>(
+pub(crate) fn second_alone<L: LabelSet>(
     alloc: Global,
     kind: &MoveKind<L>,
 ) -> Result<Option<MoveKind<L>>, AllocError>
@@ -85,7 +85,7 @@ fn after_out<L: LabelSet>(
 }
 
 /// What both do where the first writes the letter that it reads.
-fn after_same<L: LabelSet>(
+pub(crate) fn after_same<L: LabelSet>(
     alloc: Global,
     written: &L,
     second: &MoveKind<L>,

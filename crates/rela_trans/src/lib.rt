@@ -3,13 +3,14 @@
 
 mod compose;
 mod copying;
+mod image_edges;
+mod image_pairs;
 mod imaging;
 mod inverse;
 mod joint;
 mod laws;
 mod moves;
 mod operations;
-mod outputs;
 mod relabel;
 mod tapes;
 mod transducer;

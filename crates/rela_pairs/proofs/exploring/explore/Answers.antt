@@ -1,6 +1,5 @@
-use Rattle.std.proofs.Common.{◌≡◌, ◌<◌, List, [], ◌∷◌, Some, length, get_or, map, sym, ap, ◌∙◌, subst, arith}
-use Rattle.std.specs.List.{All, slice_get}
-use Rattle.std.proofs.lemmas.List.{length-map, map_push}
+use Rattle.std.proofs.Common.{◌≡◌, ◌<◌, ◌++◌, List, [], ◌∷◌, Some, length, get_or, sym, ap, ◌∙◌, subst, arith}
+use Rattle.std.specs.List.{slice_get}
 use Rattle.std.proofs.lemmas.List.Elements.{All-nil}
 use Rattle.std.proofs.lemmas.Result.{err_from_is_err_and}
 use Rattle.rela_pairs.specs.Finding.{Finds, GrowsBy, AreNumbers, Passes}
@@ -15,18 +14,16 @@ none = record { left = 0; right = 0 }
 
 pub queue-init : goal.queue-init
 queue-init g c =
-    subst (λ l. Exploring (g.S.Successors.next c.args.successors.now) c.args.start c.args.limit (g.S.Successors.is_pair c.args.successors.now) c.number.new.self (map (λ v. v.items) l))
-    (sym c.new-targets.ensures.items)
+    subst (Exploring (g.S.Successors.next c.args.successors.now) c.args.start c.args.limit (g.S.Successors.is_pair c.args.successors.now) c.number.new.self)
+    (sym c.new-targets.ensures)
     (exploring_none (g.S.Successors.next c.args.successors.now) c.args.start c.args.limit (g.S.Successors.is_pair c.args.successors.now) c.number.new.self c.requires.start
     (subst (λ (l : List Pair). Finds l c.number.new.self c.args.start) c.new-found.ensures c.in_ok-number.ensures.finds) c.in_ok-number.ensures.few)
 
-pub next-requires : goal.next-requires
-next-requires g c =
-    let targets = map (λ v. v.items) c.queue.targets.items in
-    let place : length targets ≡ c.len.result = length-map c.queue.targets.items (λ v. v.items) ∙ sym (c.len.ensures ∙ c.queue.targets.ok.0) in
-    let behind : length targets < length c.queue.found = omega (arith, place, c.queue-test.true, ap length c.pairs.ensures.pairs) in
-    asked_valid (g.S.Successors.is_pair c.args.successors.now) c.queue.found c.pairs-in-queue.result.now (length targets) c.len-in-queue.result none c.pairs-in-queue.ensures.pairs
-    (omega (arith, place, c.len.ensures, c.len-in-queue.ensures)) behind c.queue.invariant.valid
+pub add_next-requires : goal.add_next-requires
+add_next-requires g c =
+    let behind : length c.queue.targets < length c.queue.found = omega (arith, c.len.ensures, c.queue-test.true, ap length c.pairs.ensures.pairs) in
+    asked_valid (g.S.Successors.is_pair c.args.successors.now) c.queue.found c.pairs-in-queue.result.now (length c.queue.targets) c.len-in-queue.result none c.pairs-in-queue.ensures.pairs
+    c.len-in-queue.ensures behind c.queue.invariant.valid
 
 pub number_all-requires : goal.number_all-requires
 number_all-requires g c = c.queue.invariant.few
@@ -35,21 +32,19 @@ pub queue-preserved : goal.queue-preserved
 queue-preserved g c =
     let next = g.S.Successors.next c.args.successors.now in
     let IsPair = g.S.Successors.is_pair c.args.successors.now in
-    let targets = map (λ v. v.items) c.queue.targets.items in
-    let place : length targets ≡ c.len.result = length-map c.queue.targets.items (λ v. v.items) ∙ sym (c.len.ensures ∙ c.queue.targets.ok.0) in
-    let behind : length targets < length c.queue.found = omega (arith, place, c.queue-test.true, ap length c.pairs.ensures.pairs) in
+    let targets = c.queue.targets in
+    let behind : length targets < length c.queue.found = omega (arith, c.len.ensures, c.queue-test.true, ap length c.pairs.ensures.pairs) in
     let pair : Pair = get_or c.pairs-in-queue.result.now c.len-in-queue.result none in
     let at : slice_get c.queue.found (length targets) ≡ Some pair =
-    asked_at c.queue.found c.pairs-in-queue.result.now (length targets) c.len-in-queue.result none c.pairs-in-queue.ensures.pairs
-    (omega (arith, place, c.len.ensures, c.len-in-queue.ensures)) behind in
-    let follow : c.deref.result.now ≡ next pair = c.deref.ensures.value ∙ c.in_ok-next.ensures.next in
+    asked_at c.queue.found c.pairs-in-queue.result.now (length targets) c.len-in-queue.result none c.pairs-in-queue.ensures.pairs c.len-in-queue.ensures behind in
+    let follow : c.deref.result.now ≡ next pair = c.deref.ensures.value ∙ c.in_ok-add_next.ensures.next ∙ ap (λ l. l ++ next pair) c.clear.ensures.items in
     let more =
-    exploring_more next c.args.start c.args.limit IsPair c.queue.found c.number_all.new.self targets c.in_ok-number_all.field-0.items pair c.queue.invariant behind at
+    exploring_more next c.args.start c.args.limit IsPair c.queue.found c.number_all.new.self targets c.number_all.new.numbers.items pair c.queue.invariant behind at
     (subst (λ (l : List Pair). GrowsBy l c.queue.found c.number_all.new.self) follow c.in_ok-number_all.ensures.grows)
-    (subst (λ (l : List Pair). AreNumbers c.number_all.new.self l c.in_ok-number_all.field-0.items) follow c.in_ok-number_all.ensures.numbers) c.in_ok-number_all.ensures.few
-    (subst (λ (l : List Pair). All IsPair l) c.in_ok-next.ensures.next c.in_ok-next.ensures.pairs) in
-    subst (λ l. Exploring next c.args.start c.args.limit IsPair c.number_all.new.self l)
-    (sym (ap (λ l. map (λ v. v.items) l) c.in_ok-push.ensures.items ∙ map_push (λ v. v.items) c.queue.targets.items _)) more
+    (subst (λ (l : List Pair). AreNumbers c.number_all.new.self l c.number_all.new.numbers.items) follow c.in_ok-number_all.ensures.numbers) c.in_ok-number_all.ensures.few
+    c.in_ok-add_next.ensures.pairs in
+    subst (Exploring next c.args.start c.args.limit IsPair c.number_all.new.self)
+    (sym (c.in_ok-push.ensures ∙ ap (λ l. targets ++ l ∷ []) c.deref-in-queue.ensures.value)) more
 
 pub returns-in_err-number-clause-limit : goal.returns-in_err-number-clause-limit
 returns-in_err-number-clause-limit g c =
@@ -63,14 +58,13 @@ returns-in_err-number-clause-limit g c =
 pub returns-in_err-number_all-clause-limit : goal.returns-in_err-number_all-clause-limit
 returns-in_err-number_all-clause-limit g c =
     let next = g.S.Successors.next c.args.successors.now in
-    let targets = map (λ v. v.items) c.queue.targets.items in
-    let place : length targets ≡ c.len.result = length-map c.queue.targets.items (λ v. v.items) ∙ sym (c.len.ensures ∙ c.queue.targets.ok.0) in
-    let behind : length targets < length c.queue.found = omega (arith, place, c.queue-test.true, ap length c.pairs.ensures.pairs) in
+    let targets = c.queue.targets in
+    let behind : length targets < length c.queue.found = omega (arith, c.len.ensures, c.queue-test.true, ap length c.pairs.ensures.pairs) in
     let pair : Pair = get_or c.pairs-in-queue.result.now c.len-in-queue.result none in
     let here : Reachable next c.args.start pair =
     asked_valid (Reachable next c.args.start) c.queue.found c.pairs-in-queue.result.now (length targets) c.len-in-queue.result none c.pairs-in-queue.ensures.pairs
-    (omega (arith, place, c.len.ensures, c.len-in-queue.ensures)) behind c.queue.invariant.reached in
-    let follow : c.deref.result.now ≡ next pair = c.deref.ensures.value ∙ c.in_ok-next.ensures.next in
+    c.len-in-queue.ensures behind c.queue.invariant.reached in
+    let follow : c.deref.result.now ≡ next pair = c.deref.ensures.value ∙ c.in_ok-add_next.ensures.next ∙ ap (λ l. l ++ next pair) c.clear.ensures.items in
     let p = err_from_is_err_and c.from_residual-in_err-number_all.result c.from_residual-in_err-number_all.ensures.1 in
     rw (p.1, p.2) (λ e.
     passed_limit c.args.limit (Reachable next c.args.start) (next pair) c.queue.found c.number_all.new.self
@@ -81,20 +75,17 @@ pub returns-clause-first : goal.returns-clause-first
 returns-clause-first g c = c.queue.invariant.first
 
 pub returns-clause-one_list_each : goal.returns-clause-one_list_each
-returns-clause-one_list_each g c =
-    omega (arith, length-map c.queue.targets.items (λ v. v.items), c.len.ensures, c.queue.targets.ok.0, c.queue-test.false, ap length c.pairs.ensures.pairs, c.queue.invariant.behind)
+returns-clause-one_list_each g c = omega (arith, c.len.ensures, c.queue-test.false, ap length c.pairs.ensures.pairs, c.queue.invariant.behind)
 
 pub returns-clause-reachable : goal.returns-clause-reachable
 returns-clause-reachable g c =
-    let targets = map (λ v. v.items) c.queue.targets.items in
-    explored_all (g.S.Successors.next c.args.successors.now) c.args.start c.args.limit (g.S.Successors.is_pair c.args.successors.now) c.queue.found targets c.queue.invariant
-    (omega (arith, length-map c.queue.targets.items (λ v. v.items), c.len.ensures, c.queue.targets.ok.0, c.queue-test.false, ap length c.pairs.ensures.pairs))
+    explored_all (g.S.Successors.next c.args.successors.now) c.args.start c.args.limit (g.S.Successors.is_pair c.args.successors.now) c.queue.found c.queue.targets c.queue.invariant
+    (omega (arith, c.len.ensures, c.queue-test.false, ap length c.pairs.ensures.pairs))
 
 pub returns-clause-targets : goal.returns-clause-targets
 returns-clause-targets g c =
-    let targets = map (λ v. v.items) c.queue.targets.items in
-    explored_next (g.S.Successors.next c.args.successors.now) c.args.start c.args.limit (g.S.Successors.is_pair c.args.successors.now) c.queue.found targets c.queue.invariant
-    (omega (arith, length-map c.queue.targets.items (λ v. v.items), c.len.ensures, c.queue.targets.ok.0, c.queue-test.false, ap length c.pairs.ensures.pairs))
+    explored_next (g.S.Successors.next c.args.successors.now) c.args.start c.args.limit (g.S.Successors.is_pair c.args.successors.now) c.queue.found c.queue.targets c.queue.invariant
+    (omega (arith, c.len.ensures, c.queue-test.false, ap length c.pairs.ensures.pairs))
 
 pub returns-clause-earlier : goal.returns-clause-earlier
 returns-clause-earlier g c = c.queue.invariant.earlier
@@ -104,9 +95,8 @@ returns-clause-few g c = c.queue.invariant.few
 
 pub returns-clause-within : goal.returns-clause-within
 returns-clause-within g c =
-    let targets = map (λ v. v.items) c.queue.targets.items in
     no_more_than c.args.limit (Reachable (g.S.Successors.next c.args.successors.now) c.args.start) c.queue.found
     (λ x reaches.
-    (explored_all (g.S.Successors.next c.args.successors.now) c.args.start c.args.limit (g.S.Successors.is_pair c.args.successors.now) c.queue.found targets c.queue.invariant
-    (omega (arith, length-map c.queue.targets.items (λ v. v.items), c.len.ensures, c.queue.targets.ok.0, c.queue-test.false, ap length c.pairs.ensures.pairs)) x).1 reaches)
+    (explored_all (g.S.Successors.next c.args.successors.now) c.args.start c.args.limit (g.S.Successors.is_pair c.args.successors.now) c.queue.found c.queue.targets c.queue.invariant
+    (omega (arith, c.len.ensures, c.queue-test.false, ap length c.pairs.ensures.pairs)) x).1 reaches)
     c.queue.invariant.few

@@ -5,7 +5,7 @@ use Rattle.rela_trans.specs.Composition.{first_moves, second_moves, moves_with}
 use Rattle.rela_trans.specs.Machine.{IsSized, moves_of}
 use Rattle.rela_trans.specs.Stored.{kind_of, move_of}
 use Rattle.rela_trans.specs.declared.moves.Move.{Move}
-use Rattle.rela_trans.proofs.NumberedMoves.{joint_lead}
+use Rattle.rela_trans.proofs.NumberedMoves.{next_lead}
 use Rattle.rela_trans.proofs.compose.joint_moves.Goals as goal
 
 pub add_with-requires : goal.add_with-requires
@@ -29,5 +29,5 @@ returns g c =
     (ap (λ l. map (move_of g.L.LabelSet.letters) l) (take_all c.loop-made.made-index c.moves-left.result.now c.loop-made-test.false) ∙ c.moves-left.ensures.moves) in
     record {
       moves = moves;
-      lead = joint_lead g.L.LabelSet.letters a b c.moves-left.ensures.machine c.moves-right.ensures.machine x c.requires.left c.requires.right c.loop-made.joint.items moves;
+      lead = next_lead a b c.moves-left.ensures.machine c.moves-right.ensures.machine x c.requires.left c.requires.right;
     }

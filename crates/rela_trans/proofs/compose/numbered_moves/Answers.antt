@@ -1,10 +1,9 @@
 use Rattle.std.proofs.Common.{◌≡◌, ◌+◌, ◌<◌, Bool, List, [], ◌∷◌, ◌++◌, length, map, take, drop, reverse, vec_len, get_or, ◌∙◌, sym, ap, arith}
 use Rattle.std.proofs.lemmas.List.{map_push}
-use Rattle.rela_nfa.proofs.Numbers.{popped}
 use Rattle.rela_trans.specs.Composition.{joint_of, numbered}
 use Rattle.rela_trans.specs.Stored.{kind_of, move_of}
 use Rattle.rela_trans.specs.declared.moves.Move.{Move}
-use Rattle.rela_trans.proofs.NumberedMoves.{numbered_more, numbered_all}
+use Rattle.rela_trans.proofs.NumberedMoves.{numbered_more, numbered_all, popped}
 use Rattle.rela_trans.proofs.compose.numbered_moves.Goals as goal
 
 pub loop-made-preserved : goal.loop-made-preserved

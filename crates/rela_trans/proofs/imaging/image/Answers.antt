@@ -1,25 +1,109 @@
+use Rattle.std.proofs.Common.{◌≡◌, ℕ, ◌<◌, ◌↔◌, List, Some, map, ◌∙◌, sym, ap, subst, refl}
+use Rattle.std.specs.List.{All, Contains}
 use Rattle.std.proofs.lemmas.Result.{err_from_is_err_and}
-use Rattle.rela_trans.proofs.ImagePairs.{more_from, more_through_source, image_of, image_language}
+use Rattle.rela_pairs.specs.Reachable.{Reachable, MoreThan}
+use Rattle.rela_pairs.specs.declared.pair.Pair.{Pair}
+use Rattle.rela_nfa.specs.Automaton.{Automaton, states}
+use Rattle.rela_nfa.specs.Meeting.{pair_of}
+use Rattle.rela_nfa.specs.Stored.{moves_in as edges_in}
+use Rattle.rela_trans.specs.Composition.{next_pairs, final_both}
+use Rattle.rela_trans.specs.ImageMoves.{source_of, product_of}
+use Rattle.rela_trans.specs.Images.{IsWritten}
+use Rattle.rela_trans.specs.Machine.{Machine, machine_states}
+use Rattle.rela_trans.proofs.ImageMade.{image_more, image_reachable, image_states, image_ok, image_pairs, image_words}
 use Rattle.rela_trans.proofs.imaging.image.Goals as goal
 
-pub returns-in_err-composed-clause-limit : goal.returns-in_err-composed-clause-limit
-returns-in_err-composed-clause-limit g c =
-    let p = err_from_is_err_and c.from_residual-in_err-composed.result c.from_residual-in_err-composed.ensures.1 in
-    rw (p.1, p.2) (λ is. more_from c.args.a.now c.args.transducer.now c.in_ok-source.source c.in_ok-source.ensures.reached c.args.limit (c.in_err-composed.ensures.limit is))
+-- the pair of the two starts
+abbrev start_is : (a : Automaton) (t : Machine) (p q : ℕ) → p ≡ a.start → q ≡ t.start → pair_of p q ≡ pair_of a.start t.start
+start_is a t p q left right = λ i. pair_of (left i) (right i)
+
+pub returns-in_err-explored-clause-limit : goal.returns-in_err-explored-clause-limit
+returns-in_err-explored-clause-limit g c =
+    let a = c.args.a.now in
+    let t = c.args.transducer.now in
+    let e = start_is a t c.start.result c.start-2.result c.start.ensures.start c.start-2.ensures.start in
+    let p = err_from_is_err_and c.from_residual.result c.from_residual.ensures.1 in
+    rw (p.1, p.2) (λ is. image_more a t c.start.ensures.automaton c.args.limit (subst (λ s. MoreThan c.args.limit (Reachable (next_pairs (source_of a) t) s)) e (c.in_err-explored.ensures.limit is)))
+
+pub image_finals-requires : goal.image_finals-requires
+image_finals-requires g c =
+    let a = c.args.a.now in
+    let t = c.args.transducer.now in
+    let e = start_is a t c.start.result c.start-2.result c.start.ensures.start c.start-2.ensures.start in
+    subst (λ (l : List Pair). All (λ x. (x.left < states a) × (x.right < machine_states t)) l) (sym c.pairs.ensures)
+    (image_states a t c.start.ensures.automaton c.start-2.ensures.machine c.in_ok-explored.explored.pairs
+    (λ x. subst (λ s. Contains c.in_ok-explored.explored.pairs x ↔ Reachable (next_pairs (source_of a) t) s x) e (c.in_ok-explored.ensures.reachable x)))
+
+pub image_edges-requires-clause-pairs : goal.image_edges-requires-clause-pairs
+image_edges-requires-clause-pairs g c =
+    let a = c.args.a.now in
+    let t = c.args.transducer.now in
+    let e = start_is a t c.start.result c.start-2.result c.start.ensures.start c.start-2.ensures.start in
+    image_states a t c.start.ensures.automaton c.start-2.ensures.machine c.in_ok-explored.explored.pairs
+    (λ x. subst (λ s. Contains c.in_ok-explored.explored.pairs x ↔ Reachable (next_pairs (source_of a) t) s x) e (c.in_ok-explored.ensures.reachable x))
+
+pub from_parts-requires-clause-automaton : goal.from_parts-requires-clause-automaton
+from_parts-requires-clause-automaton g c =
+    let a = c.args.a.now in
+    let t = c.args.transducer.now in
+    let x = c.in_ok-explored.explored in
+    let e = start_is a t c.start.result c.start-2.result c.start.ensures.start c.start-2.ensures.start in
+    let r : Automaton = record {
+      letters = c.letters.result;
+      start = 0;
+      finals = c.deref.result.now;
+      edges = edges_in g.L.LabelSet.letters c.in_ok-edges.edges.items;
+    } in
+    let written : IsWritten (product_of (source_of a) t x) r = record {
+      letters = c.letters.ensures.letters;
+      start = refl;
+      finals = c.deref.ensures.value ∙ c.in_ok-finals.ensures ∙ ap (λ (l : List Pair). map (final_both (source_of a) t) l) c.pairs.ensures;
+      edges = c.in_ok-edges.ensures;
+    } in
+    let first = c.in_ok-explored.ensures.first ∙ ap Some e in
+    let each : (y : Pair) → Contains x.pairs y ↔ Reachable (next_pairs (source_of a) t) (pair_of a.start t.start) y =
+    λ y. subst (λ s. Contains x.pairs y ↔ Reachable (next_pairs (source_of a) t) s y) e (c.in_ok-explored.ensures.reachable y) in
+    image_ok a t c.start.ensures.automaton x r written c.start-2.ensures.machine c.requires.letters c.in_ok-explored.ensures.distinct first each c.in_ok-explored.ensures.targets
 
 pub returns-clause-pairs : goal.returns-clause-pairs
 returns-clause-pairs g c =
-    let composed = c.in_ok-composed.ensures.pairs in (
-      composed.0,
-      image_of c.args.a.now c.args.transducer.now c.in_ok-source.source c.in_ok-source.ensures.reached c.in_ok-composed.composed c.in_ok-image.image
-          c.in_ok-source.ensures.letters c.in_ok-composed.ensures.letters c.in_ok-image.ensures.states composed.0 composed.1 c.in_ok-image.ensures.reached,
-    )
+    let a = c.args.a.now in
+    let t = c.args.transducer.now in
+    let x = c.in_ok-explored.explored in
+    let e = start_is a t c.start.result c.start-2.result c.start.ensures.start c.start-2.ensures.start in
+    let r = c.in_ok-image.image in
+    let written : IsWritten (product_of (source_of a) t x) r = record {
+      letters = c.in_ok-image.ensures.letters ∙ c.letters.ensures.letters;
+      start = c.in_ok-image.ensures.start;
+      finals = c.in_ok-image.ensures.finals ∙ c.deref.ensures.value ∙ c.in_ok-finals.ensures ∙ ap (λ (l : List Pair). map (final_both (source_of a) t) l) c.pairs.ensures;
+      edges = c.in_ok-image.ensures.edges ∙ c.in_ok-edges.ensures;
+    } in
+    let first = c.in_ok-explored.ensures.first ∙ ap Some e in
+    let each : (y : Pair) → Contains x.pairs y ↔ Reachable (next_pairs (source_of a) t) (pair_of a.start t.start) y =
+    λ y. subst (λ s. Contains x.pairs y ↔ Reachable (next_pairs (source_of a) t) s y) e (c.in_ok-explored.ensures.reachable y) in
+    (x.pairs, image_pairs a t c.start.ensures.automaton x r written c.start-2.ensures.machine c.requires.letters c.in_ok-explored.ensures.distinct first each c.in_ok-explored.ensures.targets)
 
 pub returns-clause-language : goal.returns-clause-language
 returns-clause-language g c =
-    image_language c.args.a.now c.args.transducer.now c.in_ok-source.source c.in_ok-source.ensures.reached c.in_ok-composed.composed c.in_ok-image.image
-    c.in_ok-source.ensures.letters c.in_ok-composed.ensures.letters c.in_ok-image.ensures.states c.in_ok-source.ensures.relation c.in_ok-composed.ensures.relation c.in_ok-image.ensures.language
+    let a = c.args.a.now in
+    let t = c.args.transducer.now in
+    let x = c.in_ok-explored.explored in
+    let e = start_is a t c.start.result c.start-2.result c.start.ensures.start c.start-2.ensures.start in
+    let r = c.in_ok-image.image in
+    let written : IsWritten (product_of (source_of a) t x) r = record {
+      letters = c.in_ok-image.ensures.letters ∙ c.letters.ensures.letters;
+      start = c.in_ok-image.ensures.start;
+      finals = c.in_ok-image.ensures.finals ∙ c.deref.ensures.value ∙ c.in_ok-finals.ensures ∙ ap (λ (l : List Pair). map (final_both (source_of a) t) l) c.pairs.ensures;
+      edges = c.in_ok-image.ensures.edges ∙ c.in_ok-edges.ensures;
+    } in
+    let first = c.in_ok-explored.ensures.first ∙ ap Some e in
+    let each : (y : Pair) → Contains x.pairs y ↔ Reachable (next_pairs (source_of a) t) (pair_of a.start t.start) y =
+    λ y. subst (λ s. Contains x.pairs y ↔ Reachable (next_pairs (source_of a) t) s y) e (c.in_ok-explored.ensures.reachable y) in
+    image_words a t c.start.ensures.automaton x r written c.start-2.ensures.machine c.requires.letters c.in_ok-explored.ensures.distinct first each c.in_ok-explored.ensures.targets
 
 pub returns-clause-within : goal.returns-clause-within
 returns-clause-within g c =
-    λ more. c.in_ok-composed.ensures.within (more_through_source c.args.a.now c.args.transducer.now c.in_ok-source.source c.in_ok-source.ensures.reached c.args.limit more)
+    let a = c.args.a.now in
+    let t = c.args.transducer.now in
+    let e = start_is a t c.start.result c.start-2.result c.start.ensures.start c.start-2.ensures.start in
+    λ more. c.in_ok-explored.ensures.within (subst (λ s. MoreThan c.args.limit (Reachable (next_pairs (source_of a) t) s)) (sym e) (image_reachable a t c.start.ensures.automaton c.args.limit more))

@@ -28,7 +28,7 @@ returns-in_err-number-clause-limit c =
     let pairs = c.args.pairs.now in
     let i = c.loop-pair.pair-index in
     let none : Pair = record { left = 0; right = 0 } in
-    let p = err_from_is_err_and c.from_residual-in_err-number.result c.from_residual-in_err-number.ensures.1 in
+    let p = err_from_is_err_and c.from_residual.result c.from_residual.ensures.1 in
     rw (p.1, p.2) (λ e.
     passes_later c.args.limit pairs c.args.self.now c.loop-pair.self c.number.new.self (get_or pairs i none) c.loop-pair.invariant.grows
     (Contains-get_or pairs i none c.loop-pair-test.true) (c.in_err-number.ensures.limit e))

@@ -1,7 +1,0 @@
-use Rattle.std.proofs.Common.{◌≡◌, Bool, List, map, take}
-use Rattle.rela_trans.specs.Composition.{joint_of}
-use Rattle.rela_trans.specs.declared.joint.JointMove.{JointMove}
-use Rattle.rela_trans.proofs.compose.ComposingSuccessors.next.Given as goal
-
-abbrev pub invariant-loop-made : goal.invariant-loop-made
-invariant-loop-made g l = l.pairs.items ≡ map (λ (j : JointMove (List Bool)). j.to) (map (joint_of g.L.LabelSet.letters) (take l.made-index l.made-items))
