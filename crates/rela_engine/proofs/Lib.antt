@@ -17,3 +17,4 @@ pub mod SplitBlocks
 pub mod OwnLetters
 pub mod OtherWords
 pub mod CheckedRelations
+pub mod AlikeBodies

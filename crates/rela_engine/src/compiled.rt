@@ -1,13 +1,15 @@
-ghost use Rattle.std.specs.Prelude.{◌≡◌, ◌<◌, true, IfOk, All, length};
+ghost use Rattle.std.specs.Prelude.{◌≡◌, ◌<◌, ◌↔◌, true, IfOk, IsTrue, All, length};
 ghost use Rattle.rela_names.specs.Alphabet.{path_symbols};
 ghost use Rattle.rela_translate.specs.Zones.{Before, After};
 ghost use Rattle.rela_engine.specs.Blocks.{AreBlocks};
 ghost use Rattle.rela_engine.specs.Compilation.{IsCompiled};
 ghost use Rattle.rela_engine.specs.Reading.{Realises};
+ghost use Rattle.rela_engine.specs.Sides.{SamePairs, TreatsSidesAlike};
 
 use crate::automata::transducer;
 use crate::blocks::blocks_of;
 use crate::letters::Letters;
+use crate::sides::treats_sides_alike;
 use rela_labels::{Partition, WideSet};
 use rela_names::{Alphabet, Level};
 use rela_trans::Transducer;
@@ -25,10 +27,14 @@ pub struct Compiled<'a> {
     blocks: Partition,
     before: Transducer<WideSet>,
     after: Transducer<WideSet>,
+    /// Whether no unit of the check asks for a change.
+    treats_sides_alike: bool,
 }
 
 impl<'a> Model for Compiled<'a> {
+    ghost use Rattle.std.specs.Prelude.{◌↔◌, IsTrue};
     ghost use Rattle.rela_engine.specs.Compilation.{Compilation, IsCompiled};
+    ghost use Rattle.rela_engine.specs.Sides.{TreatsSidesAlike};
 
     ghost Value = { Compilation };
 
@@ -51,7 +57,7 @@ impl<'a> Model for Compiled<'a> {
       blocks = c.blocks;
       before = c.before;
       after = c.after;
-    }) };
+    }) × (IsTrue c.treats_sides_alike ↔ TreatsSidesAlike c.check.now.body) };
 }
 
 /// The check compiled under the alphabet of its level, of which its class table lists path symbols
@@ -74,6 +80,7 @@ pub fn compile<'a>(
         blocks,
         before,
         after,
+        treats_sides_alike: treats_sides_alike(check.body()),
     })
 }
 
@@ -132,6 +139,16 @@ impl<'a> Compiled<'a> {
         ensures { result ≡ true }
     {
         true
+    }
+
+    /// Whether it treats both sides of a change alike: no unit of it asks for a change, so that its two
+    /// relations have the same pairs.
+    pub fn treats_sides_alike(&self) -> bool
+        ensures units { IsTrue result ↔ TreatsSidesAlike self.now.check.body }
+        ensures relations { IsTrue result → SamePairs (Before self.now.check.classes self.now.locations self.now.check.body)
+            (After self.now.check.classes self.now.locations self.now.check.body) }
+    {
+        self.treats_sides_alike
     }
 
     /// The blocks of its symbols. Two symbols share one where they are one symbol, or locations that

@@ -1,8 +1,9 @@
-ghost use Rattle.std.specs.Prelude.{◌≡◌, ◌<◌, IfOk, All, length};
+ghost use Rattle.std.specs.Prelude.{◌≡◌, ℕ, ◌<◌, List, IfOk, IsTrue, All, length};
 ghost use Rattle.rela_graph.specs.Paths.{Paths};
 ghost use Rattle.rela_labels.specs.Partition.{block_count};
 ghost use Rattle.rela_names.specs.Alphabet.{path_symbols};
 ghost use Rattle.rela_snapshot.specs.PairsLocated.{IsPairLocated};
+ghost use Rattle.rela_translate.specs.Verdict.{Meets};
 ghost use Rattle.rela_engine.specs.RowOf.{RowOf};
 ghost use Rattle.rela_engine.specs.Seen.{AreFiner};
 
@@ -54,6 +55,34 @@ pub fn decide(
 /// The row of a compiled check for a flow, as [`decide`] gives it. The alphabet is the one that the
 /// check was compiled with.
 pub fn decide_compiled(
+    alloc: Global,
+    compiled: &Compiled<'_>,
+    pair: &FlowPair,
+    alphabet: &Alphabet,
+) -> Result<Row, AllocError>
+    requires alphabet { length alphabet.now ≡ compiled.now.locations }
+    requires located { IsPairLocated alphabet.now compiled.now.check.level pair.now }
+    ensures { IfOk result (RowOf compiled.now.check (length alphabet.now) (Paths pair.now.before compiled.now.check.level alphabet.now) (Paths pair.now.after compiled.now.check.level alphabet.now)) }
+{
+    if is_met_by_looks(compiled, pair) {
+        return Ok(Row::Compliant);
+    }
+    row_by_automata(alloc, compiled, pair, alphabet)
+}
+
+/// Whether the check treats both sides of a change alike, and the graphs of the flow look the same at
+/// its level. No automaton is made for that, and it takes the time of the nodes and the edges.
+fn is_met_by_looks(compiled: &Compiled<'_>, pair: &FlowPair) -> bool
+    ensures { IsTrue result → (names : List (List ℕ)) →
+        Meets compiled.now.check compiled.now.locations (Paths pair.now.before compiled.now.check.level names) (Paths pair.now.after compiled.now.check.level names) }
+{
+    let level = compiled.level();
+    pair.before.same_outline_same_paths(&pair.after, level);
+    compiled.treats_sides_alike() && pair.before.at(level) == pair.after.at(level)
+}
+
+/// The row, where no look at the graphs alone tells it.
+fn row_by_automata(
     alloc: Global,
     compiled: &Compiled<'_>,
     pair: &FlowPair,

@@ -13,6 +13,7 @@ mod letters;
 mod markers;
 mod offence;
 mod seen;
+mod sides;
 mod unlimited;
 mod witnesses;
 

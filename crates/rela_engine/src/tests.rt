@@ -4,9 +4,12 @@ use crate::blocks::set_apart;
 use crate::complements::complement_over;
 use crate::letter_sets::{letters_below, letters_of};
 use crate::offence::{Offence, first_offence};
+use crate::sides::treats_sides_alike;
 use rela_labels::{LabelSet, Partition, Splitter, WideSet};
+use rela_names::Boxed;
 use rela_nfa::Nfa;
 use rela_report::Side;
+use rela_translate::{Change, Core, Expr};
 use std::alloc::{AllocError, Global};
 use std::test::Fail;
 
@@ -101,5 +104,27 @@ fn missing_words_offend_only_where_all_are_asked_for(rt: HostRuntime) -> Result<
             &[0]
         )
     );
+    Ok(())
+}
+
+/// What is asked for of the empty path.
+fn of_the_empty_path(modifier: Change) -> Core {
+    Core::Unit {
+        zone: Expr::Empty,
+        modifier,
+    }
+}
+
+#[test]
+fn sides_are_treated_alike_where_no_unit_asks_for_a_change(rt: HostRuntime) -> Result<(), Fail> {
+    let alloc = rt.alloc();
+    assert!(rt; treats_sides_alike(&of_the_empty_path(Change::Preserve)));
+    assert!(rt; !treats_sides_alike(&of_the_empty_path(Change::Remove(Expr::Empty))));
+    let ignored = Boxed::new(alloc, of_the_empty_path(Change::Ignore(Expr::Empty)))?;
+    let preserved = Boxed::new(alloc, of_the_empty_path(Change::Preserve))?;
+    let alike = Core::Then(ignored, preserved);
+    assert!(rt; treats_sides_alike(&alike));
+    let dropped = Boxed::new(alloc, of_the_empty_path(Change::Drop))?;
+    assert!(rt; !treats_sides_alike(&Core::Else(Boxed::new(alloc, alike)?, dropped)));
     Ok(())
 }

@@ -16,3 +16,4 @@ pub mod Unrolling
 pub mod Blocked
 pub mod Reading
 pub mod PathWords
+pub mod Outlines

@@ -4,7 +4,9 @@ pub mod Component
 pub mod Incoming
 pub mod Lettering
 pub mod NodeSet
+pub mod Outline
 pub mod Paths
+pub mod SameOutline
 pub mod Spread
 pub mod Stored
 pub mod Topology

@@ -123,12 +123,26 @@ impl Graph {
         self.dropped.get(n as usize).copied().unwrap_or(false)
     }
 
+    /// For each node whether a walk may begin at it.
+    pub(crate) fn starts(&self) -> &[bool]
+        ensures { result.now ≡ self.now.starts }
+    {
+        self.starts.as_slice()
+    }
+
     /// For each node whether it is listed as one that delivers.
     pub(crate) fn delivered(&self) -> &[bool]
         ensures delivered { result.now ≡ self.now.delivered }
         ensures topology { IsTopology self.now }
     {
         self.delivered.as_slice()
+    }
+
+    /// For each node whether it is listed as one that drops.
+    pub(crate) fn dropped(&self) -> &[bool]
+        ensures { result.now ≡ self.now.dropped }
+    {
+        self.dropped.as_slice()
     }
 
     /// The edges, by the node that they come from and then by the node that they lead to.

@@ -1,4 +1,4 @@
-//! Forwarding graphs: their walks, their cycles and the paths that they allow.
+//! Forwarding graphs: their walks, their cycles and the paths that they allow, and how they look at a level.
 #![tactic(auto)]
 
 mod automaton;
@@ -11,11 +11,15 @@ mod leaving;
 mod letters;
 mod node;
 mod node_set;
+mod outline;
 mod path;
 mod reach;
 
 pub use graph::{Graph, MAX_EDGES, MAX_NODES};
 pub use node::{Link, Node};
+pub use outline::LevelGraph;
 
+#[cfg(test)]
+mod outline_tests;
 #[cfg(test)]
 mod tests;

@@ -13,7 +13,7 @@ pub struct Node {
 }
 
 /// An edge from one node to another, by their numbers.
-#[derive(Clone, Copy, PartialEq, Eq, PartialOrd, Ord, Debug)]
+#[derive(Clone, Copy, PartialEq, Eq, PartialOrd, Ord, Hash, Debug)]
 pub struct Link {
     pub a: u32,
     pub b: u32,

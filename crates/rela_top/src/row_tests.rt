@@ -181,6 +181,19 @@ fn changes_of_paths(rt: HostRuntime) -> Result<(), Fail> {
             "violated\n  missing: r1 r2 r4\n  before: r1 r2 r4\n",
         ),
         ("{ .* : ignore(.* r3 .*) }", P23, P2, COMPLIANT),
+        ("{ .* : ignore(.* r3 .*) }", P23, P23, COMPLIANT),
+        (
+            "{ .* : remove(.* r3 .*) }",
+            P3,
+            P3,
+            "violated\n  extra: r1 r3 r4\n  after: r1 r3 r4\n",
+        ),
+        (
+            "{ r1 r2 r4 : preserve } else { .* : remove(.* r3 .*) }",
+            P23,
+            P23,
+            "violated\n  extra: r1 r3 r4\n  after: r1 r3 r4\n",
+        ),
     ] {
         let spec = format!(in alloc; "level device; check c1 : {body};")?;
         let (status, out) = one_flow(alloc, before, after, spec.as_str())?;
@@ -243,6 +256,7 @@ fn at_most_lets_paths_go(rt: HostRuntime) -> Result<(), Fail> {
     let alloc = rt.alloc();
     for (before, after, verdict) in [
         (P23, P2, COMPLIANT),
+        (P23, P23, COMPLIANT),
         (P2, P23, "violated\n  extra: r1 r3 r4\n  after: r1 r3 r4\n"),
     ] {
         let spec = "level device; check atmost c1 : { .* : preserve };";
