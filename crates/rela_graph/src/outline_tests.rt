@@ -54,6 +54,13 @@ fn two(
     )?)
 }
 
+/// Whether a map has for how the second looks what it was given for how the first does.
+fn is_found(alloc: Global, graphs: &[Graph; 2], level: Level) -> Result<bool, Fail> {
+    let mut seen = HashMap::new(alloc);
+    seen.insert(graphs[0].at(level), 7)?;
+    Ok(seen.get(&graphs[1].at(level)).copied() == Some(7))
+}
+
 #[test]
 fn levels(rt: HostRuntime) -> Result<(), Fail> {
     let alloc = rt.alloc();
@@ -62,10 +69,9 @@ fn levels(rt: HostRuntime) -> Result<(), Fail> {
     assert!(rt; graph.at(Level::Group) == moved.at(Level::Group));
     assert!(rt; graph.at(Level::Interface) != moved.at(Level::Interface));
     assert!(rt; graph.at(Level::Device) == graph.at(Level::Interface));
-    let mut seen = HashMap::new(alloc);
-    seen.insert(graph.at(Level::Group), 7)?;
-    assert!(rt; seen.get(&moved.at(Level::Group)).copied() == Some(7));
-    assert!(rt; seen.get(&moved.at(Level::Device)).is_none());
+    let graphs = [graph, moved];
+    assert!(rt; is_found(alloc, &graphs, Level::Group)?);
+    assert!(rt; !is_found(alloc, &graphs, Level::Device)?);
     Ok(())
 }
 
