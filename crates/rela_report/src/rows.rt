@@ -1,4 +1,7 @@
+ghost use Rattle.std.specs.Prelude.{◌≡◌, IfOk};
+
 use rela_names::{Name, Word};
+use std::alloc::{AllocError, Global};
 
 /// The snapshot on whose side a word is.
 #[derive(Clone, Copy, Debug, PartialEq, Eq)]
@@ -25,6 +28,29 @@ pub enum Row {
     },
     /// A construction had more states than were allowed.
     Undecided,
+}
+
+impl Row {
+    /// The same verdict. The only error is want of memory.
+    pub fn copy(&self, alloc: Global) -> Result<Row, AllocError>
+        ensures { IfOk result (λ row. row ≡ self.now) }
+    {
+        match self {
+            Row::Compliant => Ok(Row::Compliant),
+            Row::Violated { word, side, source } => Ok(Row::Violated {
+                word: copy_word(alloc, word)?,
+                side: *side,
+                source: copy_word(alloc, source)?,
+            }),
+            Row::Undecided => Ok(Row::Undecided),
+        }
+    }
+}
+
+fn copy_word(alloc: Global, word: &Word) -> Result<Word, AllocError>
+    ensures { IfOk result (λ copy. copy ≡ word.now) }
+{
+    Ok(Word::from_symbols(Vec::from_slice(alloc, word.as_slice())?))
 }
 
 /// A row of the report.

@@ -9,3 +9,5 @@ pub mod RowLaws
 pub mod Shown
 pub mod CheckLaws
 pub mod TreeLaws
+pub mod SamePaths
+pub mod Shared

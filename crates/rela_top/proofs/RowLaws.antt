@@ -15,7 +15,7 @@ use Rattle.rela_snapshot.specs.declared.pairing.FlowPair.{FlowPair}
 use Rattle.rela_top.specs.Rows.{IsUnder, IsAlone, IsRowOf, AreRowsOf}
 use Rattle.rela_translate.specs.Checked.{Checked as Check}
 
-abbrev check_of : Compiled → Check
+abbrev pub check_of : Compiled → Check
 check_of c = c.check
 
 -- the nodes of a flow stand at locations of a check's level

@@ -7,6 +7,7 @@ pub mod Inputs
 pub mod Loading
 pub mod Specified
 pub mod Rows
+pub mod Sharing
 pub mod Checked
 pub mod Specifications
 pub use Rattle.rela_io.specs.Count

@@ -11,6 +11,7 @@ mod refusal;
 mod reporting;
 mod rows;
 mod running;
+mod sharing;
 mod verdict;
 mod words;
 

@@ -251,6 +251,35 @@ fn groups_are_compared_at_their_level(rt: HostRuntime) -> Result<(), Fail> {
     Ok(())
 }
 
+// At the groups' level r2 and r3 stand at one location, and r1 and r4 at another.
+#[test]
+fn flows_that_look_the_same_share_a_verdict(rt: HostRuntime) -> Result<(), Fail> {
+    let alloc = rt.alloc();
+    let before = snapshot(
+        alloc,
+        &[
+            ("f1", "10.0.0.0/24", P2),
+            ("f2", "10.0.1.0/24", P3),
+            ("f3", "10.0.2.0/24", P2),
+        ],
+    )?;
+    let after = snapshot(
+        alloc,
+        &[
+            ("f1", "10.0.0.0/24", X2),
+            ("f2", "10.0.1.0/24", X3),
+            ("f3", "10.0.2.0/24", P3),
+        ],
+    )?;
+    let spec = "level group; check c1 : { .* : preserve };";
+    let (status, out) = answer(alloc, before.as_str(), after.as_str(), spec)?;
+    let text =
+        "flow f1 check c1 violated\n  missing: edge core edge\n  before: edge core edge\nflow f2 check c1 violated\n  missing: edge core edge\n  before: edge core edge\nflow f3 check c1 compliant\ntotal 3 compliant 1 violated 2 undecided 0 unselected 0\n";
+    assert_eq!(rt; out.taken(), text.as_bytes());
+    assert_eq!(rt; status, VIOLATED);
+    Ok(())
+}
+
 #[test]
 fn at_most_lets_paths_go(rt: HostRuntime) -> Result<(), Fail> {
     let alloc = rt.alloc();

@@ -1,23 +1,26 @@
 //! The rows of a run.
 
-ghost use Rattle.std.specs.Prelude.{◌≡◌, IfOk, All, length, map};
+ghost use Rattle.std.specs.Prelude.{◌≡◌, IfOk, OnOk, All, length, map};
 ghost use Rattle.std.specs.List.{AllZip};
 ghost use Rattle.rela_report.specs.Text.{RowHasTexts};
-ghost use Rattle.rela_snapshot.specs.PairsLocated.{IsPairLocated, ArePairsLocated};
-ghost use Rattle.rela_top.specs.Rows.{AreChecksAt, AreRowsOf, IsRowOf, IsUnder, IsWithin, ListsPathSymbols};
+ghost use Rattle.rela_snapshot.specs.PairsLocated.{ArePairsLocated};
+ghost use Rattle.rela_top.specs.Rows.{AreChecksAt, AreRowsOf, IsRowOf, IsWithin, ListsPathSymbols};
+ghost use Rattle.rela_top.specs.Sharing.{AreAlike, AreVerdicts};
 
 use crate::planning::plan_rows;
-use crate::verdict::verdict;
+use crate::sharing::{Verdicts, alike, verdict_on};
 use rela_engine::{Compiled, compile};
 use rela_flows::PlannedRow;
 use rela_names::Alphabet;
-use rela_report::ReportRow;
+use rela_report::{ReportRow, Row};
 use rela_snapshot::FlowPair;
 use rela_translate::Check;
 use std::alloc::{AllocError, Global};
+use std::collections::HashMap;
 
 /// The rows of the flows under the checks, whose locations are those of the alphabet: flow after flow,
-/// one for each check that selects it, in their order, or one alone. Each check is compiled once.
+/// one for each check that selects it, in their order, or one alone. Each check is compiled once, and
+/// decided once for all flows that look the same at its level, where the checks have one level.
 pub fn rows_of(
     alloc: Global,
     pairs: &[FlowPair],
@@ -50,7 +53,7 @@ fn compile_all<'a>(
     Ok(compiled)
 }
 
-// The rows that are planned, in their order.
+// The rows that are planned, in their order. Under a check, flows that look the same are decided once.
 fn decide_all(
     alloc: Global,
     planned: &[PlannedRow],
@@ -64,51 +67,64 @@ fn decide_all(
     ensures rows { IfOk result (λ rows. AllZip (IsRowOf alphabet.now (map (λ c. c.check) compiled.now) pairs.now) planned.now rows.items) }
     ensures texts { IfOk result (λ rows. All (RowHasTexts alphabet.now) rows.items) }
 {
+    let others = alike(alloc, pairs, compiled)?;
+    let mut verdicts = HashMap::new(alloc);
     let mut rows = Vec::with_capacity(alloc, planned.len())?;
     for row in planned {
-        rows.push(row_of(alloc, row, pairs, compiled, alphabet)?)?;
+        rows.push(row_of(
+            alloc,
+            row,
+            pairs,
+            compiled,
+            alphabet,
+            &others,
+            &mut verdicts,
+        )?)?;
     }
     Ok(rows)
 }
 
-// The row that is planned.
+// The row that is planned. Its verdict is that on the flow that looks the same.
 fn row_of(
     alloc: Global,
     planned: &PlannedRow,
     pairs: &[FlowPair],
     compiled: &[Compiled<'_>],
     alphabet: &Alphabet,
+    others: &[usize],
+    verdicts: &mut Verdicts,
 ) -> Result<ReportRow, AllocError>
     requires planned { IsWithin (length pairs.now) (length compiled.now) planned.now }
     requires locations { All (λ c. c.locations ≡ length alphabet.now) compiled.now }
     requires located { All (λ c. ArePairsLocated alphabet.now c.check.level pairs.now) compiled.now }
+    requires alike { All (λ c. AreAlike c.check.level pairs.now others.now) compiled.now }
+    requires verdicts { AreVerdicts alphabet.now (map (λ c. c.check) compiled.now) pairs.now verdicts.old }
     ensures row { IfOk result (IsRowOf alphabet.now (map (λ c. c.check) compiled.now) pairs.now planned.now) }
     ensures texts { IfOk result (RowHasTexts alphabet.now) }
+    ensures verdicts { OnOk result (AreVerdicts alphabet.now (map (λ c. c.check) compiled.now) pairs.now verdicts.new) }
 {
     match *planned {
         PlannedRow::Unselected { flow } => Ok(ReportRow::Unselected {
             flow: pairs[flow].class.name.copy(alloc)?,
         }),
         PlannedRow::Checked { flow, check } => {
-            row_under(alloc, &pairs[flow], &compiled[check], alphabet)
+            let other = others[flow];
+            let row = verdict_on(alloc, verdicts, other, check, pairs, compiled, alphabet)?;
+            row_under(alloc, &pairs[flow], compiled[check].check(), row)
         }
     }
 }
 
-// The row of a flow under a check.
+// The row of a flow under a check, with this verdict.
 fn row_under(
     alloc: Global,
     pair: &FlowPair,
-    compiled: &Compiled<'_>,
-    alphabet: &Alphabet,
+    check: &Check,
+    row: Row,
 ) -> Result<ReportRow, AllocError>
-    requires locations { compiled.now.locations ≡ length alphabet.now }
-    requires located { IsPairLocated alphabet.now compiled.now.check.level pair.now }
-    ensures row { IfOk result (IsUnder alphabet.now pair.now compiled.now.check) }
-    ensures texts { IfOk result (RowHasTexts alphabet.now) }
+    ensures { IfOk result (λ made. made ≡ ReportRow.Checked pair.now.class.name check.now.name row) }
 {
-    let row = verdict(alloc, compiled, pair, alphabet)?;
     let flow = pair.class.name.copy(alloc)?;
-    let check = compiled.check().name().copy(alloc)?;
+    let check = check.name().copy(alloc)?;
     Ok(ReportRow::Checked { flow, check, row })
 }

@@ -1,6 +1,7 @@
-use Rattle.std.proofs.Common.{map, arith}
+use Rattle.std.proofs.Common.{ℕ, List, All, map, subst, sym, arith}
 use Rattle.rela_report.specs.Text.{RowHasTexts}
 use Rattle.rela_top.specs.Rows.{IsRowOf}
+use Rattle.rela_top.specs.Sharing.{AreAlike}
 use Rattle.rela_top.proofs.Loops.{All-more, zip_more}
 use Rattle.rela_top.proofs.rows.decide_all.Goals as goal
 
@@ -13,4 +14,9 @@ loop-row-preserved c = record {
   texts =
       All-more (RowHasTexts c.args.alphabet.now) c.loop-row.rows.items c.push.new.self.items c.in_ok-row_of.field-0
       c.in_ok-push.ensures.items c.loop-row.invariant.texts c.in_ok-row_of.ensures.texts;
+  verdicts = c.in_ok-row_of.ensures.verdicts;
 }
+
+pub row_of-requires-clause-alike : goal.row_of-requires-clause-alike
+row_of-requires-clause-alike c =
+    subst (λ (others : List ℕ). All (λ one. AreAlike one.check.level c.args.pairs.now others) c.args.compiled.now) (sym c.deref.ensures.value) c.in_ok-others.ensures

@@ -1,14 +1,22 @@
-use Rattle.std.proofs.Common.{◌∙◌, ap, map, sym}
-use Rattle.rela_top.specs.Rows.{IsRowOf, IsUnder}
+use Rattle.std.proofs.Common.{◌∙◌, ◌≡◌, ap, get_or, map, subst, sym}
+use Rattle.rela_report.specs.declared.rows.ReportRow.{ReportRow}
+use Rattle.rela_report.specs.declared.rows.ReportRow.TheVariants.{Checked}
+use Rattle.rela_translate.specs.Checked.{Checked as Check}
+use Rattle.rela_top.specs.Rows.{IsRowOf}
 use Rattle.rela_top.proofs.Given.{if_ok}
-use Rattle.rela_top.proofs.RowLaws.{located_at, alone_row, under_row}
+use Rattle.rela_top.proofs.RowLaws.{check_of, alone_row}
+use Rattle.rela_top.proofs.Shared.{other_within, other_looks, shared_row}
 use Rattle.rela_top.proofs.rows.row_of.Goals as goal
 
-pub row_under-requires-clause-located : goal.row_under-requires-clause-located
-row_under-requires-clause-located c =
+pub bounds-others-flow : goal.bounds-others-flow
+bounds-others-flow c =
     let within = rw c.in-Checked.is at c.requires.planned in
-    located_at c.args.alphabet.now c.args.pairs.now c.args.compiled.now c.in-Checked.flow c.in-Checked.check
-    c.index-pairs-flow-in-Checked.result c.index-compiled-check.result c.requires.located within.0 within.1 c.index-pairs-flow-in-Checked.is c.index-compiled-check.is
+    (other_within c.args.pairs.now c.args.others.now c.args.compiled.now c.in-Checked.flow c.in-Checked.check c.requires.alike within.1 within.0).0
+
+pub verdict_on-requires-clause-flow : goal.verdict_on-requires-clause-flow
+verdict_on-requires-clause-flow c =
+    let within = rw c.in-Checked.is at c.requires.planned in
+    (other_within c.args.pairs.now c.args.others.now c.args.compiled.now c.in-Checked.flow c.in-Checked.check c.requires.alike within.1 within.0).1
 
 pub returns-in_ok-copy-in-Unselected-clause-row : goal.returns-in_ok-copy-in-Unselected-clause-row
 returns-in_ok-copy-in-Unselected-clause-row c =
@@ -17,12 +25,20 @@ returns-in_ok-copy-in-Unselected-clause-row c =
     c.in_ok-copy-in-Unselected.field-0 c.args.planned.now c.in-Unselected.is within c.index-pairs-flow.is
     (c.in_ok-copy-in-Unselected.ensures ∙ ap (λ pair. pair.class.name) (sym c.index-pairs-flow.is))
 
-pub returns-in-Checked-clause-row : goal.returns-in-Checked-clause-row
-returns-in-Checked-clause-row c =
+pub returns-in_ok-row-in-Checked-clause-row : goal.returns-in_ok-row-in-Checked-clause-row
+returns-in_ok-row-in-Checked-clause-row c =
     let within = rw c.in-Checked.is at c.requires.planned in
-    if_ok (IsUnder c.args.alphabet.now c.index-pairs-flow-in-Checked.result c.index-compiled-check.result.check)
-    (IsRowOf c.args.alphabet.now (map (λ compiled. compiled.check) c.args.compiled.now) c.args.pairs.now c.args.planned.now) c.row_under.result
-    (λ row under. under_row c.args.alphabet.now c.args.pairs.now c.args.compiled.now c.in-Checked.flow c.in-Checked.check
-    c.index-pairs-flow-in-Checked.result c.index-compiled-check.result c.args.planned.now row c.in-Checked.is within.0 within.1
-    c.index-pairs-flow-in-Checked.is c.index-compiled-check.is under)
-    c.row_under.ensures.row
+    let pair = c.index-pairs-flow-in-Checked.result in
+    let by = c.index-compiled-check.result in
+    let looks =
+    other_looks c.args.pairs.now c.args.others.now c.args.compiled.now c.in-Checked.flow c.in-Checked.check by c.requires.alike within.1
+    c.index-compiled-check.is within.0 in
+    let shared =
+    shared_row c.args.alphabet.now c.args.pairs.now c.args.compiled.now c.in-Checked.flow (get_or c.args.others.now c.in-Checked.flow 0) c.in-Checked.check
+    pair by c.args.planned.now c.in_ok-row-in-Checked.row within.0 within.1 c.index-pairs-flow-in-Checked.is c.index-compiled-check.is looks c.in-Checked.is
+    c.in_ok-row-in-Checked.ensures.verdict in
+    if_ok (λ (made : ReportRow). made ≡ Checked pair.class.name c.check.result.now.name c.in_ok-row-in-Checked.row)
+    (IsRowOf c.args.alphabet.now (map check_of c.args.compiled.now) c.args.pairs.now c.args.planned.now) c.row_under.result
+    (λ made is. subst (λ (m : ReportRow). IsRowOf c.args.alphabet.now (map check_of c.args.compiled.now) c.args.pairs.now c.args.planned.now m)
+    (sym (is ∙ ap (λ (b : Check). Checked pair.class.name b.name c.in_ok-row-in-Checked.row) c.check.ensures)) shared.0)
+    c.row_under.ensures

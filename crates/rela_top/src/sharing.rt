@@ -1,0 +1,117 @@
+//! Verdicts that flows share: those that look the same at a check's level have the same paths there.
+
+ghost use Rattle.std.specs.Prelude.{◌≡◌, ◌<◌, IfOk, IfSome, OnOk, All, length, map};
+ghost use Rattle.rela_names.specs.declared.level.Level.{Level};
+ghost use Rattle.rela_snapshot.specs.PairsLocated.{ArePairsLocated};
+ghost use Rattle.rela_top.specs.Sharing.{AreAlike, AreNumbered, AreVerdicts, IsVerdictOf, LooksAs};
+
+use crate::verdict::verdict;
+use rela_engine::Compiled;
+use rela_graph::LevelGraph;
+use rela_names::{Alphabet, Level};
+use rela_report::Row;
+use rela_snapshot::FlowPair;
+use std::alloc::{AllocError, Global};
+use std::collections::HashMap;
+
+/// Verdicts by the numbers of their flows and checks.
+pub(crate) type Verdicts = HashMap<(usize, usize), Row>;
+
+/// For each flow the number of one that looks the same at the level of each check, before and after
+/// the change. Where the checks have one level it is the first such flow, else the flow itself. The
+/// number of steps is linear in the graphs.
+pub(crate) fn alike(
+    alloc: Global,
+    pairs: &[FlowPair],
+    compiled: &[Compiled<'_>],
+) -> Result<Vec<usize>, AllocError>
+    ensures { IfOk result (λ others. All (λ c. AreAlike c.check.level pairs.now others.items) compiled.now) }
+{
+    match one_level(compiled) {
+        Some(level) => alike_at(alloc, pairs, level),
+        None => own_numbers(alloc, pairs),
+    }
+}
+
+// The level that the checks have, if they have one.
+fn one_level(compiled: &[Compiled<'_>]) -> Option<Level>
+    ensures { IfSome result (λ level. All (λ c. c.check.level ≡ level) compiled.now) }
+{
+    let level = compiled.first()?.level();
+    for one in compiled {
+        if one.level() != level {
+            return None;
+        }
+    }
+    Some(level)
+}
+
+// The number of each flow.
+fn own_numbers(alloc: Global, pairs: &[FlowPair]) -> Result<Vec<usize>, AllocError>
+    ensures { IfOk result (λ own. (level : Level) → AreAlike level pairs.now own.items) }
+{
+    let mut own = Vec::with_capacity(alloc, pairs.len())?;
+    for n in 0..pairs.len() {
+        own.push(n)?;
+    }
+    Ok(own)
+}
+
+// For each flow the first that looks the same at the level.
+fn alike_at(alloc: Global, pairs: &[FlowPair], level: Level) -> Result<Vec<usize>, AllocError>
+    ensures { IfOk result (λ firsts. AreAlike level pairs.now firsts.items) }
+{
+    let mut numbers = HashMap::new(alloc);
+    let mut firsts = Vec::with_capacity(alloc, pairs.len())?;
+    for n in 0..pairs.len() {
+        firsts.push(number_of(&mut numbers, pairs, level, n)?)?;
+    }
+    Ok(firsts)
+}
+
+// The number that the look of flow n has, which is n where it has none yet.
+fn number_of<'a>(
+    numbers: &mut HashMap<(LevelGraph<'a>, LevelGraph<'a>), usize>,
+    pairs: &'a [FlowPair],
+    level: Level,
+    n: usize,
+) -> Result<usize, AllocError>
+    requires flow { n < length pairs.now }
+    requires numbered { AreNumbered level pairs.now numbers.old }
+    ensures number { IfOk result (LooksAs level pairs.now n) }
+    ensures numbered { OnOk result (AreNumbered level pairs.now numbers.new) }
+{
+    let pair = &pairs[n];
+    let look = (pair.before.at(level), pair.after.at(level));
+    if let Some(number) = numbers.get(&look) {
+        return Ok(*number);
+    }
+    numbers.insert(look, n)?;
+    Ok(n)
+}
+
+/// The verdict of a check on a flow, by their numbers: a kept one, or else it is decided and kept.
+pub(crate) fn verdict_on(
+    alloc: Global,
+    verdicts: &mut Verdicts,
+    flow: usize,
+    check: usize,
+    pairs: &[FlowPair],
+    compiled: &[Compiled<'_>],
+    alphabet: &Alphabet,
+) -> Result<Row, AllocError>
+    requires flow { flow < length pairs.now }
+    requires check { check < length compiled.now }
+    requires locations { All (λ c. c.locations ≡ length alphabet.now) compiled.now }
+    requires located { All (λ c. ArePairsLocated alphabet.now c.check.level pairs.now) compiled.now }
+    requires verdicts { AreVerdicts alphabet.now (map (λ c. c.check) compiled.now) pairs.now verdicts.old }
+    ensures verdict { IfOk result (IsVerdictOf alphabet.now (map (λ c. c.check) compiled.now) pairs.now flow check) }
+    ensures verdicts { OnOk result (AreVerdicts alphabet.now (map (λ c. c.check) compiled.now) pairs.now verdicts.new) }
+{
+    if let Some(row) = verdicts.get(&(flow, check)) {
+        return row.copy(alloc);
+    }
+    let row = verdict(alloc, &compiled[check], &pairs[flow], alphabet)?;
+    verdicts.insert((flow, check), row.copy(alloc)?)?;
+    Ok(row)
+}
