@@ -1,111 +1,89 @@
--- Blocks that are split by the locations of nodes.
-use Rattle.std.proofs.Common.{◌≡◌, ℕ, ◌+◌, ◌<◌, ◌≤◌, ◌↔◌, List, [], ◌∷◌, ◌++◌, length, get_or, take, refl, sym, ap, ◌∙◌, subst, arith}
+-- Blocks that are split so that the locations of nodes stand alone.
+use Rattle.std.proofs.Common.{◌≡◌, ℕ, ◌+◌, ◌<◌, ◌↔◌, List, [], ◌++◌, length, get_or, map, refl, sym, ap, ◌∙◌, subst, arith}
 use Rattle.std.specs.List.{All}
-use Rattle.std.specs.Prelude.{Contains, Some, Result, Ok, Err, IfOk}
-use Rattle.std.proofs.lemmas.List.{take_more, take_all}
-use Rattle.std.proofs.lemmas.List.Elements.{All-nil, All-push, All-pop}
+use Rattle.std.specs.Prelude.{Contains, Result, Ok, Err, IfOk}
+use Rattle.std.proofs.lemmas.List.{length-map, get_or-map}
+use Rattle.std.proofs.lemmas.List.Elements.{All-append, All-map, All-weaker, Contains-append_left, Contains-append_right, Contains-get_or}
 use Rattle.rela_graph.specs.Alone.{StandsAlone}
 use Rattle.rela_graph.specs.Topology.{Topology, symbol_at}
 use Rattle.rela_graph.specs.declared.node.Node.{Node}
 use Rattle.rela_labels.specs.Partition.{IsPartition, Together}
 use Rattle.rela_names.specs.declared.level.Level.{Level}
-use Rattle.rela_engine.proofs.SplitBlocks.{contains_one}
-use Rattle.rela_engine.specs.Seen.{AreAtAlike, AreFiner}
+use Rattle.rela_engine.specs.Seen.{AreFiner}
 
--- both are the location of the node, or neither
-abbrev AreBoth : Level → ℕ → ℕ → Node → Type 0
-AreBoth level s t node = (s ≡ symbol_at level node) ↔ (t ≡ symbol_at level node)
+-- the locations of the nodes of both graphs
+abbrev pub locations_of : Level → List Node → List Node → List ℕ
+locations_of level first second = map (symbol_at level) first ++ map (symbol_at level) second
 
-both_one : (level : Level) (node : Node) (k s t : ℕ) → k ≡ symbol_at level node → (Contains (k ∷ []) s ↔ Contains (k ∷ []) t) ↔ AreBoth level s t node
-both_one level node k s t is = (
-  λ alike. (
-    λ e. (contains_one k t).0 (alike.0 ((contains_one k s).1 (e ∙ sym is))) ∙ is,
-    λ e. (contains_one k s).0 (alike.1 ((contains_one k t).1 (e ∙ sym is))) ∙ is,
-  ),
-  λ both. (
-    λ has. (contains_one k t).1 (both.0 ((contains_one k s).0 has ∙ is) ∙ sym is),
-    λ has. (contains_one k s).1 (both.1 ((contains_one k t).0 has ∙ is) ∙ sym is),
-  ),
-)
+-- what was gathered from one graph and then from the other
+pub gathered : (level : Level) (start one two : List ℕ) (firsts seconds first second : List Node) → start ≡ [] → firsts ≡ first → seconds ≡ second
+    → one ≡ start ++ map (symbol_at level) firsts → two ≡ one ++ map (symbol_at level) seconds → two ≡ locations_of level first second
+gathered level start one two firsts seconds first second nothing firsts_are seconds_are is_one is_two = rw (is_two, is_one, nothing, firsts_are, seconds_are) refl
 
-pub nodes_none : (C : Type 0) (level : Level) (nodes : List Node) (s t : ℕ) → C ↔ (C × AreAtAlike level (take 0 nodes) s t)
-nodes_none C level nodes s t = (λ c. (c, All-nil (AreBoth level s t)), λ both. both.0)
+-- they are below a bound where those of both graphs are
+pub gathered_below : (level : Level) (bound : ℕ) (symbols : List ℕ) (first second : List Node) → symbols ≡ locations_of level first second
+    → All (λ node. symbol_at level node < bound) first → All (λ node. symbol_at level node < bound) second → All (λ s. s < bound) symbols
+gathered_below level bound symbols first second is one two =
+    subst (All (λ s. s < bound)) (sym is)
+    (All-append (λ s. s < bound) (map (symbol_at level) first) (map (symbol_at level) second)
+    (All-map (λ s. s < bound) (symbol_at level) first one) (All-map (λ s. s < bound) (symbol_at level) second two))
 
-pub nodes_step : (A B C : Type 0) (level : Level) (nodes : List Node) (d : Node) (i k s t : ℕ) → i < length nodes → k ≡ symbol_at level (get_or nodes i d)
-    → (A ↔ (B × (Contains (k ∷ []) s ↔ Contains (k ∷ []) t))) → (B ↔ (C × AreAtAlike level (take i nodes) s t))
-    → A ↔ (C × AreAtAlike level (take (i + 1) nodes) s t)
-nodes_step A B C level nodes d i k s t within at split before =
-    let node = get_or nodes i d in
-    subst (λ (l : List Node). A ↔ (C × AreAtAlike level l s t)) (sym (take_more nodes i d within)) (
-      λ a. let now = split.0 a in let then = before.0 now.0 in
-          (then.0, All-push (AreBoth level s t) (take i nodes) node then.1 ((both_one level node k s t at).0 now.1)),
-      λ both.
-          let parts = All-pop (AreBoth level s t) (take i nodes ++ node ∷ []) (take i nodes) (Some node) refl both.1 in
-          split.1 (before.1 (both.0, parts.0), (both_one level node k s t at).1 parts.1),
-    )
+pub placed_below : (level : Level) (few bound : ℕ) (nodes : List Node) → few + 1 < bound → All (λ node. symbol_at level node < few) nodes
+    → All (λ node. symbol_at level node < bound) nodes
+placed_below level few bound nodes less placed = λ k d within. let below = placed k d within in omega (arith, below, less)
 
-pub nodes_all : (A C : Type 0) (level : Level) (nodes : List Node) (i s t : ℕ) → length nodes ≤ i → (A ↔ (C × AreAtAlike level (take i nodes) s t))
-    → A ↔ (C × AreAtAlike level nodes s t)
-nodes_all A C level nodes i s t all told = subst (λ (l : List Node). A ↔ (C × AreAtAlike level l s t)) (take_all i nodes all) told
+one_of : (level : Level) (nodes : List Node) (k : ℕ) (d : Node) → k < length nodes → Contains (map (symbol_at level) nodes) (symbol_at level (get_or nodes k d))
+one_of level nodes k d within =
+    let long : k < length (map (symbol_at level) nodes) = omega (arith, within, length-map nodes (symbol_at level)) in
+    subst (Contains (map (symbol_at level) nodes)) (get_or-map (symbol_at level) nodes k d 0 within) (Contains-get_or (map (symbol_at level) nodes) k 0 long)
 
--- what was split by the nodes of both graphs
-pub record IsSplit (coarse : List ℕ) (level : Level) (first second : List Node) (fine : List ℕ) : Type 0 where
+-- what was split so that these symbols stand alone
+pub record IsSplit (coarse symbols fine : List ℕ) : Type 0 where
   pub same_symbols : length fine ≡ length coarse
   pub together : (s t : ℕ) → s < length coarse → t < length coarse
-      → Together fine s t ↔ ((Together coarse s t × AreAtAlike level first s t) × AreAtAlike level second s t)
+      → Together fine s t ↔ (Together coarse s t × ((u : ℕ) → Contains symbols u → (s ≡ u) ↔ (t ≡ u)))
 
-module _ (coarse : List ℕ) (locations : ℕ) (level : Level) (pre post : Topology) (fine : List ℕ) (is : IsSplit coarse level pre.nodes post.nodes fine) where
-  parts : (s t : ℕ) → s < length coarse → t < length fine → Together fine s t → (Together coarse s t × AreAtAlike level pre.nodes s t) × AreAtAlike level post.nodes s t
+module _ (coarse : List ℕ) (locations : ℕ) (level : Level) (pre post : Topology) (symbols fine : List ℕ) (is : IsSplit coarse symbols fine) where
+  parts : (s t : ℕ) → s < length coarse → t < length fine → Together fine s t → Together coarse s t × ((u : ℕ) → Contains symbols u → (s ≡ u) ↔ (t ≡ u))
   parts s t s_below t_below together = (is.together s t s_below (omega (arith, t_below, is.same_symbols))).0 together
 
   -- what stood alone still does
   still_alone : (s : ℕ) → s < length coarse → StandsAlone coarse s → StandsAlone fine s
   still_alone s below alone t t_below together =
-      alone t (omega (arith, t_below, is.same_symbols)) (parts s t below t_below together).0.0
+      alone t (omega (arith, t_below, is.same_symbols)) (parts s t below t_below together).0
 
-  pub finer : locations + 1 < length coarse → IsPartition fine → All (λ node. symbol_at level node < locations) pre.nodes
+  -- and so does each of the symbols
+  now_alone : (s : ℕ) → s < length coarse → Contains symbols s → StandsAlone fine s
+  now_alone s below one t t_below together = sym (((parts s t below t_below together).1 s one).0 refl)
+
+  pub finer : locations + 1 < length coarse → IsPartition fine → symbols ≡ locations_of level pre.nodes post.nodes → All (λ node. symbol_at level node < locations) pre.nodes
       → All (λ node. symbol_at level node < locations) post.nodes → StandsAlone coarse locations → StandsAlone coarse (locations + 1)
       → AreFiner coarse locations level pre post fine
-  finer few partition pre_placed post_placed drops loops = record {
+  finer few partition gathered pre_placed post_placed drops loops = record {
     partition = partition;
     refines = record {
       same_symbols = is.same_symbols;
-      together = λ s t s_below t_below together. (parts s t (omega (arith, s_below, is.same_symbols)) t_below together).0.0;
+      together = λ s t s_below t_below together. (parts s t (omega (arith, s_below, is.same_symbols)) t_below together).0;
     };
-    before = λ k d within t t_below together.
-        let below : symbol_at level (get_or pre.nodes k d) < length coarse = omega (arith, pre_placed k d within, few) in
-        sym (((parts (symbol_at level (get_or pre.nodes k d)) t below t_below together).0.1 k d within).0 refl);
-    after = λ k d within t t_below together.
-        let below : symbol_at level (get_or post.nodes k d) < length coarse = omega (arith, post_placed k d within, few) in
-        sym (((parts (symbol_at level (get_or post.nodes k d)) t below t_below together).1 k d within).0 refl);
+    before = λ k d within.
+        now_alone (symbol_at level (get_or pre.nodes k d)) (omega (arith, pre_placed k d within, few))
+        (subst (λ (l : List ℕ). Contains l (symbol_at level (get_or pre.nodes k d))) (sym gathered)
+        (Contains-append_left (map (symbol_at level) pre.nodes) (map (symbol_at level) post.nodes) (symbol_at level (get_or pre.nodes k d)) (one_of level pre.nodes k d within)));
+    after = λ k d within.
+        now_alone (symbol_at level (get_or post.nodes k d)) (omega (arith, post_placed k d within, few))
+        (subst (λ (l : List ℕ). Contains l (symbol_at level (get_or post.nodes k d))) (sym gathered)
+        (Contains-append_right (map (symbol_at level) pre.nodes) (map (symbol_at level) post.nodes) (symbol_at level (get_or post.nodes k d)) (one_of level post.nodes k d within)));
     drops = still_alone locations (omega (arith, few)) drops;
     loops = still_alone (locations + 1) (omega (arith, few)) loops;
   }
 
--- the partition of what was split by the nodes of one graph and then of the other
-pub finer_result : {E : Type 0} (coarse : List ℕ) (locations : ℕ) (level : Level) (pre post : Topology) (r : Result (List ℕ) E) (start first second : List ℕ) (firsts seconds : List Node)
-    → start ≡ coarse → firsts ≡ pre.nodes → seconds ≡ post.nodes → length first ≡ length start → length second ≡ length first
-    → ((s t : ℕ) → s < length start → t < length start → Together first s t ↔ (Together start s t × AreAtAlike level firsts s t))
-    → ((s t : ℕ) → s < length first → t < length first → Together second s t ↔ (Together first s t × AreAtAlike level seconds s t))
-    → IfOk r (λ fine. length fine ≡ length second) → IfOk r IsPartition
-    → IfOk r (λ fine. (s t : ℕ) → s < length second → t < length second → Together fine s t ↔ Together second s t)
+-- the partition in which the gathered locations stand alone
+pub finer_result : {E : Type 0} (coarse : List ℕ) (locations : ℕ) (level : Level) (pre post : Topology) (r : Result (List ℕ) E) (symbols : List ℕ)
+    → symbols ≡ locations_of level pre.nodes post.nodes → IfOk r (λ fine. length fine ≡ length coarse) → IfOk r IsPartition
+    → IfOk r (λ fine. (s t : ℕ) → s < length coarse → t < length coarse
+    → Together fine s t ↔ (Together coarse s t × ((u : ℕ) → Contains symbols u → (s ≡ u) ↔ (t ≡ u))))
     → locations + 1 < length coarse → All (λ node. symbol_at level node < locations) pre.nodes → All (λ node. symbol_at level node < locations) post.nodes
     → StandsAlone coarse locations → StandsAlone coarse (locations + 1) → IfOk r (AreFiner coarse locations level pre post)
-finer_result coarse locations level pre post (Err e) start first second firsts seconds is_start is_pre is_post one_len two_len one two same partition together few pre_placed post_placed drops loops = tt
-finer_result coarse locations level pre post (Ok fine) start first second firsts seconds is_start is_pre is_post one_len two_len one two same partition together few pre_placed post_placed drops loops =
-    let start_len : length start ≡ length coarse = ap length is_start in
-    finer coarse locations level pre post fine (record {
-      same_symbols = same ∙ two_len ∙ one_len ∙ start_len;
-      together = λ s t s_below t_below.
-          let once : Together first s t ↔ (Together coarse s t × AreAtAlike level pre.nodes s t) =
-          subst (λ (l : List ℕ). Together first s t ↔ (Together l s t × AreAtAlike level pre.nodes s t)) is_start
-          (subst (λ (l : List Node). Together first s t ↔ (Together start s t × AreAtAlike level l s t)) is_pre
-          (one s t (omega (arith, s_below, start_len)) (omega (arith, t_below, start_len)))) in
-          let twice : Together second s t ↔ (Together first s t × AreAtAlike level post.nodes s t) =
-          subst (λ (l : List Node). Together second s t ↔ (Together first s t × AreAtAlike level l s t)) is_post
-          (two s t (omega (arith, s_below, one_len, start_len)) (omega (arith, t_below, one_len, start_len))) in
-          let last = together s t (omega (arith, s_below, two_len, one_len, start_len)) (omega (arith, t_below, two_len, one_len, start_len)) in (
-            λ now. let then = twice.0 (last.0 now) in (once.0 then.0, then.1),
-            λ both. last.1 (twice.1 (once.1 both.0, both.1)),
-          );
-    }) few partition pre_placed post_placed drops loops
+finer_result coarse locations level pre post (Err e) symbols gathered same partition together few pre_placed post_placed drops loops = tt
+finer_result coarse locations level pre post (Ok fine) symbols gathered same partition together few pre_placed post_placed drops loops =
+    finer coarse locations level pre post symbols fine (record { same_symbols = same; together = together }) few partition gathered pre_placed post_placed drops loops

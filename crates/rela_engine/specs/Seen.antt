@@ -21,10 +21,6 @@ use Rattle.rela_engine.specs.Reading.{read_by, Recognises, Realises}
 abbrev pub NodesStandAlone : List ℕ → Level → List Node → Type 0
 NodesStandAlone blocks level nodes = All (λ node. StandsAlone blocks (symbol_at level node)) nodes
 
--- the location of each node is one of the two only where it is both
-abbrev pub AreAtAlike : Level → List Node → ℕ → ℕ → Type 0
-AreAtAlike level nodes s t = All (λ node. (s ≡ symbol_at level node) ↔ (t ≡ symbol_at level node)) nodes
-
 -- a finer partition, in which the locations of the nodes of two graphs stand alone, and so do `drop` and `loop`
 pub record AreFiner (coarse : List ℕ) (locations : ℕ) (level : Level) (pre post : Topology) (blocks : List ℕ) : Type 0 where
   pub partition : IsPartition blocks

@@ -1,17 +1,16 @@
 //! The blocks of a check's symbols, split so that the symbols of some paths stand alone.
-ghost use Rattle.std.specs.Prelude.{◌≡◌, ℕ, ◌+◌, ◌<◌, ◌↔◌, IfOk, All, length};
+ghost use Rattle.std.specs.Prelude.{◌≡◌, ◌+◌, ◌<◌, ◌++◌, IfOk, All, length, map};
 ghost use Rattle.rela_graph.specs.Alone.{StandsAlone};
 ghost use Rattle.rela_graph.specs.Topology.{symbol_at};
-ghost use Rattle.rela_labels.specs.Partition.{Together};
-ghost use Rattle.rela_engine.specs.Seen.{AreAtAlike, AreFiner};
+ghost use Rattle.rela_engine.specs.Seen.{AreFiner};
 
 use rela_graph::{Graph, Node};
-use rela_labels::{Partition, Splitter};
+use rela_labels::Partition;
 use rela_names::{Level, Symbol};
 use std::alloc::{AllocError, Global};
 
 /// The blocks split further, so that the location of each node of both graphs has a block of its own.
-/// It takes the time of the symbols and the nodes.
+/// It takes the time of the blocks and the nodes, and not that of the symbols.
 pub(crate) fn finer_blocks(
     alloc: Global,
     blocks: &Partition,
@@ -27,26 +26,22 @@ pub(crate) fn finer_blocks(
     requires loops { StandsAlone blocks.now (locations + 1) }
     ensures { IfOk result (AreFiner blocks.now locations level before.now after.now) }
 {
-    let mut splitter = Splitter::of(alloc, blocks)?;
-    set_nodes_apart(alloc, &mut splitter, before.nodes(), level)?;
-    set_nodes_apart(alloc, &mut splitter, after.nodes(), level)?;
-    splitter.into_partition(alloc)
+    let mut symbols = Vec::new(alloc);
+    push_locations(&mut symbols, before.nodes(), level)?;
+    push_locations(&mut symbols, after.nodes(), level)?;
+    blocks.with_alone(alloc, symbols.as_slice())
 }
 
-/// Makes the location of each node a block of its own.
-fn set_nodes_apart(
-    alloc: Global,
-    splitter: &mut Splitter,
+/// Adds the location of each node.
+fn push_locations(
+    symbols: &mut Vec<Symbol>,
     nodes: &[Node],
     level: Level,
 ) -> Result<(), AllocError>
-    requires { All (λ node. symbol_at level node < length splitter.old) nodes.now }
-    ensures symbols { length splitter.new ≡ length splitter.old }
-    ensures split { IfOk result (λ _. (s t : ℕ) → s < length splitter.old → t < length splitter.old
-        → Together splitter.new s t ↔ (Together splitter.old s t × AreAtAlike level nodes.now s t)) }
+    ensures { IfOk result (λ _. symbols.new.items ≡ symbols.old.items ++ map (symbol_at level) nodes.now) }
 {
     for node in nodes {
-        splitter.split(alloc, &[location_of(node, level)])?;
+        symbols.push(location_of(node, level))?;
     }
     Ok(())
 }
