@@ -12,7 +12,7 @@ pub(crate) fn all_letters<L: LabelSet>(alloc: Global, letters: u32) -> Result<L,
 {
     let mut set = L::none(alloc, letters)?;
     for letter in 0..letters {
-        set.add(letter);
+        set.add(alloc, letter)?;
     }
     Ok(set)
 }

@@ -15,7 +15,7 @@ fn class(alloc: Global, letters: &[u32]) -> Result<Table, AllocError>
     let mut set: BlockSet<1> = LabelSet::none(alloc, 3)?;
     for letter in letters {
         if *letter < 3 {
-            set.add(*letter);
+            set.add(alloc, *letter)?;
         }
     }
     Nfa::class(alloc, 3, &set)

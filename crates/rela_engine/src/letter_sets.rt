@@ -19,7 +19,7 @@ pub(crate) fn letters_below(
 {
     let mut set = WideSet::none(alloc, blocks.blocks())?;
     for s in 0..end {
-        set.add(blocks.block_of(s));
+        set.add(alloc, blocks.block_of(s))?;
     }
     Ok(set)
 }
@@ -36,7 +36,7 @@ pub(crate) fn letters_of(
 {
     let mut set = WideSet::none(alloc, blocks.blocks())?;
     for s in symbols {
-        set.add(blocks.block_of(*s));
+        set.add(alloc, blocks.block_of(*s))?;
     }
     Ok(set)
 }

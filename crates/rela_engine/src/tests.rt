@@ -19,7 +19,7 @@ fn set_of(alloc: Global, letters: &[u32]) -> Result<WideSet, AllocError>
     let mut set = WideSet::none(alloc, 3)?;
     for letter in letters {
         if *letter < 3 {
-            set.add(*letter);
+            set.add(alloc, *letter)?;
         }
     }
     Ok(set)

@@ -65,7 +65,7 @@ impl Letters {
         ensures { IfOk result (λ edge. move_of L.letters edge ≡ by_letter self.now.count letter to) }
     {
         let mut label = L::none(alloc, self.count)?;
-        label.add(letter);
+        label.add(alloc, letter)?;
         Ok(Edge {
             label: Some(label),
             to,

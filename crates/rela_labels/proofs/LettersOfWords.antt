@@ -156,7 +156,7 @@ same_sets m n a b x y a_is b_is sizes same bits =
     )
 
 -- no letter
-no_bits : (n : ℕ) (k : ℕ) → bit_of (replicate n 0) k ≡ false
+pub no_bits : (n : ℕ) (k : ℕ) → bit_of (replicate n 0) k ≡ false
 no_bits n k =
     elim (cases_lt (k / 64) n) [
       | inl below ↦ no_word (replicate n 0) k (get_or-replicate n (k / 64) 0 0 below)

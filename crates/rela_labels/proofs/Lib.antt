@@ -7,3 +7,4 @@ pub mod Members
 pub mod MovedKeys
 pub mod ReachedSymbols
 pub mod WordBits
+pub mod WideLetters

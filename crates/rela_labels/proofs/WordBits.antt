@@ -1,6 +1,6 @@
 -- The bits of words, and what reads, writes and word-wise operations do to them.
 use Rattle.std.proofs.Common.{◌≡◌, ◌≢◌, ℕ, ◌+◌, ◌-◌, ◌*◌, Fits, ◌/◌, ◌%◌, ◌^◌, ◌<◌, ◌≤◌, ◌==◌, Bool, true, false, not, ◌&&◌, ◌||◌, List, length, get_or, set, inl, inr, arith, refl, sym, ap, ◌∙◌, bit_and, bit_or, min, max}
-use Rattle.std.proofs.lemmas.Bool.{cases_lt, cases_eq}
+use Rattle.std.proofs.lemmas.Bool.{cases_lt, cases_eq, eq-eqb, ne_eqb, false≢true}
 use Rattle.std.proofs.lemmas.Grind.{same_number_lists}
 use Rattle.std.proofs.lemmas.List.{get_or_past, get_or-set_other, get_or-set_same}
 use Rattle.std.proofs.lemmas.Nat.Bits.{shr_and_one, bit_at-zero, bit_at_and, bit_at_or, bit_at_not, bit_at_set_same, bit_at_set_other, bit_at-trailing_zeros, bit_at-lt, same_from_bits_below}
@@ -175,3 +175,42 @@ bits_of_same_words a b i len all same k =
 pub some_bit_differs : (a b : List ℕ) (i : ℕ) → length a ≡ length b → ((j : ℕ) → Fits w64 (get_or a j 0)) → ((j : ℕ) → Fits w64 (get_or b j 0))
     → get_or a i 0 ≢ get_or b i 0 → ((k : ℕ) → bit_of a k ≡ bit_of b k) → ⊥
 some_bit_differs a b i len a_fits b_fits differ same = differ (ap (λ words. get_or words i 0) (words_from_bits a b len a_fits b_fits same))
+
+-- a word with the bit of one letter
+pub bit_of_one : (letter place : ℕ) → letter / 64 ≡ place → (b : ℕ) → b < 64
+    → (bit_at (1 * 2 ^ (letter % 64) % 2 ^ 64) b == 1) ≡ (letter == 64 * place + b)
+bit_of_one letter place at b within =
+    let small : letter % 64 < 64 = omega arith in
+    elim (cases_eq b (letter % 64)) [
+      | inl e ↦
+          let here : letter ≡ 64 * place + b = omega arith in
+          let one : bit_at (1 * 2 ^ (letter % 64) % 2 ^ 64) (letter % 64) ≡ 1 = bit_at_set_same w64 0 (letter % 64) small in
+          ap (λ i. bit_at (1 * 2 ^ (letter % 64) % 2 ^ 64) i == 1) e ∙ ap (λ n. n == 1) one ∙ sym (eq-eqb letter (64 * place + b) here)
+      | inr n ↦
+          let other : bit_at (1 * 2 ^ (letter % 64) % 2 ^ 64) b ≡ bit_at 0 b = bit_at_set_other w64 0 (letter % 64) small b n in
+          ap (λ n. n == 1) (other ∙ bit_at-zero b) ∙ sym (ne_eqb letter (64 * place + b) (λ e. n (omega arith)))
+    ]
+
+-- words in which the bit of one letter alone is 1
+abbrev pub IsWordOf : ℕ → ℕ → ℕ → Type 0
+IsWordOf letter place word = (b : ℕ) → b < 64 → (bit_at word b == 1) ≡ (letter == 64 * place + b)
+
+pub only_bit : (words : List ℕ) (letter i : ℕ) → bit_of words letter ≡ true → length words ≤ i
+    → ((j : ℕ) → j < i → IsWordOf letter j (get_or words j 0)) → (k : ℕ) → bit_of words k ≡ (letter == k)
+only_bit words letter i there all each k =
+    let place : k ≡ 64 * (k / 64) + k % 64 = omega arith in
+    elim (cases_lt (k / 64) (length words)) [
+      | inl before ↦
+          ap (bit_of words) place ∙ bit_at_place words (k / 64) (k % 64) (omega arith)
+          ∙ each (k / 64) (omega arith) (k % 64) (omega arith) ∙ ap (λ j. letter == j) (sym place)
+      | inr past ↦
+          past_words words k past
+          ∙ sym (ne_eqb letter k (λ e. false≢true (sym (past_words words k past) ∙ ap (bit_of words) (sym e) ∙ there)))
+    ]
+
+pub not_only_bit : (words : List ℕ) (letter i word : ℕ) → get_or words i 0 < 2 ^ 64 → word < 2 ^ 64 → IsWordOf letter i word
+    → get_or words i 0 ≢ word → ((k : ℕ) → bit_of words k ≡ (letter == k)) → ⊥
+not_only_bit words letter i word fits word_fits is differ only =
+    differ (same_from_bits_below 64 (get_or words i 0) word fits word_fits (λ b within.
+    same_digit (bit_at (get_or words i 0) b) (bit_at word b) (bit_at-lt (get_or words i 0) b) (bit_at-lt word b)
+    (sym (bit_at_place words i b within) ∙ only (64 * i + b) ∙ sym (is b within))))

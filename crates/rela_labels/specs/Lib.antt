@@ -3,4 +3,5 @@ pub mod Letters
 pub mod Numbering
 pub mod Partition
 pub mod Splitting
+pub mod WideSets
 pub mod Words

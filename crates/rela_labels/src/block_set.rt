@@ -55,8 +55,9 @@ impl<const W: usize> LabelSet for BlockSet<W> {
         self.size
     }
 
-    fn add(&mut self, letter: u32) {
+    fn add(&mut self, _alloc: Global, letter: u32) -> Result<(), AllocError> {
         set_bit(&mut self.words, letter);
+        Ok(())
     }
 
     fn contains(&self, letter: u32) -> bool {

@@ -1,4 +1,4 @@
-ghost use Rattle.std.specs.Prelude.{◌≡◌, ◌≢◌, ℕ, ◌<◌, ◌↔◌, ◌&&◌, ◌||◌, Bool, true, false, not, IsTrue, List, length, IfOk, IfNone, IfSome, IsOk};
+ghost use Rattle.std.specs.Prelude.{◌≡◌, ◌≢◌, ℕ, ◌<◌, ◌↔◌, ◌&&◌, ◌||◌, Bool, true, false, not, IsTrue, List, length, IfOk, IfErr, OnOk, IfNone, IfSome, IsOk};
 ghost use Rattle.rela_labels.specs.Letters.{has};
 
 use std::alloc::{AllocError, Global};
@@ -30,12 +30,14 @@ pub trait LabelSet: Drop {
         ensures size { result ≡ length (letters self.now) }
         ensures fits { fits (length (letters self.now)) };
 
-    /// Puts a letter into the set.
-    fn add(&mut self, letter: u32)
+    /// Puts a letter into the set. An error leaves the set as it was.
+    fn add(&mut self, alloc: Global, letter: u32) -> Result<(), AllocError>
         requires { letter < length (letters self.old) }
-        ensures size { length (letters self.new) ≡ length (letters self.old) }
-        ensures added { has (letters self.new) letter ≡ true }
-        ensures others { (k : ℕ) → k ≢ letter → has (letters self.new) k ≡ has (letters self.old) k };
+        ensures size { OnOk result (length (letters self.new) ≡ length (letters self.old)) }
+        ensures added { OnOk result (has (letters self.new) letter ≡ true) }
+        ensures others { OnOk result ((k : ℕ) → k ≢ letter → has (letters self.new) k ≡ has (letters self.old) k) }
+        ensures unchanged { IfErr result (λ _. letters self.new ≡ letters self.old) }
+        ensures memory { takes_memory ≡ false → IsOk result };
 
     /// Whether the letter is in the set; no letter from the size on is.
     fn contains(&self, letter: u32) -> bool

@@ -8,6 +8,7 @@ mod label_set;
 mod numbering;
 mod partition;
 mod splitter;
+mod wide_members;
 mod wide_set;
 mod words;
 

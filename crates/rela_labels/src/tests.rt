@@ -11,7 +11,7 @@ fn set_of<L: LabelSet>(alloc: Global, size: u32, letters: &[u32]) -> Result<L, A
     let mut set = L::none(alloc, size)?;
     for letter in letters {
         if *letter < set.size() {
-            set.add(*letter);
+            set.add(alloc, *letter)?;
         }
     }
     Ok(set)
@@ -56,6 +56,53 @@ fn wide_sets(rt: HostRuntime) -> Result<(), Fail> {
     assert!(rt; set.join(alloc, &none)?.same(&set));
     assert!(rt; !set.minus(alloc, &set)?.contains(4_999));
     assert!(rt; !set.copy(alloc)?.is_empty());
+    Ok(())
+}
+
+// Whether the operations on two wide sets of nine letters give these least letters.
+fn has_least(
+    alloc: Global,
+    first: &[u32],
+    second: &[u32],
+    expected: [Option<u32>; 3],
+) -> Result<bool, AllocError> {
+    let first: WideSet = set_of(alloc, 9, first)?;
+    let second: WideSet = set_of(alloc, 9, second)?;
+    let meet = first.meet(alloc, &second)?.least();
+    let join = first.join(alloc, &second)?.least();
+    let minus = first.minus(alloc, &second)?.least();
+    Ok(meet == expected[0] && join == expected[1] && minus == expected[2])
+}
+
+#[test]
+fn wide_sets_of_none(rt: HostRuntime) -> Result<(), Fail> {
+    let alloc = rt.alloc();
+    assert!(rt; has_least(alloc, &[], &[], [None, None, None])?);
+    assert!(rt; has_least(alloc, &[], &[4], [None, Some(4), None])?);
+    assert!(rt; has_least(alloc, &[4], &[], [None, Some(4), Some(4)])?);
+    assert!(rt; has_least(alloc, &[], &[3, 4], [None, Some(3), None])?);
+    Ok(())
+}
+
+#[test]
+fn wide_sets_of_one(rt: HostRuntime) -> Result<(), Fail> {
+    let alloc = rt.alloc();
+    assert!(rt; has_least(alloc, &[4], &[4], [Some(4), Some(4), None])?);
+    assert!(rt; has_least(alloc, &[4], &[2], [None, Some(2), Some(4)])?);
+    assert!(rt; has_least(alloc, &[4], &[3, 4], [Some(4), Some(3), None])?);
+    assert!(rt; has_least(alloc, &[3, 4], &[3], [Some(3), Some(3), Some(4)])?);
+    Ok(())
+}
+
+#[test]
+fn wide_sets_of_one_letter_are_the_same(rt: HostRuntime) -> Result<(), Fail> {
+    let alloc = rt.alloc();
+    let both: WideSet = set_of(alloc, 9, &[3, 4])?;
+    let one: WideSet = set_of(alloc, 9, &[4])?;
+    let other: WideSet = set_of(alloc, 9, &[3])?;
+    assert!(rt; both.minus(alloc, &other)?.same(&one));
+    assert!(rt; one.copy(alloc)?.same(&both.minus(alloc, &other)?));
+    assert!(rt; !both.same(&one));
     Ok(())
 }
 

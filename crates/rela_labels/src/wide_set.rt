@@ -1,37 +1,28 @@
 ghost use Rattle.std.specs.Prelude.{◌≡◌, IfOk};
 
 use crate::label_set::LabelSet;
-use crate::words::{has_bit, join_words, least_bit, meet_words, minus_words, same_words, set_bit};
+use crate::wide_members::Members;
 use std::alloc::{AllocError, Global};
 use std::marker::Model;
 
-/// A set of letters of any size. Its words lie on the heap.
+/// A set of letters of any size. Where it has two letters or more, it may take a bit for each letter
+/// below its size, on the heap; one with fewer may take no memory there.
 #[derive(Debug, Drop)]
 pub struct WideSet {
     size: u32,
-    words: Vec<u64>,
+    members: Members,
 }
 
 impl Model for WideSet {
     ghost use Rattle.std.specs.Prelude.{List, Bool};
-    ghost use Rattle.rela_labels.specs.Words.{letters_of, IsWide};
 
     ghost Value = { List Bool };
 
-    ghost view = { λ set. letters_of set.size set.words.items };
+    ghost use Rattle.rela_labels.specs.WideSets.{letters_in, IsHeld};
 
-    ghost invariant = { λ set. IsWide set.size set.words.items };
-}
+    ghost view = { λ set. letters_in set.size set.members };
 
-impl WideSet {
-    fn copied(&self, alloc: Global) -> Result<WideSet, AllocError>
-        ensures { IfOk result (λ set. set ≡ self.now) }
-    {
-        Ok(WideSet {
-            size: self.size,
-            words: Vec::from_slice(alloc, &self.words)?,
-        })
-    }
+    ghost invariant = { λ set. IsHeld set.size set.members };
 }
 
 impl LabelSet for WideSet {
@@ -43,54 +34,66 @@ impl LabelSet for WideSet {
 
     ghost takes_memory = { true };
 
-    fn none(alloc: Global, size: u32) -> Result<WideSet, AllocError> {
-        let words = vec![in alloc; 0; (size as usize + 63) / 64]?;
-        Ok(WideSet { size, words })
+    fn none(_alloc: Global, size: u32) -> Result<WideSet, AllocError> {
+        Ok(WideSet {
+            size,
+            members: Members::Nothing,
+        })
     }
 
     fn size(&self) -> u32 {
         self.size
     }
 
-    fn add(&mut self, letter: u32) {
-        set_bit(&mut self.words, letter);
+    fn add(&mut self, alloc: Global, letter: u32) -> Result<(), AllocError> {
+        self.members.add(alloc, self.size, letter)
     }
 
     fn contains(&self, letter: u32) -> bool {
-        has_bit(&self.words, letter)
+        self.members.contains(letter)
     }
 
     fn meet(&self, alloc: Global, other: &WideSet) -> Result<WideSet, AllocError> {
-        let mut set = self.copied(alloc)?;
-        meet_words(&mut set.words, &other.words);
-        Ok(set)
+        let members = self.members.meet(alloc, self.size, &other.members)?;
+        Ok(WideSet {
+            size: self.size,
+            members,
+        })
     }
 
     fn join(&self, alloc: Global, other: &WideSet) -> Result<WideSet, AllocError> {
-        let mut set = self.copied(alloc)?;
-        join_words(&mut set.words, &other.words);
-        Ok(set)
+        let members = self.members.join(alloc, self.size, &other.members)?;
+        Ok(WideSet {
+            size: self.size,
+            members,
+        })
     }
 
     fn minus(&self, alloc: Global, other: &WideSet) -> Result<WideSet, AllocError> {
-        let mut set = self.copied(alloc)?;
-        minus_words(&mut set.words, &other.words);
-        Ok(set)
+        let members = self.members.minus(alloc, self.size, &other.members)?;
+        Ok(WideSet {
+            size: self.size,
+            members,
+        })
     }
 
     fn is_empty(&self) -> bool {
-        least_bit(&self.words).is_none()
+        self.members.least().is_none()
     }
 
     fn least(&self) -> Option<u32> {
-        least_bit(&self.words)
+        self.members.least()
     }
 
     fn same(&self, other: &WideSet) -> bool {
-        same_words(&self.words, &other.words)
+        self.members.same(&other.members)
     }
 
     fn copy(&self, alloc: Global) -> Result<WideSet, AllocError> {
-        self.copied(alloc)
+        let members = self.members.copied(alloc, self.size)?;
+        Ok(WideSet {
+            size: self.size,
+            members,
+        })
     }
 }

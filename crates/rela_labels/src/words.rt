@@ -1,6 +1,7 @@
 //! Sets of letters as the bits of words of 64 bits: letter `k` is bit `k % 64` of word `k / 64`.
-ghost use Rattle.std.specs.Prelude.{◌≡◌, ◌≢◌, ℕ, ◌*◌, ◌^◌, ◌<◌, ◌≤◌, ◌↔◌, ◌&&◌, ◌||◌, true, false, not, IsTrue, length, IfNone, IfSome};
+ghost use Rattle.std.specs.Prelude.{◌≡◌, ◌≢◌, ℕ, ◌*◌, ◌^◌, ◌<◌, ◌≤◌, ◌↔◌, ◌+◌, ◌==◌, ◌&&◌, ◌||◌, true, false, not, IsTrue, length, IfNone, IfSome};
 ghost use Rattle.rela_labels.specs.Words.{bit_of};
+ghost use Rattle.std.specs.Int.{bit_at};
 
 /// Whether the letter's bit is 1.
 pub(crate) fn has_bit(words: &[u64], letter: u32) -> bool
@@ -77,4 +78,30 @@ pub(crate) fn same_words(words: &[u64], other: &[u64]) -> bool
         }
     }
     true
+}
+
+/// Whether the letter's bit is 1, and no other.
+pub(crate) fn is_only_bit(words: &[u64], letter: u32) -> bool
+    ensures { IsTrue result ↔ ((k : ℕ) → bit_of words.now k ≡ (letter == k)) }
+{
+    if !has_bit(words, letter) {
+        return false;
+    }
+    for (i, word) in words.iter().enumerate() {
+        if *word != word_of(letter, i) {
+            return false;
+        }
+    }
+    true
+}
+
+/// The word at this place where the letter's bit alone is 1.
+fn word_of(letter: u32, place: usize) -> u64
+    ensures { (b : ℕ) → b < 64 → (bit_at result b == 1) ≡ (letter == 64 * place + b) }
+{
+    if letter as usize / 64 == place {
+        1 << (letter % 64)
+    } else {
+        0
+    }
 }

@@ -16,7 +16,7 @@ fn set_of(alloc: Global, letters: &[u32]) -> Result<Letters, AllocError>
     let mut set = Letters::none(alloc, 3)?;
     for letter in letters {
         if *letter < 3 {
-            set.add(*letter);
+            set.add(alloc, *letter)?;
         }
     }
     Ok(set)
@@ -27,7 +27,7 @@ fn all_below(alloc: Global, size: u32) -> Result<WideSet, AllocError>
 {
     let mut set = WideSet::none(alloc, size)?;
     for letter in 0..size {
-        set.add(letter);
+        set.add(alloc, letter)?;
     }
     Ok(set)
 }
@@ -72,7 +72,7 @@ fn many_letters_of_two_kinds(rt: HostRuntime) -> Result<(), Fail> {
     let alloc = rt.alloc();
     let all = all_below(alloc, 300)?;
     let mut seventh = WideSet::none(alloc, 300)?;
-    seventh.add(7);
+    seventh.add(alloc, 7)?;
     let any: Nfa<WideSet> = Nfa::class(alloc, 300, &all)?;
     let one: Nfa<WideSet> = Nfa::class(alloc, 300, &seventh)?;
     let two = any.concat(alloc, &any)?;

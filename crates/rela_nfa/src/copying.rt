@@ -69,7 +69,7 @@ pub(crate) fn one_letter<L: LabelSet>(
     ensures { IfOk result (λ set. L.letters set ≡ single size letter) }
 {
     let mut set = L::none(alloc, size)?;
-    set.add(letter);
+    set.add(alloc, letter)?;
     Ok(set)
 }
 

@@ -1,4 +1,4 @@
-ghost use Rattle.std.specs.Prelude.{◌≡◌, ◌≢◌, false, ℕ, ◌<◌, ◌^◌, ◌↔◌, List, IfOk, length, map, slice_index, vec_len};
+ghost use Rattle.std.specs.Prelude.{◌≡◌, ◌≢◌, false, ℕ, ◌<◌, ◌^◌, ◌↔◌, List, IfOk, OnOk, length, map, slice_index, vec_len};
 ghost use Rattle.std.specs.List.{All};
 ghost use Rattle.rela_labels.specs.Letters.{has};
 ghost use Rattle.rela_labels.specs.Partition.{block_of, block_count};
@@ -41,22 +41,28 @@ pub fn relabelled_set<L: LabelSet, M: LabelSet>(
 {
     let mut new = M::none(alloc, parents.len() as u32)?;
     for block in 0..parents.len() {
-        put(&mut new, block as u32, set.contains(parents[block]));
+        put(alloc, &mut new, block as u32, set.contains(parents[block]))?;
     }
     Ok(new)
 }
 
 /// Puts a letter that is lacking into the set, if it is to be in it.
-fn put<M: LabelSet>(set: &mut M, letter: u32, is_in: bool)
+fn put<M: LabelSet>(
+    alloc: Global,
+    set: &mut M,
+    letter: u32,
+    is_in: bool,
+) -> Result<(), AllocError>
     requires below { letter < length (M.letters set.old) }
     requires lacking { has (M.letters set.old) letter ≡ false }
-    ensures size { length (M.letters set.new) ≡ length (M.letters set.old) }
-    ensures here { has (M.letters set.new) letter ≡ is_in }
-    ensures others { (k : ℕ) → k ≢ letter → has (M.letters set.new) k ≡ has (M.letters set.old) k }
+    ensures size { OnOk result (length (M.letters set.new) ≡ length (M.letters set.old)) }
+    ensures here { OnOk result (has (M.letters set.new) letter ≡ is_in) }
+    ensures others { OnOk result ((k : ℕ) → k ≢ letter → has (M.letters set.new) k ≡ has (M.letters set.old) k) }
 {
     if is_in {
-        set.add(letter);
+        set.add(alloc, letter)?;
     }
+    Ok(())
 }
 
 /// The edge by the letters that lie in its label.

@@ -13,7 +13,7 @@ fn letter(alloc: Global, k: u32) -> Result<Table, AllocError>
 {
     let mut set: BlockSet<1> = LabelSet::none(alloc, 3)?;
     if k < 3 {
-        set.add(k);
+        set.add(alloc, k)?;
     }
     Nfa::class(alloc, 3, &set)
 }

@@ -28,7 +28,7 @@ fn set_of(alloc: Global, letters: &[u32]) -> Result<Letters, AllocError>
     let mut set = Letters::none(alloc, 3)?;
     for letter in letters {
         if *letter < 3 {
-            set.add(*letter);
+            set.add(alloc, *letter)?;
         }
     }
     Ok(set)

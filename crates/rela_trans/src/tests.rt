@@ -15,7 +15,7 @@ fn letter(alloc: Global, letters: u32, k: u32) -> Result<Nfa<BlockSet<1>>, Alloc
 {
     let mut set: BlockSet<1> = LabelSet::none(alloc, letters)?;
     if k < letters {
-        set.add(k);
+        set.add(alloc, k)?;
     }
     Nfa::class(alloc, letters, &set)
 }

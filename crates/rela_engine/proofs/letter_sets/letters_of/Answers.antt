@@ -5,10 +5,10 @@ use Rattle.rela_engine.proofs.letter_sets.letters_of.Goals as goal
 pub loop-s-preserved : goal.loop-s-preserved
 loop-s-preserved c = record {
   symbols = c.loop-s.invariant.symbols;
-  size = c.add.ensures.size ∙ c.loop-s.invariant.size;
+  size = c.in_ok-add.ensures.size ∙ c.loop-s.invariant.size;
   letters =
       listed_more c.args.blocks.now c.args.symbols.now c.loop-s.set c.add.new.self c.loop-s.s-index (get_or c.args.symbols.now c.loop-s.s-index 0) c.block_of.result
-      (omega arith) refl c.block_of.ensures.block c.loop-s.invariant.letters c.add.ensures.added c.add.ensures.others;
+      (omega arith) refl c.block_of.ensures.block c.loop-s.invariant.letters c.in_ok-add.ensures.added c.in_ok-add.ensures.others;
 }
 
 pub returns-clause-letters : goal.returns-clause-letters

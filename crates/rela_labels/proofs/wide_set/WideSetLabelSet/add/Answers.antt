@@ -1,26 +1,26 @@
-use Rattle.rela_labels.proofs.LettersOfWords.{wide_with_letter, letter_within}
+use Rattle.std.proofs.Common.{ℕ, ◌≡◌, ◌==◌, ◌||◌, arith, ◌∙◌}
+use Rattle.std.proofs.lemmas.Result.{on_ok_weaker}
+use Rattle.rela_labels.specs.WideSets.{holds}
+use Rattle.rela_labels.proofs.WideLetters.{wide_size, length-letters_in, added_here, added_others}
 use Rattle.rela_labels.proofs.wide_set.WideSetLabelSet.add.Goals as goal
 
-pub set_bit-requires : goal.set_bit-requires
-set_bit-requires c =
-    letter_within _ _ _ _ _ c.self.view_is c.self.invariant.tidy c.deref_mut.ensures.value c.requires
-
-pub invariant_of-self : goal.invariant_of-self
-invariant_of-self c =
-    (wide_with_letter _ c.self.inside.words _ _ _ _ c.self.view_is c.self.invariant c.requires c.deref_mut.ensures.value c.set_bit.auto.words c.deref_mut.ensures.len
-    c.set_bit.ensures.added c.set_bit.ensures.others).wide
+pub add-requires-clause-below : goal.add-requires-clause-below
+add-requires-clause-below c = let size = wide_size _ _ _ c.self.view_is in omega arith
 
 pub returns-clause-size : goal.returns-clause-size
 returns-clause-size c =
-    (wide_with_letter _ c.self.inside.words _ _ _ _ c.self.view_is c.self.invariant c.requires c.deref_mut.ensures.value c.set_bit.auto.words c.deref_mut.ensures.len
-    c.set_bit.ensures.added c.set_bit.ensures.others).added.size_is
+    on_ok_weaker c.add.result (λ (each : (k : ℕ) → holds c.add.new.self k ≡ (holds c.self.inside.members k || c.args.letter == k)).
+    length-letters_in c.self.inside.size c.add.new.self ∙ wide_size _ _ _ c.self.view_is)
+    c.add.ensures.each
 
 pub returns-clause-added : goal.returns-clause-added
 returns-clause-added c =
-    (wide_with_letter _ c.self.inside.words _ _ _ _ c.self.view_is c.self.invariant c.requires c.deref_mut.ensures.value c.set_bit.auto.words c.deref_mut.ensures.len
-    c.set_bit.ensures.added c.set_bit.ensures.others).added.added
+    on_ok_weaker c.add.result
+    (added_here c.self.inside.size c.self.inside.members c.add.new.self c.args.self.now c.args.letter c.self.view_is c.self.invariant c.add.ensures.held)
+    c.add.ensures.each
 
 pub returns-clause-others : goal.returns-clause-others
 returns-clause-others c =
-    (wide_with_letter _ c.self.inside.words _ _ _ _ c.self.view_is c.self.invariant c.requires c.deref_mut.ensures.value c.set_bit.auto.words c.deref_mut.ensures.len
-    c.set_bit.ensures.added c.set_bit.ensures.others).added.others
+    on_ok_weaker c.add.result
+    (added_others c.self.inside.size c.self.inside.members c.add.new.self c.args.self.now c.args.letter c.self.view_is c.self.invariant c.add.ensures.held)
+    c.add.ensures.each

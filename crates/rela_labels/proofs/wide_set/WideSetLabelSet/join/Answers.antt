@@ -1,24 +1,14 @@
-use Rattle.std.proofs.Common.{◌||◌, refl, sym, ap, ◌∙◌, length}
-use Rattle.rela_labels.proofs.LettersOfWords.{wide_combined, wide_lengths}
+use Rattle.std.proofs.Common.{◌||◌, ◌∙◌}
+use Rattle.rela_labels.proofs.WideLetters.{wide_size, length-letters_in, held_other, wide_combined}
 use Rattle.rela_labels.proofs.wide_set.WideSetLabelSet.join.Goals as goal
 
-pub join_words-requires : goal.join_words-requires
-join_words-requires c =
-    ap length c.deref_mut.ensures.value
-    ∙ wide_lengths _ _ _ _ _ _ (c.set.view_is ∙ c.in_ok-set.ensures) c.other.view_is c.set.invariant c.other.invariant c.requires
-    ∙ sym (ap length c.deref.ensures.value)
-
-pub invariant_of-set : goal.invariant_of-set
-invariant_of-set c =
-    (wide_combined (◌||◌) refl _ _ c.set.inside.words _ _ _ _ _ _ (c.set.view_is ∙ c.in_ok-set.ensures) c.other.view_is c.set.invariant c.other.invariant c.requires
-    c.deref_mut.ensures.value c.deref.ensures.value c.join_words.auto.words c.deref_mut.ensures.len c.join_words.ensures).wide
+pub join-requires-clause-second : goal.join-requires-clause-second
+join-requires-clause-second c = held_other _ _ _ _ _ _ c.self.view_is c.other.view_is c.requires c.other.invariant
 
 pub returns-clause-size : goal.returns-clause-size
-returns-clause-size c =
-    (wide_combined (◌||◌) refl _ _ c.set.inside.words _ _ _ _ _ _ (c.set.view_is ∙ c.in_ok-set.ensures) c.other.view_is c.set.invariant c.other.invariant c.requires
-    c.deref_mut.ensures.value c.deref.ensures.value c.join_words.auto.words c.deref_mut.ensures.len c.join_words.ensures).combined.size_is
+returns-clause-size c = length-letters_in c.self.inside.size c.in_ok-members.members ∙ wide_size _ _ _ c.self.view_is
 
 pub returns-clause-either : goal.returns-clause-either
 returns-clause-either c =
-    (wide_combined (◌||◌) refl _ _ c.set.inside.words _ _ _ _ _ _ (c.set.view_is ∙ c.in_ok-set.ensures) c.other.view_is c.set.invariant c.other.invariant c.requires
-    c.deref_mut.ensures.value c.deref.ensures.value c.join_words.auto.words c.deref_mut.ensures.len c.join_words.ensures).combined.each_letter
+    wide_combined (◌||◌) c.self.inside.size c.other.inside.size c.self.inside.members c.other.inside.members c.in_ok-members.members _ _ c.self.view_is
+    c.other.view_is c.self.invariant c.other.invariant c.in_ok-members.ensures.held c.in_ok-members.ensures.either

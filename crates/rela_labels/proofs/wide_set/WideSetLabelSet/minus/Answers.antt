@@ -1,24 +1,14 @@
-use Rattle.std.proofs.Common.{◌&&◌, not, refl, sym, ap, ◌∙◌, length}
-use Rattle.rela_labels.proofs.LettersOfWords.{wide_combined, wide_lengths}
+use Rattle.std.proofs.Common.{◌&&◌, not, ◌∙◌}
+use Rattle.rela_labels.proofs.WideLetters.{wide_size, length-letters_in, held_other, wide_combined}
 use Rattle.rela_labels.proofs.wide_set.WideSetLabelSet.minus.Goals as goal
 
-pub minus_words-requires : goal.minus_words-requires
-minus_words-requires c =
-    ap length c.deref_mut.ensures.value
-    ∙ wide_lengths _ _ _ _ _ _ (c.set.view_is ∙ c.in_ok-set.ensures) c.other.view_is c.set.invariant c.other.invariant c.requires
-    ∙ sym (ap length c.deref.ensures.value)
-
-pub invariant_of-set : goal.invariant_of-set
-invariant_of-set c =
-    (wide_combined (λ v w. v && not w) refl _ _ c.set.inside.words _ _ _ _ _ _ (c.set.view_is ∙ c.in_ok-set.ensures) c.other.view_is c.set.invariant c.other.invariant c.requires
-    c.deref_mut.ensures.value c.deref.ensures.value c.minus_words.auto.words c.deref_mut.ensures.len c.minus_words.ensures).wide
+pub minus-requires-clause-second : goal.minus-requires-clause-second
+minus-requires-clause-second c = held_other _ _ _ _ _ _ c.self.view_is c.other.view_is c.requires c.other.invariant
 
 pub returns-clause-size : goal.returns-clause-size
-returns-clause-size c =
-    (wide_combined (λ v w. v && not w) refl _ _ c.set.inside.words _ _ _ _ _ _ (c.set.view_is ∙ c.in_ok-set.ensures) c.other.view_is c.set.invariant c.other.invariant c.requires
-    c.deref_mut.ensures.value c.deref.ensures.value c.minus_words.auto.words c.deref_mut.ensures.len c.minus_words.ensures).combined.size_is
+returns-clause-size c = length-letters_in c.self.inside.size c.in_ok-members.members ∙ wide_size _ _ _ c.self.view_is
 
 pub returns-clause-first_only : goal.returns-clause-first_only
 returns-clause-first_only c =
-    (wide_combined (λ v w. v && not w) refl _ _ c.set.inside.words _ _ _ _ _ _ (c.set.view_is ∙ c.in_ok-set.ensures) c.other.view_is c.set.invariant c.other.invariant c.requires
-    c.deref_mut.ensures.value c.deref.ensures.value c.minus_words.auto.words c.deref_mut.ensures.len c.minus_words.ensures).combined.each_letter
+    wide_combined (λ v w. v && not w) c.self.inside.size c.other.inside.size c.self.inside.members c.other.inside.members c.in_ok-members.members _ _ c.self.view_is
+    c.other.view_is c.self.invariant c.other.invariant c.in_ok-members.ensures.held c.in_ok-members.ensures.first_only

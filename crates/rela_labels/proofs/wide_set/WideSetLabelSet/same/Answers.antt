@@ -1,14 +1,12 @@
-use Rattle.std.proofs.Common.{◌∙◌, sym, ap, length}
-use Rattle.rela_labels.proofs.LettersOfWords.{same_sets, wide_lengths, lent_words}
+use Rattle.rela_labels.proofs.WideLetters.{held_sizes, held_other, wide_same}
 use Rattle.rela_labels.proofs.wide_set.WideSetLabelSet.same.Goals as goal
 
-pub same_words-requires : goal.same_words-requires
-same_words-requires c =
-    ap length c.deref.ensures.value
-    ∙ wide_lengths _ _ _ _ _ _ c.self.view_is c.other.view_is c.self.invariant c.other.invariant c.requires
-    ∙ sym (ap length c.deref-2.ensures.value)
+pub same-requires-clause-sizes : goal.same-requires-clause-sizes
+same-requires-clause-sizes c =
+    held_sizes c.self.inside.size c.self.inside.members c.other.inside.members c.self.invariant
+    (held_other _ _ _ _ _ _ c.self.view_is c.other.view_is c.requires c.other.invariant)
 
 pub returns : goal.returns
 returns c =
-    same_sets _ _ _ _ _ _ (lent_words _ _ _ _ c.self.view_is c.self.invariant.tidy c.deref.ensures.value)
-    (lent_words _ _ _ _ c.other.view_is c.other.invariant.tidy c.deref-2.ensures.value) c.requires c.same_words.result c.same_words.ensures
+    wide_same c.self.inside.size c.other.inside.size _ _ _ _ c.same.result c.self.view_is c.other.view_is c.self.invariant c.other.invariant c.requires
+    c.same.ensures

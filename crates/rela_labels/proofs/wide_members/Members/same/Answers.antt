@@ -1,0 +1,10 @@
+use Rattle.std.proofs.Common.{ap}
+use Rattle.rela_labels.specs.WideSets.{holds}
+use Rattle.rela_labels.proofs.WideLetters.{same_words_of}
+use Rattle.rela_labels.proofs.wide_members.Members.same.Goals as goal
+
+pub returns-in-Many-other : goal.returns-in-Many-other
+returns-in-Many-other c =
+    same_words_of c.args.self.now c.args.other.now c.in-Many.words.items c.in-Many-other.others.items _ _ c.same_words.result
+    (λ k. ap (λ m. holds m k) c.in-Many.is) (λ k. ap (λ m. holds m k) c.in-Many-other.is) c.deref.ensures.value c.deref-in-Many-other.ensures.value
+    c.same_words.ensures
