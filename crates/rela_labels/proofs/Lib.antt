@@ -1,4 +1,5 @@
 pub mod ApartBlocks
+pub mod ApartLeast
 pub mod AscendingLists
 pub mod BlocksInOrder
 pub mod KeysInOrder

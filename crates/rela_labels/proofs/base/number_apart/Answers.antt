@@ -1,5 +1,5 @@
 use Rattle.std.proofs.Common.{sym, ◌∙◌}
-use Rattle.rela_labels.proofs.ApartBlocks.{few_least, first_there, second_there, made_layers}
+use Rattle.rela_labels.proofs.ApartLeast.{few_least, first_there, second_there, made_layers}
 use Rattle.rela_labels.proofs.base.number_apart.Goals as goal
 
 pub places_in-requires-clause-few : goal.places_in-requires-clause-few

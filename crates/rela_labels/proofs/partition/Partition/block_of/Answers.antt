@@ -1,6 +1,6 @@
 use Rattle.std.proofs.Common.{◌<◌, length, get_or, arith, sym, ap, subst, ◌∙◌, vec_len}
 use Rattle.rela_labels.specs.declared.base.Base.{Base}
-use Rattle.rela_labels.proofs.ApartBlocks.{size_of_value, base_block, block_among, block_apart}
+use Rattle.rela_labels.proofs.ApartLeast.{size_of_value, base_block, block_among, block_apart}
 use Rattle.rela_labels.proofs.partition.Partition.block_of.Goals as goal
 
 pub index-requires-in-None : goal.index-requires-in-None

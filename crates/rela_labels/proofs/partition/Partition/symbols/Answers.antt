@@ -1,6 +1,6 @@
 use Rattle.std.proofs.Common.{sym, ap, ◌∙◌, vec_len}
 use Rattle.rela_labels.specs.declared.base.Base.{Base}
-use Rattle.rela_labels.proofs.ApartBlocks.{size_of_value}
+use Rattle.rela_labels.proofs.ApartLeast.{size_of_value}
 use Rattle.rela_labels.proofs.partition.Partition.symbols.Goals as goal
 
 pub returns : goal.returns

@@ -1,7 +1,7 @@
 use Rattle.std.proofs.Common.{◌<◌, length, sym, subst}
 use Rattle.std.specs.List.{All}
 use Rattle.rela_labels.specs.declared.base.Base.{Base}
-use Rattle.rela_labels.proofs.ApartBlocks.{all_within, alone_by_calls}
+use Rattle.rela_labels.proofs.ApartLeast.{all_within, alone_by_calls}
 use Rattle.rela_labels.proofs.partition.Partition.with_alone.Goals as goal
 
 pub number_apart-requires-clause-within : goal.number_apart-requires-clause-within
