@@ -160,3 +160,108 @@ fn numbers_classes_and_markers(rt: HostRuntime) -> Result<(), Fail> {
     assert!(rt; checks[0].at_most());
     Ok(())
 }
+
+/// A text inside this many brackets, each inside the one before.
+fn nested(
+    alloc: Global,
+    count: usize,
+    opening: &[u8],
+    inside: &[u8],
+    closing: &[u8],
+) -> Result<Vec<u8>, AllocError> {
+    let mut text = Vec::new(alloc);
+    for _ in 0..count {
+        text.extend_from_slice(opening)?;
+    }
+    text.extend_from_slice(inside)?;
+    for _ in 0..count {
+        text.extend_from_slice(closing)?;
+    }
+    Ok(text)
+}
+
+/// Says that the texts one behind the other have one check.
+fn has_a_check(
+    rt: &impl Abort,
+    alloc: Global,
+    locations: &Locations,
+    front: &[u8],
+    inside: &Vec<u8>,
+    back: &[u8],
+) -> Result<(), SpecError> {
+    let mut text = Vec::new(alloc);
+    text.extend_from_slice(front)?;
+    text.extend_from_slice(inside.as_slice())?;
+    text.extend_from_slice(back)?;
+    let checks = checks_of(rt, alloc, locations, text.as_slice())?;
+    assert_eq!(rt; checks.len(), 1);
+    Ok(())
+}
+
+// Each text has 100 brackets open at once, those of the unit and of what stands inside counted.
+#[test]
+fn expands_nested_paths(rt: HostRuntime) -> Result<(), Fail> {
+    let alloc = rt.alloc();
+    let locations = Locations::decode(alloc, NETWORK)?;
+    let zone = nested(alloc, 99, b"(", b".*", b")")?;
+    has_a_check(
+        &rt,
+        alloc,
+        &locations,
+        b"check c1 : { ",
+        &zone,
+        b" : preserve };",
+    )?;
+    let zone = nested(alloc, 97, b"!(", b"[interface(r1:0)]", b")*")?;
+    has_a_check(
+        &rt,
+        alloc,
+        &locations,
+        b"check c1 : { ",
+        &zone,
+        b" : preserve };",
+    )?;
+    let added = nested(alloc, 97, b"(", b".{2}", b"| r1:0)")?;
+    has_a_check(
+        &rt,
+        alloc,
+        &locations,
+        b"check c1 : { .* : add(",
+        &added,
+        b") };",
+    )?;
+    Ok(())
+}
+
+#[test]
+fn expands_nested_bodies(rt: HostRuntime) -> Result<(), Fail> {
+    let alloc = rt.alloc();
+    let locations = Locations::decode(alloc, NETWORK)?;
+    let body = nested(alloc, 99, b"(", b"{ .* : preserve }", b")")?;
+    has_a_check(&rt, alloc, &locations, b"check c1 : ", &body, b";")?;
+    let body = nested(
+        alloc,
+        99,
+        b"({ r1:0 : drop } else ",
+        b"{ .* : preserve }",
+        b")",
+    )?;
+    has_a_check(&rt, alloc, &locations, b"check c1 : ", &body, b";")?;
+    Ok(())
+}
+
+#[test]
+fn expands_nested_predicates(rt: HostRuntime) -> Result<(), Fail> {
+    let alloc = rt.alloc();
+    let locations = Locations::decode(alloc, NETWORK)?;
+    let when = nested(alloc, 100, b"not (", b"all", b")")?;
+    has_a_check(
+        &rt,
+        alloc,
+        &locations,
+        b"check c1 for ",
+        &when,
+        b" : { .* : preserve };",
+    )?;
+    Ok(())
+}
