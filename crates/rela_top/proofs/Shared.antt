@@ -1,5 +1,5 @@
 -- Flows by how they look, and the verdicts that they share.
-use Rattle.std.proofs.Common.{◌≡◌, ℕ, ◌<◌, ◌&&◌, cond, Bool, true, false, List, [], ◌∷◌, length, map, get_or, Option, Some, inl, inr, refl, sym, ap, subst, ◌∙◌, arith}
+use Rattle.std.proofs.Common.{◌≡◌, ℕ, ◌<◌, cond, Bool, true, List, [], ◌∷◌, length, map, get_or, Some, inl, inr, refl, sym, ap, subst, ◌∙◌, arith}
 use Rattle.std.specs.Prelude.{slice_get, IsSomeAnd, nat_eq}
 use Rattle.std.specs.HashMap.{HashMap, get}
 use Rattle.std.specs.List.{All}
@@ -13,13 +13,12 @@ use Rattle.rela_graph.proofs.Outlines.{outlines_decide}
 use Rattle.rela_graph.specs.Outline.{Outline, outline_of, same_outline}
 use Rattle.rela_names.specs.declared.level.Level.{Level}
 use Rattle.rela_report.specs.Text.{RowHasTexts}
-use Rattle.rela_report.specs.declared.rows.ReportRow.{ReportRow}
 use Rattle.rela_report.specs.declared.rows.ReportRow.TheVariants.{Checked}
 use Rattle.rela_report.specs.declared.rows.Row.{Row}
 use Rattle.rela_snapshot.specs.declared.pairing.FlowPair.{FlowPair}
 use Rattle.rela_top.proofs.RowLaws.{check_of, under_row}
 use Rattle.rela_top.proofs.SamePaths.{verdict_there}
-use Rattle.rela_top.specs.Rows.{IsRowOf, IsUnder}
+use Rattle.rela_top.specs.Rows.{IsRowOf}
 use Rattle.rela_top.specs.Sharing.{look_of, same_look, HasLook, AreNumbered, LooksAs, AreAlike, IsVerdict, IsVerdictOf, same_numbers, AreVerdicts}
 use Rattle.rela_translate.specs.Checked.{Checked as Check}
 
