@@ -33,11 +33,7 @@ pub(crate) fn finer_blocks(
 }
 
 /// Adds the location of each node.
-fn push_locations(
-    symbols: &mut Vec<Symbol>,
-    nodes: &[Node],
-    level: Level,
-) -> Result<(), AllocError>
+fn push_locations(symbols: &mut Vec<Symbol>, nodes: &[Node], level: Level) -> Result<(), AllocError>
     ensures { IfOk result (λ _. symbols.new.items ≡ symbols.old.items ++ map (symbol_at level) nodes.now) }
 {
     for node in nodes {

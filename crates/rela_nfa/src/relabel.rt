@@ -47,12 +47,7 @@ pub fn relabelled_set<L: LabelSet, M: LabelSet>(
 }
 
 /// Puts a letter that is lacking into the set, if it is to be in it.
-fn put<M: LabelSet>(
-    alloc: Global,
-    set: &mut M,
-    letter: u32,
-    is_in: bool,
-) -> Result<(), AllocError>
+fn put<M: LabelSet>(alloc: Global, set: &mut M, letter: u32, is_in: bool) -> Result<(), AllocError>
     requires below { letter < length (M.letters set.old) }
     requires lacking { has (M.letters set.old) letter ≡ false }
     ensures size { OnOk result (length (M.letters set.new) ≡ length (M.letters set.old)) }
