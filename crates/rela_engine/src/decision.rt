@@ -19,14 +19,14 @@ use rela_snapshot::FlowPair;
 use rela_translate::Check;
 use std::alloc::{AllocError, Global};
 
-/// The function at the narrowest sets of letters that hold so many blocks.
+/// The function at the narrowest sets of letters that hold so many blocks. Of more than 1,024 blocks they
+/// are wide: most labels of so large an automaton have one letter, which takes no words there.
 macro_rules! by_width {
     ($blocks:expr, $row:ident($($argument:expr),*)) => {
         match $blocks {
             0..=64 => $row::<BlockSet<1>>($($argument),*),
             65..=256 => $row::<BlockSet<4>>($($argument),*),
             257..=1024 => $row::<BlockSet<16>>($($argument),*),
-            1025..=4096 => $row::<BlockSet<64>>($($argument),*),
             _ => $row::<WideSet>($($argument),*),
         }
     };

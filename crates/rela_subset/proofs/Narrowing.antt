@@ -1,7 +1,9 @@
 -- Letters by which the same edges may be taken.
-use Rattle.std.proofs.Common.{◌≡◌, ℕ, ◌+◌, ◌<◌, ◌≤◌, ◌↔◌, Bool, true, List, [], ◌∷◌, ◌++◌, length, get_or, map, take, Some, refl, sym, ap, ◌∙◌, subst}
+use Rattle.std.proofs.Common.{◌≡◌, ℕ, ◌+◌, ◌<◌, ◌≤◌, ◌↔◌, ◌&&◌, Bool, true, List, [], ◌∷◌, ◌++◌, length, get_or, map, take, Some, refl, sym, ap, ◌∙◌, subst, arith}
 use Rattle.std.specs.List.{All}
-use Rattle.std.proofs.lemmas.List.{map_more, take_all, take_more}
+use Rattle.std.specs.Prelude.{Result, Ok, Err, IfOk}
+use Rattle.std.specs.Option.{option_map}
+use Rattle.std.proofs.lemmas.List.{length-map, get_or-map, map_more, take_all, take_more}
 use Rattle.std.proofs.lemmas.List.Elements.{All-contains, All-nil, All-pop, All-push}
 use Rattle.rela_labels.specs.Letters.{has}
 use Rattle.rela_nfa.specs.Automaton.{Automaton, Move, moves_of}
@@ -55,6 +57,37 @@ alike_more a set rest j i block block' taken below before same last k =
 
 pub alike_all : (a : Automaton) (set : List ℕ) (rest : List Bool) (j i : ℕ) (block : List Bool) → length set ≤ i → IsAlike a (take i set) rest j block → IsAlike a set rest j block
 alike_all a set rest j i block all is = subst (λ s. IsAlike a s rest j block) (take_all i set all) is
+
+-- letters that are alike among some of the rest are alike among all of it, where those are among the some
+pub alike_among : (a : Automaton) (set : List ℕ) (rest near block : List Bool) (j : ℕ) → ((k : ℕ) → has near k ≡ true → has rest k ≡ true)
+    → ((k : ℕ) → has rest k ≡ true → All (λ q. AreTakenAlike (moves_of a q) j k) set → has near k ≡ true) → IsAlike a set near j block → IsAlike a set rest j block
+alike_among a set rest near block j within reaches is k = (
+  λ h. let (first, all) = (is k).0 h in (within k first, all),
+  λ (first, all). (is k).1 (reaches k first all, all),
+)
+
+-- a letter that is taken as j is in a label that has j
+pub in_label : {L : Type 0} (letters : L → List Bool) (edges : List (Edge L)) (j k i : ℕ) (edge : Edge L) (label : L) → i < length edges → edge ≡ get_or edges i edge
+    → edge.label ≡ Some label → has (letters label) j ≡ true → AreTakenAlike (map (move_of letters) edges) j k → has (letters label) k ≡ true
+in_label letters edges j k i edge label below at is has_j alike =
+    let here : takes k (move_of letters edge) ≡ takes j (move_of letters edge) =
+    subst (λ m. takes k m ≡ takes j m) (get_or-map (move_of letters) edges i edge (move_of letters edge) below ∙ ap (move_of letters) (sym at))
+    (alike i (move_of letters edge) (omega (arith, below, length-map edges (move_of letters)))) in
+    let of : (n : ℕ) → takes n (move_of letters edge) ≡ has (letters label) n = λ n. ap (λ l. takes n (record { label = option_map letters l; to = edge.to })) is in
+    sym (of k) ∙ here ∙ of j ∙ has_j
+
+-- and so it is in what the rest has in common with the label
+pub in_common : (a : Automaton) (set : List ℕ) (rest label common : List Bool) (j i : ℕ) (taken : List Move) → i < length set → taken ≡ moves_of a (get_or set i 0)
+    → ((k : ℕ) → has common k ≡ (has rest k && has label k)) → ((k : ℕ) → AreTakenAlike taken j k → has label k ≡ true) → (k : ℕ) → has rest k ≡ true
+    → All (λ q. AreTakenAlike (moves_of a q) j k) set → has common k ≡ true
+in_common a set rest label common j i taken below same both labelled k in_rest all =
+    both k ∙ ap (λ b. b && has label k) in_rest ∙ labelled k (subst (λ ms. AreTakenAlike ms j k) (sym same) (all i 0 below))
+
+pub common_by_label : {X E : Type 0} (letters : X → List Bool) (a : Automaton) (set : List ℕ) (rest label : List Bool) (j i : ℕ) (taken : List Move) (r : Result X E) → i < length set
+    → taken ≡ moves_of a (get_or set i 0) → ((k : ℕ) → AreTakenAlike taken j k → has label k ≡ true) → IfOk r (λ common. (k : ℕ) → has (letters common) k ≡ (has rest k && has label k))
+    → IfOk r (λ common. (k : ℕ) → has rest k ≡ true → All (λ q. AreTakenAlike (moves_of a q) j k) set → has (letters common) k ≡ true)
+common_by_label letters a set rest label j i taken (Ok common) below same labelled both = in_common a set rest label (letters common) j i taken below same both labelled
+common_by_label letters a set rest label j i taken (Err e) below same labelled both = tt
 
 -- letters that are alike lead to the same states
 step_alike : (moves : List Move) (j k q : ℕ) → AreTakenAlike moves j k → StepIn moves (Some j) q → StepIn moves (Some k) q
