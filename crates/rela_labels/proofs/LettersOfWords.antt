@@ -103,12 +103,6 @@ wide_lengths m n a b x y x_is y_is a_wide b_wide sizes =
     let same : m ≡ n = m_is ∙ sizes ∙ sym n_is in
     a_wide.len ∙ ap (λ size. (size + 63) / 64) same ∙ sym b_wide.len
 
-pub few_words : (size : ℕ) (words lent : List ℕ) → IsWide size words → lent ≡ words → length lent ≤ 2 ^ 26
-few_words size words lent wide e =
-    let len : length lent ≡ (size + 63) / 64 = ap length e ∙ wide.len in
-    let fits = wide.fits in
-    omega arith
-
 -- what a search for the least 1 tells
 pub record IsLeastLetter (x : List Bool) (least : Option ℕ) : Type 0 where
   pub none : IfNone least ((k : ℕ) → has x k ≡ false)

@@ -6,6 +6,7 @@ pub mod KeysInOrder
 pub mod LettersOfWords
 pub mod Members
 pub mod MovedKeys
+pub mod OneWord
 pub mod ReachedSymbols
 pub mod WordBits
 pub mod WideLetters

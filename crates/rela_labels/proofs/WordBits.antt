@@ -5,7 +5,7 @@ use Rattle.std.proofs.lemmas.Grind.{same_number_lists}
 use Rattle.std.proofs.lemmas.List.{get_or_past, get_or-set_other, get_or-set_same}
 use Rattle.std.proofs.lemmas.Nat.Bits.{shr_and_one, bit_at-zero, bit_at_and, bit_at_or, bit_at_not, bit_at_set_same, bit_at_set_other, bit_at-trailing_zeros, bit_at-lt, same_from_bits_below}
 use Rattle.std.specs.Int.{bit_at, bit_not, trailing_zeros, w64}
-use Rattle.rela_labels.specs.Words.{bit_of}
+use Rattle.rela_labels.specs.Words.{bit_of, word_has}
 
 -- `(word >> (k % 64)) & 1 == 1`
 pub read_bit : (words : List ℕ) (k word : ℕ) → word ≡ get_or words (k / 64) 0 → (bit_and (word / 2 ^ (k % 64)) 1 == 1) ≡ bit_of words k
@@ -65,7 +65,7 @@ one_more_done op old other new i within h = record {
 
 -- what an operation on words does to each bit
 abbrev pub IsBitwise : (ℕ → ℕ → ℕ) → (Bool → Bool → Bool) → Type 0
-IsBitwise op each = (a b i : ℕ) → b < 2 ^ 64 → i < 64 → (bit_at (op a b) i == 1) ≡ each (bit_at a i == 1) (bit_at b i == 1)
+IsBitwise op each = (a b i : ℕ) → b < 2 ^ 64 → i < 64 → word_has (op a b) i ≡ each (word_has a i) (word_has b i)
 
 pub bits_done : (op : ℕ → ℕ → ℕ) (each : Bool → Bool → Bool) → IsBitwise op each → each false false ≡ false
     → (old other new : List ℕ) → length old ≡ length other → length new ≡ length old
@@ -108,18 +108,24 @@ max_is_or x y p q = two_cases (λ x y. (max x y == 1) ≡ ((x == 1) || (y == 1))
 min_is_minus : (x y : ℕ) → x < 2 → y < 2 → (min x (1 - y) == 1) ≡ ((x == 1) && not (y == 1))
 min_is_minus x y p q = two_cases (λ x y. (min x (1 - y) == 1) ≡ ((x == 1) && not (y == 1))) refl refl refl refl x y p q
 
+pub meet_bits : (a b i : ℕ) → word_has (bit_and a b) i ≡ (word_has a i && word_has b i)
+meet_bits a b i = rw (bit_at_and a b i) (min_is_and (bit_at a i) (bit_at b i) (bit_at-lt a i) (bit_at-lt b i))
+
 pub meet_bitwise : IsBitwise bit_and (◌&&◌)
-meet_bitwise a b i _ _ = rw (bit_at_and a b i) (min_is_and (bit_at a i) (bit_at b i) (bit_at-lt a i) (bit_at-lt b i))
+meet_bitwise a b i _ _ = meet_bits a b i
+
+pub join_bits : (a b i : ℕ) → word_has (bit_or a b) i ≡ (word_has a i || word_has b i)
+join_bits a b i = rw (bit_at_or a b i) (max_is_or (bit_at a i) (bit_at b i) (bit_at-lt a i) (bit_at-lt b i))
 
 pub join_bitwise : IsBitwise bit_or (◌||◌)
-join_bitwise a b i _ _ = rw (bit_at_or a b i) (max_is_or (bit_at a i) (bit_at b i) (bit_at-lt a i) (bit_at-lt b i))
+join_bitwise a b i _ _ = join_bits a b i
 
 pub minus_bitwise : IsBitwise (λ a b. bit_and a (bit_not w64 b)) (λ x y. x && not y)
 minus_bitwise a b i b_fits i_fits =
     rw (bit_at_and a (bit_not w64 b) i, bit_at_not w64 b i b_fits i_fits)
     (min_is_minus (bit_at a i) (bit_at b i) (bit_at-lt a i) (bit_at-lt b i))
 
-same_digit : (x y : ℕ) → x < 2 → y < 2 → (x == 1) ≡ (y == 1) → x ≡ y
+pub same_digit : (x y : ℕ) → x < 2 → y < 2 → (x == 1) ≡ (y == 1) → x ≡ y
 same_digit x y p q e =
     two_cases (λ x y. (x == 1) ≡ (y == 1) → x ≡ y) (λ e. refl) (λ e. cc) (λ e. cc) (λ e. refl) x y p q e
 

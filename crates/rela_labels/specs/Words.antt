@@ -3,6 +3,10 @@ use Rattle.std.specs.Prelude.{◌≡◌, ℕ, ◌+◌, ◌/◌, ◌%◌, ◌*◌
 use Rattle.std.specs.Int.{bit_at}
 use Rattle.std.specs.List.{range_with_len}
 
+-- whether the bit of the letter is 1 in one word
+abbrev pub word_has : ℕ → ℕ → Bool
+word_has word letter = bit_at word letter == 1
+
 -- whether the bit of the letter is 1; past the words none is
 unfoldable pub bit_of : List ℕ → ℕ → Bool
 bit_of words letter = bit_at (slice_index words (letter / 64)) (letter % 64) == 1

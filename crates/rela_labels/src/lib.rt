@@ -5,11 +5,13 @@ mod ascending;
 mod base;
 mod block_set;
 mod label_set;
+mod letters;
 mod numbering;
 mod partition;
 mod splitter;
 mod wide_members;
 mod wide_set;
+mod word;
 mod words;
 
 pub use block_set::BlockSet;

@@ -1,4 +1,4 @@
-//! The letters of a set of any size, in the form that takes the least memory.
+//! The letters of a set that are no single word, in the form that takes the least memory.
 ghost use Rattle.std.specs.Prelude.{◌≡◌, ◌≢◌, ℕ, ◌^◌, ◌<◌, ◌≤◌, ◌↔◌, ◌==◌, ◌&&◌, ◌||◌, true, false, not, IsTrue, length, IfOk, IfErr, OnOk, IfNone, IfSome};
 ghost use Rattle.rela_labels.specs.WideSets.{holds, AreFew, HaveOneSize, IsHeld};
 ghost use Rattle.rela_labels.specs.Words.{bit_of, IsWide};
@@ -162,6 +162,14 @@ impl Members {
         }
     }
 
+    /// Whether no letter is there.
+    pub(crate) fn is_empty(&self) -> bool
+        requires { AreFew self.now }
+        ensures { IsTrue result ↔ ((k : ℕ) → holds self.now k ≡ false) }
+    {
+        self.least().is_none()
+    }
+
     /// The least letter.
     pub(crate) fn least(&self) -> Option<u32>
         requires { AreFew self.now }
@@ -184,10 +192,10 @@ impl Members {
         ensures { IsTrue result ↔ ((k : ℕ) → holds self.now k ≡ holds other.now k) }
     {
         match self {
-            Members::Nothing => other.least().is_none(),
+            Members::Nothing => other.is_empty(),
             Members::One(letter) => other.is_only(*letter),
             Members::Many(words) => match other {
-                Members::Nothing => self.least().is_none(),
+                Members::Nothing => self.is_empty(),
                 Members::One(letter) => self.is_only(*letter),
                 Members::Many(others) => same_words(words, others),
             },

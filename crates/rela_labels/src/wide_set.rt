@@ -1,16 +1,17 @@
 ghost use Rattle.std.specs.Prelude.{◌≡◌, IfOk};
 
 use crate::label_set::LabelSet;
-use crate::wide_members::Members;
+use crate::letters::Letters;
 use std::alloc::{AllocError, Global};
 use std::marker::Model;
 
-/// A set of letters of any size. Where it has two letters or more, it may take a bit for each letter
-/// below its size, on the heap; one with fewer may take no memory there.
+/// A set of letters of any size. One whose size is at most 64 takes no memory on the heap; nor may
+/// one of a greater size that has one letter or none, and else it may take a bit there for each
+/// letter below its size.
 #[derive(Debug, Drop)]
 pub struct WideSet {
     size: u32,
-    members: Members,
+    letters: Letters,
 }
 
 impl Model for WideSet {
@@ -18,11 +19,11 @@ impl Model for WideSet {
 
     ghost Value = { List Bool };
 
-    ghost use Rattle.rela_labels.specs.WideSets.{letters_in, IsHeld};
+    ghost use Rattle.rela_labels.specs.WideSets.{letters_in, IsSized};
 
-    ghost view = { λ set. letters_in set.size set.members };
+    ghost view = { λ set. letters_in set.size set.letters };
 
-    ghost invariant = { λ set. IsHeld set.size set.members };
+    ghost invariant = { λ set. IsSized set.size set.letters };
 }
 
 impl LabelSet for WideSet {
@@ -37,7 +38,7 @@ impl LabelSet for WideSet {
     fn none(_alloc: Global, size: u32) -> Result<WideSet, AllocError> {
         Ok(WideSet {
             size,
-            members: Members::Nothing,
+            letters: Letters::none(size),
         })
     }
 
@@ -46,54 +47,54 @@ impl LabelSet for WideSet {
     }
 
     fn add(&mut self, alloc: Global, letter: u32) -> Result<(), AllocError> {
-        self.members.add(alloc, self.size, letter)
+        self.letters.add(alloc, self.size, letter)
     }
 
     fn contains(&self, letter: u32) -> bool {
-        self.members.contains(letter)
+        self.letters.contains(letter)
     }
 
     fn meet(&self, alloc: Global, other: &WideSet) -> Result<WideSet, AllocError> {
-        let members = self.members.meet(alloc, self.size, &other.members)?;
+        let letters = self.letters.meet(alloc, self.size, &other.letters)?;
         Ok(WideSet {
             size: self.size,
-            members,
+            letters,
         })
     }
 
     fn join(&self, alloc: Global, other: &WideSet) -> Result<WideSet, AllocError> {
-        let members = self.members.join(alloc, self.size, &other.members)?;
+        let letters = self.letters.join(alloc, self.size, &other.letters)?;
         Ok(WideSet {
             size: self.size,
-            members,
+            letters,
         })
     }
 
     fn minus(&self, alloc: Global, other: &WideSet) -> Result<WideSet, AllocError> {
-        let members = self.members.minus(alloc, self.size, &other.members)?;
+        let letters = self.letters.minus(alloc, self.size, &other.letters)?;
         Ok(WideSet {
             size: self.size,
-            members,
+            letters,
         })
     }
 
     fn is_empty(&self) -> bool {
-        self.members.least().is_none()
+        self.letters.is_empty()
     }
 
     fn least(&self) -> Option<u32> {
-        self.members.least()
+        self.letters.least()
     }
 
     fn same(&self, other: &WideSet) -> bool {
-        self.members.same(&other.members)
+        self.letters.same(&other.letters)
     }
 
     fn copy(&self, alloc: Global) -> Result<WideSet, AllocError> {
-        let members = self.members.copied(alloc, self.size)?;
+        let letters = self.letters.copied(alloc, self.size)?;
         Ok(WideSet {
             size: self.size,
-            members,
+            letters,
         })
     }
 }
