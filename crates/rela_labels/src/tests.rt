@@ -59,15 +59,29 @@ fn wide_sets(rt: HostRuntime) -> Result<(), Fail> {
     Ok(())
 }
 
-// Whether the operations on two wide sets of nine letters give these least letters.
+// Whether the operations on two wide sets give these least letters, as one word and as more.
 fn has_least(
     alloc: Global,
     first: &[u32],
     second: &[u32],
     expected: [Option<u32>; 3],
 ) -> Result<bool, AllocError> {
-    let first: WideSet = set_of(alloc, 9, first)?;
-    let second: WideSet = set_of(alloc, 9, second)?;
+    Ok(
+        has_least_below(alloc, 9, first, second, expected)?
+            && has_least_below(alloc, 90, first, second, expected)?,
+    )
+}
+
+// The same for two sets of this size.
+fn has_least_below(
+    alloc: Global,
+    size: u32,
+    first: &[u32],
+    second: &[u32],
+    expected: [Option<u32>; 3],
+) -> Result<bool, AllocError> {
+    let first: WideSet = set_of(alloc, size, first)?;
+    let second: WideSet = set_of(alloc, size, second)?;
     let meet = first.meet(alloc, &second)?.least();
     let join = first.join(alloc, &second)?.least();
     let minus = first.minus(alloc, &second)?.least();
@@ -97,12 +111,66 @@ fn wide_sets_of_one(rt: HostRuntime) -> Result<(), Fail> {
 #[test]
 fn wide_sets_of_one_letter_are_the_same(rt: HostRuntime) -> Result<(), Fail> {
     let alloc = rt.alloc();
-    let both: WideSet = set_of(alloc, 9, &[3, 4])?;
-    let one: WideSet = set_of(alloc, 9, &[4])?;
-    let other: WideSet = set_of(alloc, 9, &[3])?;
+    let both: WideSet = set_of(alloc, 90, &[3, 4])?;
+    let one: WideSet = set_of(alloc, 90, &[4])?;
+    let other: WideSet = set_of(alloc, 90, &[3])?;
     assert!(rt; both.minus(alloc, &other)?.same(&one));
     assert!(rt; one.copy(alloc)?.same(&both.minus(alloc, &other)?));
     assert!(rt; !both.same(&one));
+    Ok(())
+}
+
+// Whether the operations on two wide sets of this size, which share their last letter alone, give
+// what they should.
+fn share_the_last(alloc: Global, size: u32) -> Result<bool, AllocError>
+    requires { 2 < size }
+{
+    let last: WideSet = set_of(alloc, size, &[size - 1])?;
+    let first: WideSet = set_of(alloc, size, &[0, size - 1])?;
+    let second: WideSet = set_of(alloc, size, &[1, size - 1])?;
+    let join = first.join(alloc, &second)?;
+    let minus = first.minus(alloc, &second)?;
+    Ok(
+        first.meet(alloc, &second)?.same(&last)
+            && join.contains(0)
+            && join.contains(1)
+            && join.contains(size - 1)
+            && minus.contains(0)
+            && !minus.contains(size - 1),
+    )
+}
+
+// Whether a copy of a wide set of this size has its letters, and the set without them none.
+fn copies(alloc: Global, size: u32) -> Result<bool, AllocError>
+    requires { 2 < size }
+{
+    let set: WideSet = set_of(alloc, size, &[size - 1, size - 2])?;
+    let copy = set.copy(alloc)?;
+    Ok(
+        copy.same(&set)
+            && copy.least() == Some(size - 2)
+            && !copy.contains(size)
+            && !copy.is_empty()
+            && set.minus(alloc, &copy)?.is_empty()
+            && set.minus(alloc, &copy)?.least().is_none(),
+    )
+}
+
+#[test]
+fn wide_sets_of_a_word(rt: HostRuntime) -> Result<(), Fail> {
+    let alloc = rt.alloc();
+    assert!(rt; share_the_last(alloc, 64)?);
+    assert!(rt; copies(alloc, 64)?);
+    assert!(rt; share_the_last(alloc, 3)?);
+    assert!(rt; copies(alloc, 3)?);
+    Ok(())
+}
+
+#[test]
+fn wide_sets_of_more_than_a_word(rt: HostRuntime) -> Result<(), Fail> {
+    let alloc = rt.alloc();
+    assert!(rt; share_the_last(alloc, 65)?);
+    assert!(rt; copies(alloc, 65)?);
     Ok(())
 }
 
