@@ -1,6 +1,7 @@
 pub mod Ascending
 pub mod Blocks
 pub mod Bundling
+pub mod ByLetter
 pub mod Closing
 pub mod Determined
 pub mod Expanding
@@ -12,11 +13,13 @@ pub mod Growing
 pub mod LastLetters
 pub mod Marking
 pub mod Narrowing
+pub mod OutOfSets
 pub mod Placing
 pub mod Reached
 pub mod Searching
 pub mod SetsFound
 pub mod SetsSpread
+pub mod SortingOut
 pub mod Stamps
 pub mod Standing
 pub mod Targets

@@ -1,5 +1,6 @@
 pub mod Deterministic
 pub mod Expansion
+pub mod Outgoing
 pub mod Searching
 pub mod Sets
 pub mod Stored

@@ -1,4 +1,4 @@
-//! The states that edges by a letter lead to, and those that silent edges then lead to.
+//! The states that silent edges lead to.
 ghost use Rattle.std.specs.Prelude.{◌≡◌, ℕ, ◌<◌, ◌↔◌, [], ◌∷◌, IfOk, Contains, map};
 ghost use Rattle.std.specs.List.{All};
 ghost use Rattle.rela_nfa.specs.Automaton.{IsAutomaton, states};
@@ -6,7 +6,7 @@ ghost use Rattle.rela_nfa.specs.Reading.{takes as takes_by};
 ghost use Rattle.rela_nfa.specs.Runs.{StepIn};
 ghost use Rattle.rela_nfa.specs.StateSet.{Adds};
 ghost use Rattle.rela_nfa.specs.Stored.{move_of};
-ghost use Rattle.rela_subset.specs.Sets.{Lists, NextFrom, SilentlyFrom};
+ghost use Rattle.rela_subset.specs.Sets.{Lists, SilentlyFrom};
 
 use crate::visited::Visited;
 use rela_labels::LabelSet;
@@ -36,31 +36,8 @@ pub(crate) fn closure<L: LabelSet>(
     visited.sorted(alloc)
 }
 
-/// The states that follow those of the set by the letter, with those that silent edges then lead to,
-/// in ascending order. They are found as by `closure`.
-pub(crate) fn following<L: LabelSet>(
-    alloc: Global,
-    a: &Nfa<L>,
-    set: &[usize],
-    letter: u32,
-    visited: &mut Visited,
-) -> Result<Vec<usize>, AllocError>
-    requires automaton { IsAutomaton a.now }
-    requires states { All (λ q. q < states a.now) set.now }
-    requires count { visited.old.count ≡ states a.now }
-    ensures following { IfOk result (λ next. Lists (NextFrom a.now set.now letter) next.items) }
-    ensures count { visited.new.count ≡ visited.old.count }
-{
-    visited.clear();
-    for q in set {
-        insert_ends(visited, a.edges(*q), Some(letter))?;
-    }
-    close(a, visited)?;
-    visited.sorted(alloc)
-}
-
 /// Puts those states behind the others that silent edges lead to from them.
-fn close<L: LabelSet>(a: &Nfa<L>, visited: &mut Visited) -> Result<(), AllocError>
+pub(crate) fn close<L: LabelSet>(a: &Nfa<L>, visited: &mut Visited) -> Result<(), AllocError>
     requires automaton { IsAutomaton a.now }
     requires count { visited.old.count ≡ states a.now }
     ensures closed { IfOk result (λ _. (q : ℕ) → Contains visited.new.states q ↔ SilentlyFrom a.now visited.old.states q) }
@@ -70,31 +47,30 @@ fn close<L: LabelSet>(a: &Nfa<L>, visited: &mut Visited) -> Result<(), AllocErro
     let mut done = 0;
     while done < visited.states().len() {
         let q = visited.states()[done];
-        insert_ends(visited, a.edges(q), None)?;
+        insert_silent_ends(visited, a.edges(q))?;
         done += 1;
     }
     Ok(())
 }
 
-/// Puts the ends of the edges that may be taken by the letter, or of the silent ones where there is
-/// none, with the others.
-fn insert_ends<L: LabelSet>(
+/// Puts the ends of the silent edges with the others.
+fn insert_silent_ends<L: LabelSet>(
     visited: &mut Visited,
     edges: &[Edge<L>],
-    letter: Option<u32>,
 ) -> Result<(), AllocError>
     requires { All (λ edge. edge.to < visited.old.count) edges.now }
-    ensures adds { IfOk result (λ _. Adds (StepIn (map (move_of L.letters) edges.now) letter) visited.old.states visited.new.states) }
+    ensures adds { IfOk result (λ _. Adds (StepIn (map (move_of L.letters) edges.now) None) visited.old.states visited.new.states) }
     ensures count { visited.new.count ≡ visited.old.count }
 {
     for edge in edges {
-        insert_end(visited, edge, letter)?;
+        insert_end(visited, edge, None)?;
     }
     Ok(())
 }
 
-/// The same for one edge.
-fn insert_end<L: LabelSet>(
+/// Puts the end of the edge with the others, if it may be taken by the letter, or is silent where there is
+/// none.
+pub(crate) fn insert_end<L: LabelSet>(
     visited: &mut Visited,
     edge: &Edge<L>,
     letter: Option<u32>,

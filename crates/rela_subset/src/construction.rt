@@ -22,9 +22,10 @@ use std::alloc::{AllocError, Global};
 /// reach, the empty set among them if it is reached. It accepts the words over the letters that the
 /// given one accepts, and its states are numbered as words first arrive at them, in shortlex order.
 ///
-/// `Limit` where there are more than `limit` such sets, so that `usize::MAX` is no limit. For each set found, the letters are split
-/// by the labels of the edges out of its states: a block costs a set operation for each of these
-/// edges, and a walk through the states that follow.
+/// `Limit` where there are more than `limit` such sets, so that `usize::MAX` is no limit. For each
+/// set found, the edges out of its states are sorted once, and the letters are split by their labels: a
+/// block costs a few set operations, one more for each of these edges that has more than one letter,
+/// and a walk through the states that follow.
 pub fn determinise<L: LabelSet>(
     alloc: Global,
     a: &Nfa<L>,
@@ -81,8 +82,7 @@ fn explore<L: LabelSet>(
 {
     let mut edges = Vec::new(alloc);
     while edges.len() < sets.len() {
-        let set = Vec::from_slice(alloc, sets.get(edges.len()))?;
-        let out = expand(alloc, a, over, sets, &set, limit, visited)?;
+        let out = expand(alloc, a, over, sets, edges.len(), limit, visited)?;
         edges.push(out)?;
     }
     Ok(edges)

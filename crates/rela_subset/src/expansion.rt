@@ -1,50 +1,51 @@
 //! The edges out of a set of states.
-ghost use Rattle.std.specs.Prelude.{◌≡◌, ℕ, ◌+◌, ◌^◌, ◌<◌, ◌≤◌, List, Bool, true, false, IfOk, IfErr, length, map};
+ghost use Rattle.std.specs.Prelude.{◌≡◌, ℕ, ◌+◌, ◌^◌, ◌<◌, ◌≤◌, List, [], Bool, true, false, IfOk, IfErr, length, map, slice_index_or};
 ghost use Rattle.std.specs.List.{All};
 ghost use Rattle.rela_nfa.specs.Automaton.{IsAutomaton, states};
 ghost use Rattle.rela_nfa.specs.Stored.{move_of};
 ghost use Rattle.rela_subset.specs.Expansion.{HasGrown, IsExpandedOver};
 ghost use Rattle.rela_subset.specs.Sets.{AreDistinct};
 
-use crate::alike::alike;
 use crate::bundle::Bundle;
-use crate::closure::following;
+use crate::outgoing::Outgoing;
 use crate::state_sets::StateSets;
 use crate::visited::Visited;
 use rela_labels::LabelSet;
 use rela_nfa::{BuildError, Edge, Nfa};
 use std::alloc::Global;
 
-/// The edges out of the set, one for each set that follows it by a letter of `over`. Those sets are
-/// numbered. The letters are split by the labels of the edges out of the states of the set, and
-/// taken in blocks, that of the least letter first: a block costs a set operation for each of these
-/// edges.
+/// The edges out of the set of this number, one for each set that follows it by a letter of `over`.
+/// Those sets are numbered. The letters are split by the labels of the edges out of the states of the
+/// set, and taken in blocks, that of the least letter first: a block costs a set operation for each of
+/// these edges that has more than one letter.
 pub(crate) fn expand<L: LabelSet>(
     alloc: Global,
     a: &Nfa<L>,
     over: &L,
     sets: &mut StateSets,
-    set: &[usize],
+    number: usize,
     limit: usize,
     visited: &mut Visited,
 ) -> Result<Vec<Edge<L>>, BuildError>
     requires automaton { IsAutomaton a.now }
-    requires states { All (λ q. q < states a.now) set.now }
+    requires number { number < length sets.old }
+    requires states { All (λ q. q < states a.now) (slice_index_or sets.old number []) }
     requires letters { length (L.letters over.now) ≡ a.now.letters }
     requires few { length sets.old ≤ limit }
     requires count { visited.old.count ≡ states a.now }
-    ensures expanded { IfOk result (λ edges. IsExpandedOver a.now (L.letters over.now) set.now sets.old sets.new (map (move_of L.letters) edges.items)) }
+    ensures expanded { IfOk result (λ edges. IsExpandedOver a.now (L.letters over.now) (slice_index_or sets.old number []) sets.old sets.new (map (move_of L.letters) edges.items)) }
     ensures few { IfOk result (λ _. length sets.new ≤ limit) }
     ensures count { visited.new.count ≡ visited.old.count }
-    ensures limit { IfErr result (λ e. e ≡ BuildError.Limit → (length sets.new ≡ limit + 1) × AreDistinct sets.new × ((letters : List ℕ) × HasGrown a.now (L.letters over.now) set.now sets.old sets.new letters)) }
+    ensures limit { IfErr result (λ e. e ≡ BuildError.Limit → (length sets.new ≡ limit + 1) × AreDistinct sets.new × ((letters : List ℕ) × HasGrown a.now (L.letters over.now) (slice_index_or sets.old number []) sets.old sets.new letters)) }
     ensures bounded { IfErr result (λ e. e ≡ BuildError.Limit → limit < 2 ^ 63) }
 {
+    let outgoing = Outgoing::new(alloc, a, sets.get(number))?;
     let mut bundle = Bundle::new(alloc);
     let mut rest = over.copy(alloc)?;
     while let Some(letter) = rest.least() {
-        let block = alike(alloc, a, set, &rest, letter)?;
+        let block = outgoing.alike(alloc, &rest, letter)?;
         rest = rest.minus(alloc, &block)?;
-        let next = following(alloc, a, set, letter, visited)?;
+        let next = outgoing.following(alloc, letter, visited)?;
         let to = sets.number(next, limit)?;
         bundle.put(alloc, block, to)?;
     }

@@ -4,9 +4,8 @@ ghost use Rattle.std.specs.List.{All};
 ghost use Rattle.rela_nfa.specs.Automaton.{IsAutomaton, states};
 ghost use Rattle.rela_subset.specs.Searching.{HasArrived, IsSpreadUpTo, arrivals_from};
 
-use crate::alike::alike;
 use crate::arrival::Arrival;
-use crate::closure::following;
+use crate::outgoing::Outgoing;
 use crate::state_sets::StateSets;
 use crate::visited::Visited;
 use rela_labels::LabelSet;
@@ -37,15 +36,15 @@ pub(crate) fn spread<L: LabelSet>(
     ensures count { visited.new.count ≡ visited.old.count }
     ensures memory { IfErr result (λ e. e ≢ BuildError.Limit) }
 {
-    let set = Vec::from_slice(alloc, sets.get(number))?;
+    let outgoing = Outgoing::new(alloc, a, sets.get(number))?;
     let mut rest = over.copy(alloc)?;
     while let Some(letter) = rest.least() {
         if sets.len() > limit {
             return Ok(());
         }
-        let block = alike(alloc, a, &set, &rest, letter)?;
+        let block = outgoing.alike(alloc, &rest, letter)?;
         rest = rest.minus(alloc, &block)?;
-        let next = following(alloc, a, &set, letter, visited)?;
+        let next = outgoing.following(alloc, letter, visited)?;
         let arrival = Arrival {
             from: number,
             letter,

@@ -1,8 +1,6 @@
 use Rattle.std.proofs.Common.{◌≡◌, ◌<◌, [], get_or, length, map, ap, sym, subst, ◌∙◌, arith}
-use Rattle.std.specs.List.{All}
 use Rattle.std.proofs.lemmas.List.{length-map, map_push}
 use Rattle.std.proofs.lemmas.Result.{err_from_is_err_and}
-use Rattle.rela_nfa.specs.Automaton.{states}
 use Rattle.rela_nfa.specs.Stored.{move_of, moves_in}
 use Rattle.rela_subset.specs.Expansion.{HasGrown, IsExplored}
 use Rattle.rela_subset.proofs.Exploring.{explored_more, explored_within, reach_sets}
@@ -12,21 +10,20 @@ pub expand-requires-clause-states : goal.expand-requires-clause-states
 expand-requires-clause-states g c =
     let letters = g.L.LabelSet.letters in
     let i = c.len-in-loop-alloc-2.result in
-    subst (All (λ q. q < states c.args.a.now)) (sym (c.deref.ensures.value ∙ c.in_ok-set.ensures.items ∙ c.get.ensures))
-    (explored_within c.args.a.now (letters c.args.over.now) c.loop-alloc.sets (moves_in letters c.loop-alloc.edges.items) c.requires.automaton c.loop-alloc.invariant.explored i
-    (omega (arith, c.loop-alloc-test.true, c.len.ensures, c.len-in-loop-alloc.ensures.len, c.len-in-loop-alloc-2.ensures)))
+    explored_within c.args.a.now (letters c.args.over.now) c.loop-alloc.sets (moves_in letters c.loop-alloc.edges.items) c.requires.automaton c.loop-alloc.invariant.explored i
+    (omega (arith, c.loop-alloc-test.true, c.len.ensures, c.len-in-loop-alloc.ensures.len, c.len-in-loop-alloc-2.ensures))
 
 pub returns-in_err-out-clause-limit : goal.returns-in_err-out-clause-limit
 returns-in_err-out-clause-limit g c =
     let letters = g.L.LabelSet.letters in
     let edges = c.loop-alloc.edges.items in
-    let p = err_from_is_err_and c.from_residual-in_err-out.result c.from_residual-in_err-out.ensures.1 in
+    let p = err_from_is_err_and c.from_residual.result c.from_residual.ensures.1 in
     rw (p.1, p.2) (λ e.
     let limit = c.in_err-out.ensures.limit e in
     let len = length-map edges (λ v. map (move_of letters) v.items) in
     let n_is : c.len-in-loop-alloc-2.result ≡ length (moves_in letters edges) = omega (arith, c.len-in-loop-alloc-2.ensures, c.loop-alloc.edges.ok.0, len) in
     let left : length (moves_in letters edges) < length c.loop-alloc.sets = omega (arith, c.loop-alloc-test.true, c.len.ensures, c.len-in-loop-alloc.ensures.len, c.loop-alloc.edges.ok.0, len) in
-    let set_is = c.deref.ensures.value ∙ c.in_ok-set.ensures.items ∙ c.get.ensures ∙ ap (λ n. get_or c.loop-alloc.sets n []) n_is in
+    let set_is = ap (λ n. get_or c.loop-alloc.sets n []) n_is in
     reach_sets c.args.a.now (letters c.args.over.now) c.loop-alloc.sets (moves_in letters edges) c.loop-alloc.invariant.explored left c.expand.new.sets limit.2.0
     (subst (λ set. HasGrown c.args.a.now (letters c.args.over.now) set c.loop-alloc.sets c.expand.new.sets limit.2.0) set_is limit.2.1)
     _ limit.0 limit.1)
@@ -36,14 +33,15 @@ loop-alloc-preserved g c =
     let letters = g.L.LabelSet.letters in
     let edges = c.loop-alloc.edges.items in
     let len = length-map edges (λ v. map (move_of letters) v.items) in
+    let i = c.len-in-loop-alloc-2.result in
     let n_is : c.len-in-loop-alloc-2.result ≡ length (moves_in letters edges) = omega (arith, c.len-in-loop-alloc-2.ensures, c.loop-alloc.edges.ok.0, len) in
     let left : length (moves_in letters edges) < length c.loop-alloc.sets = omega (arith, c.loop-alloc-test.true, c.len.ensures, c.len-in-loop-alloc.ensures.len, c.loop-alloc.edges.ok.0, len) in
-    let set_is = c.deref.ensures.value ∙ c.in_ok-set.ensures.items ∙ c.get.ensures ∙ ap (λ n. get_or c.loop-alloc.sets n []) n_is in
+    let set_is = ap (λ n. get_or c.loop-alloc.sets n []) n_is in
     record {
       explored =
           subst (λ es. IsExplored c.args.a.now (letters c.args.over.now) c.expand.new.sets es)
           (sym (ap (moves_in letters) c.in_ok-push.ensures.items ∙ map_push (λ v. map (move_of letters) v.items) edges c.in_ok-out.out))
-          (explored_more c.args.a.now (letters c.args.over.now) c.loop-alloc.sets (moves_in letters edges) c.expand.new.sets c.deref.result.now (map (move_of letters) c.in_ok-out.out.items)
+          (explored_more c.args.a.now (letters c.args.over.now) c.loop-alloc.sets (moves_in letters edges) c.expand.new.sets (get_or c.loop-alloc.sets i []) (map (move_of letters) c.in_ok-out.out.items)
           c.loop-alloc.invariant.explored left set_is c.in_ok-out.ensures.expanded);
       count = c.in_ok-out.ensures.count ∙ c.loop-alloc.invariant.count;
       few = c.in_ok-out.ensures.few;

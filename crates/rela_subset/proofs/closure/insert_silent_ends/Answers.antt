@@ -1,11 +1,11 @@
-use Rattle.std.proofs.Common.{List, [], ◌∷◌, ◌++◌, map, take, sym, ap, ◌∙◌, subst}
+use Rattle.std.proofs.Common.{List, [], None, ◌∷◌, ◌++◌, map, take, sym, ap, ◌∙◌, subst}
 use Rattle.std.proofs.lemmas.List.{map_more, take_all}
 use Rattle.rela_nfa.specs.Automaton.{Move}
 use Rattle.rela_nfa.specs.Runs.{StepIn}
 use Rattle.rela_nfa.specs.StateSet.{Adds}
 use Rattle.rela_nfa.specs.Stored.{move_of}
 use Rattle.rela_nfa.proofs.Growing.{one_edge}
-use Rattle.rela_subset.proofs.closure.insert_ends.Goals as goal
+use Rattle.rela_subset.proofs.closure.insert_silent_ends.Goals as goal
 
 pub loop-edge-preserved : goal.loop-edge-preserved
 loop-edge-preserved g c =
@@ -17,13 +17,13 @@ loop-edge-preserved g c =
     record {
       count = c.in_ok-insert_end.ensures.count ∙ c.loop-edge.invariant.count;
       adds =
-          subst (λ (l : List Move). Adds (StepIn l c.args.letter) c.args.visited.now.states c.insert_end.new.visited.states)
+          subst (λ (l : List Move). Adds (StepIn l None) c.args.visited.now.states c.insert_end.new.visited.states)
           (sym (map_more move edges i edge c.loop-edge-test.true ∙ ap (λ e. so_far ++ move e ∷ []) (sym c.edge-item.is)))
-          (one_edge so_far (move edge) c.args.letter c.args.visited.now.states c.loop-edge.visited.states c.insert_end.new.visited.states c.loop-edge.invariant.adds
+          (one_edge so_far (move edge) None c.args.visited.now.states c.loop-edge.visited.states c.insert_end.new.visited.states c.loop-edge.invariant.adds
           c.in_ok-insert_end.ensures.adds);
     }
 
 pub returns-clause-adds : goal.returns-clause-adds
 returns-clause-adds g c =
-    subst (λ (l : List Move). Adds (StepIn l c.args.letter) c.args.visited.now.states c.loop-edge.visited.states)
+    subst (λ (l : List Move). Adds (StepIn l None) c.args.visited.now.states c.loop-edge.visited.states)
     (ap (map (move_of g.L.LabelSet.letters)) (take_all c.loop-edge.edge-index c.args.edges.now c.loop-edge-test.false)) c.loop-edge.invariant.adds

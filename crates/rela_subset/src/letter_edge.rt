@@ -1,0 +1,101 @@
+//! Edges by one letter alone.
+ghost use Rattle.std.specs.Prelude.{◌≡◌, ℕ, ◌<◌, ◌≤◌, ◌↔◌, true, IfOk, IfNone, IfSome, length};
+ghost use Rattle.std.specs.List.{All};
+ghost use Rattle.std.specs.List.Sorted.{IsNonDecreasingBy, IsPartitionPoint, IsPermutation};
+ghost use Rattle.rela_labels.specs.Letters.{has};
+ghost use Rattle.rela_subset.specs.Outgoing.{HasEnd, IsAlone};
+
+use rela_labels::LabelSet;
+use std::alloc::{AllocError, Global};
+
+/// An edge by one letter alone: the letter, and the state to which it leads.
+#[derive(Clone, Copy, Debug)]
+pub(crate) struct LetterEdge {
+    pub(crate) letter: u32,
+    pub(crate) to: usize,
+}
+
+/// The edges in ascending order of their letters.
+pub(crate) fn sorted_by_letter(edges: Vec<LetterEdge>) -> Vec<LetterEdge>
+    ensures same { IsPermutation edges.items result.items }
+    ensures rising { IsNonDecreasingBy (λ edge. edge.letter) result.items }
+{
+    let mut sorted = edges;
+    sorted.sort_unstable_by_key(|edge| edge.letter);
+    sorted
+}
+
+/// The letters of the edges.
+pub(crate) fn letters_of<L: LabelSet>(
+    alloc: Global,
+    size: u32,
+    edges: &[LetterEdge],
+) -> Result<L, AllocError>
+    requires fits { L.fits size }
+    requires below { All (λ edge. edge.letter < size) edges.now }
+    ensures size { IfOk result (λ set. length (L.letters set) ≡ size) }
+    ensures letters { IfOk result (λ set. (k : ℕ) → (has (L.letters set) k ≡ true) ↔ ((q : ℕ) × HasEnd edges.now k q)) }
+{
+    let mut set = L::none(alloc, size)?;
+    for edge in edges {
+        set.add(alloc, edge.letter)?;
+    }
+    Ok(set)
+}
+
+/// The edges by this letter, found by two binary searches.
+pub(crate) fn edges_by(edges: &[LetterEdge], letter: u32) -> &[LetterEdge]
+    requires { IsNonDecreasingBy (λ edge. edge.letter) edges.now }
+    ensures { (q : ℕ) → HasEnd edges.now letter q ↔ ((k : ℕ) × HasEnd result.now k q) }
+{
+    let from = place_of(edges, letter);
+    let to = place_after(edges, letter);
+    &edges[from..to]
+}
+
+/// How many of the edges have a lesser letter.
+fn place_of(edges: &[LetterEdge], letter: u32) -> usize
+    requires { IsNonDecreasingBy (λ edge. edge.letter) edges.now }
+    ensures parted { IsPartitionPoint (λ edge. edge.letter < letter) (λ edge. letter ≤ edge.letter) edges.now result }
+    ensures within { result ≤ length edges.now }
+{
+    edges.partition_point(|edge| edge.letter < letter)
+}
+
+/// How many of the edges have a lesser letter or this one.
+fn place_after(edges: &[LetterEdge], letter: u32) -> usize
+    requires { IsNonDecreasingBy (λ edge. edge.letter) edges.now }
+    ensures parted { IsPartitionPoint (λ edge. edge.letter ≤ letter) (λ edge. letter < edge.letter) edges.now result }
+    ensures within { result ≤ length edges.now }
+{
+    edges.partition_point(|edge| edge.letter <= letter)
+}
+
+/// The set of this letter alone.
+pub(crate) fn alone<L: LabelSet>(alloc: Global, size: u32, letter: u32) -> Result<L, AllocError>
+    requires fits { L.fits size }
+    requires below { letter < size }
+    ensures size { IfOk result (λ set. length (L.letters set) ≡ size) }
+    ensures alone { IfOk result (λ set. IsAlone (L.letters set) letter) }
+{
+    let mut set = L::none(alloc, size)?;
+    set.add(alloc, letter)?;
+    Ok(set)
+}
+
+/// The letter of the label, if it has just one.
+pub(crate) fn only_letter<L: LabelSet>(alloc: Global, label: &L) -> Result<Option<u32>, AllocError>
+    ensures only { IfOk result (λ only. IfSome only (λ letter. IsAlone (L.letters label.now) letter)) }
+    ensures below { IfOk result (λ only. IfSome only (λ letter. letter < length (L.letters label.now))) }
+    ensures more { IfOk result (λ only. IfNone only ((letter : ℕ) → ¬ IsAlone (L.letters label.now) letter)) }
+{
+    let Some(least) = label.least() else {
+        return Ok(None);
+    };
+    let single: L = alone(alloc, label.size(), least)?;
+    if label.same(&single) {
+        Ok(Some(least))
+    } else {
+        Ok(None)
+    }
+}

@@ -1,0 +1,184 @@
+//! The edges out of a set of states, sorted out once for all letters.
+ghost use Rattle.std.specs.Prelude.{◌≡◌, ℕ, ◌<◌, ◌++◌, ◌∷◌, List, [], true, IfOk, Some, length, map};
+ghost use Rattle.std.specs.List.{All};
+ghost use Rattle.rela_labels.specs.Letters.{has};
+ghost use Rattle.rela_nfa.specs.Automaton.{IsAutomaton, Move, states};
+ghost use Rattle.rela_nfa.specs.Runs.{StepIn};
+ghost use Rattle.rela_nfa.specs.StateSet.{Adds};
+ghost use Rattle.rela_nfa.specs.Stored.{move_of};
+ghost use Rattle.rela_subset.specs.Expansion.{IsAlike};
+ghost use Rattle.rela_subset.specs.Outgoing.{AreSortedOut, HasEnd, moves_from};
+ghost use Rattle.rela_subset.specs.Sets.{Lists, NextFrom};
+
+use crate::alike::{narrowed, near};
+use crate::closure::{close, insert_end};
+use crate::letter_edge::{LetterEdge, alone, edges_by, letters_of, only_letter, sorted_by_letter};
+use crate::visited::Visited;
+use rela_labels::LabelSet;
+use rela_nfa::{Edge, Nfa};
+use std::alloc::{AllocError, Global};
+use std::marker::Model;
+
+/// The edges of an automaton out of a set of its states, but for the silent ones. Those by one letter
+/// alone are most, and stand apart: they are no work for another letter. Contracts see the automaton,
+/// and the two lists of edges.
+#[derive(Drop)]
+pub(crate) struct Outgoing<'a, L: LabelSet> {
+    a: &'a Nfa<L>,
+    // the edges by one letter, in ascending order of it
+    singles: Vec<LetterEdge>,
+    // the letters that these have
+    letters: L,
+    others: Vec<&'a Edge<L>>,
+}
+
+impl<'a, L: LabelSet> Model for Outgoing<'a, L> {
+    ghost use Rattle.std.specs.Prelude.{map};
+    ghost use Rattle.rela_nfa.specs.Stored.{move_of};
+    ghost use Rattle.rela_subset.specs.Outgoing.{AreHeld, Sorted};
+
+    ghost Value = { Sorted };
+
+    ghost view = { λ out. record {
+      automaton = out.a.now;
+      singles = out.singles.items;
+      others = map (λ edge. move_of L.letters edge.now) out.others.items;
+    } };
+
+    ghost invariant = { λ out. AreHeld out.a.now (L.letters out.letters) out.singles.items (map (λ edge. move_of L.letters edge.now) out.others.items) };
+}
+
+impl<'a, L: LabelSet> Outgoing<'a, L> {
+    /// The edges out of the states of the set. It takes the time of a sort.
+    pub(crate) fn new(
+        alloc: Global,
+        a: &'a Nfa<L>,
+        set: &[usize],
+    ) -> Result<Outgoing<'a, L>, AllocError>
+        requires automaton { IsAutomaton a.now }
+        requires states { All (λ q. q < states a.now) set.now }
+        ensures automaton { IfOk result (λ out. out.automaton ≡ a.now) }
+        ensures sorted { IfOk result (λ out. AreSortedOut (moves_from a.now set.now) out.singles out.others) }
+    {
+        let mut singles = Vec::new(alloc);
+        let mut others = Vec::new(alloc);
+        for q in set {
+            sort_out(alloc, a.edges(*q), &mut singles, &mut others)?;
+        }
+        let singles = sorted_by_letter(singles);
+        let letters = letters_of(alloc, a.letters(), &singles)?;
+        Ok(Outgoing {
+            a,
+            singles,
+            letters,
+            others,
+        })
+    }
+
+    /// The letters of the rest by which the same edges may be taken as by this letter of it. It looks
+    /// at each edge by more than one letter.
+    pub(crate) fn alike(&self, alloc: Global, rest: &L, letter: u32) -> Result<L, AllocError>
+        requires letters { length (L.letters rest.now) ≡ self.now.automaton.letters }
+        requires among { has (L.letters rest.now) letter ≡ true }
+        ensures size { IfOk result (λ block. length (L.letters block) ≡ length (L.letters rest.now)) }
+        ensures alike { IfOk result (λ block. (set : List ℕ) → AreSortedOut (moves_from self.now.automaton set) self.now.singles self.now.others
+            → IsAlike self.now.automaton set (L.letters rest.now) letter (L.letters block)) }
+    {
+        if self.letters.contains(letter) {
+            return alone(alloc, rest.size(), letter);
+        }
+        let near = near(alloc, &self.others, rest, letter)?;
+        let block = narrowed(alloc, near, &self.others, letter)?;
+        if self.singles.is_empty() {
+            return Ok(block);
+        }
+        block.minus(alloc, &self.letters)
+    }
+
+    /// The states that follow by the letter, with those that silent edges then lead to, in ascending
+    /// order. It looks at the edges by this letter, and at each edge by more than one.
+    pub(crate) fn following(
+        &self,
+        alloc: Global,
+        letter: u32,
+        visited: &mut Visited,
+    ) -> Result<Vec<usize>, AllocError>
+        requires count { visited.old.count ≡ states self.now.automaton }
+        ensures following { IfOk result (λ next. (set : List ℕ) → AreSortedOut (moves_from self.now.automaton set) self.now.singles self.now.others
+            → Lists (NextFrom self.now.automaton set letter) next.items) }
+        ensures count { visited.new.count ≡ visited.old.count }
+    {
+        visited.clear();
+        insert_singles(visited, edges_by(&self.singles, letter))?;
+        insert_others(visited, &self.others, letter)?;
+        close(self.a, visited)?;
+        visited.sorted(alloc)
+    }
+}
+
+/// Puts the edges, but for the silent ones, behind those by one letter and behind the others.
+fn sort_out<'a, L: LabelSet>(
+    alloc: Global,
+    edges: &'a [Edge<L>],
+    singles: &mut Vec<LetterEdge>,
+    others: &mut Vec<&'a Edge<L>>,
+) -> Result<(), AllocError>
+    ensures { IfOk result (λ _. (moves : List Move) → AreSortedOut moves singles.old.items (map (λ edge. move_of L.letters edge.now) others.old.items)
+        → AreSortedOut (moves ++ map (move_of L.letters) edges.now) singles.new.items (map (λ edge. move_of L.letters edge.now) others.new.items)) }
+{
+    for edge in edges {
+        sort_out_one(alloc, edge, singles, others)?;
+    }
+    Ok(())
+}
+
+/// The same for one edge.
+fn sort_out_one<'a, L: LabelSet>(
+    alloc: Global,
+    edge: &'a Edge<L>,
+    singles: &mut Vec<LetterEdge>,
+    others: &mut Vec<&'a Edge<L>>,
+) -> Result<(), AllocError>
+    ensures { IfOk result (λ _. (moves : List Move) → AreSortedOut moves singles.old.items (map (λ edge. move_of L.letters edge.now) others.old.items)
+        → AreSortedOut (moves ++ move_of L.letters edge.now ∷ []) singles.new.items (map (λ edge. move_of L.letters edge.now) others.new.items)) }
+{
+    let Some(label) = &edge.label else {
+        return Ok(());
+    };
+    match only_letter(alloc, label)? {
+        Some(letter) => singles.push(LetterEdge {
+            letter,
+            to: edge.to,
+        })?,
+        None => others.push(edge)?,
+    }
+    Ok(())
+}
+
+/// Puts the ends of the edges with the others.
+fn insert_singles(visited: &mut Visited, edges: &[LetterEdge]) -> Result<(), AllocError>
+    requires { All (λ edge. edge.to < visited.old.count) edges.now }
+    ensures adds { IfOk result (λ _. Adds (λ q. (k : ℕ) × HasEnd edges.now k q) visited.old.states visited.new.states) }
+    ensures count { visited.new.count ≡ visited.old.count }
+{
+    for edge in edges {
+        visited.insert(edge.to)?;
+    }
+    Ok(())
+}
+
+/// Puts the ends of those edges that may be taken by the letter with the others.
+fn insert_others<L: LabelSet>(
+    visited: &mut Visited,
+    edges: &[&Edge<L>],
+    letter: u32,
+) -> Result<(), AllocError>
+    requires { All (λ edge. edge.now.to < visited.old.count) edges.now }
+    ensures adds { IfOk result (λ _. Adds (StepIn (map (λ edge. move_of L.letters edge.now) edges.now) (Some letter)) visited.old.states visited.new.states) }
+    ensures count { visited.new.count ≡ visited.old.count }
+{
+    for edge in edges {
+        insert_end(visited, edge, Some(letter))?;
+    }
+    Ok(())
+}
