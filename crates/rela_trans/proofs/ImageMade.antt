@@ -20,13 +20,13 @@ use Rattle.rela_trans.proofs.NumberedMoves.{next_lead}
 use Rattle.rela_trans.proofs.WrittenWords.{written_states, written_ok, written_reached, written_language}
 
 module _ (a : Automaton) (t : Machine) (ok : IsAutomaton a) where
-  source_lifted : IsLifted Both a (source_of a)
+  pub source_lifted : IsLifted Both a (source_of a)
   source_lifted = record { letters = refl; start = refl; finals = refl; moves = refl }
 
   source_ok : IsMachine (source_of a)
   source_ok = lifted_ok Both a (source_of a) ok source_lifted
 
-  source_reached : (read : ℕ → ℕ) (q : ℕ) (u v : List ℕ) → ReachR read (source_of a) q u v ↔ (Reach a q (map read u) × (v ≡ u))
+  pub source_reached : (read : ℕ → ℕ) (q : ℕ) (u v : List ℕ) → ReachR read (source_of a) q u v ↔ (Reach a q (map read u) × (v ≡ u))
   source_reached read q u v = lifted_reach Both a (source_of a) ok source_lifted read q u v
 
   source_relation : (read : ℕ → ℕ) (u v : List ℕ) → Relates read (source_of a) u v ↔ (Accepts a (map read u) × (v ≡ u))

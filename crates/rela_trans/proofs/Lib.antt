@@ -9,6 +9,10 @@ pub mod Stars
 pub mod Lifted
 pub mod Turned
 pub mod Relabelled
+pub mod Following
+pub mod Kept
+pub mod Marked
+pub mod Singles
 pub mod KindsTogether
 pub mod JointSteps
 pub mod NumberedMoves

@@ -20,7 +20,7 @@ pub record IsRelabelled (parents : List ℕ) (t r : Machine) : Type 0 where
   pub finals : r.finals ≡ t.finals
   pub moves : r.moves ≡ map (map (relabelled_move parents)) t.moves
 
-relabelled_sized : (parents : List ℕ) (kind : Kind) → IsSized (length parents) (relabelled_kind parents kind)
+pub relabelled_sized : (parents : List ℕ) (kind : Kind) → IsSized (length parents) (relabelled_kind parents kind)
 relabelled_sized parents Silent = tt
 relabelled_sized parents (In set) = length-map parents (has set)
 relabelled_sized parents (Out set) = length-map parents (has set)

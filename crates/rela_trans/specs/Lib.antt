@@ -3,6 +3,7 @@ pub mod Construction
 pub mod ImageMoves
 pub mod Images
 pub mod Machine
+pub mod Reached
 pub mod Relabelling
 pub mod Relations
 pub mod Runs

@@ -11,7 +11,9 @@ mod joint;
 mod laws;
 mod moves;
 mod operations;
+mod reading_finer;
 mod relabel;
+mod relabel_reached;
 mod tapes;
 mod transducer;
 

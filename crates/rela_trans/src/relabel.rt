@@ -32,7 +32,7 @@ fn relabelled_kind<L: LabelSet, M: LabelSet>(
 }
 
 /// Each of the moves by the letters that lie in its set.
-fn relabelled_moves<L: LabelSet, M: LabelSet>(
+pub(crate) fn relabelled_moves<L: LabelSet, M: LabelSet>(
     alloc: Global,
     moves: &[Move<L>],
     parents: &[u32],

@@ -89,3 +89,27 @@ fn letters_in_the_middle(rt: HostRuntime) -> Result<(), Fail> {
     assert!(rt; refused.is_err_and(|e| e == BuildError::Limit));
     Ok(())
 }
+
+/// Whether some move leaves the state.
+fn leads_on(table: &Table, q: usize) -> bool {
+    q < table.states() && !table.moves(q).is_empty()
+}
+
+#[test]
+fn states_that_are_read(rt: HostRuntime) -> Result<(), Fail> {
+    let alloc = rt.alloc();
+    let coarse = Partition::new(alloc, 3)?;
+    let fine = Partition::finest(alloc, 3)?;
+    let any = letter(alloc, 1, 0)?;
+    // It reads a letter by the states 0 and 1, and then writes one by the states 2 and 3.
+    let table: Table = Transducer::product(alloc, &any, &any)?;
+    let one: Table = table.relabel_reached(alloc, &letter(alloc, 3, 1)?, &coarse, &fine)?;
+    assert_eq!(rt; one.states(), 4);
+    assert!(rt; leads_on(&one, 2));
+    assert!(rt; one.relates(alloc, &[1], &[2])?);
+    let none: Table = table.relabel_reached(alloc, &Nfa::empty_word(alloc, 3)?, &coarse, &fine)?;
+    assert_eq!(rt; none.states(), 4);
+    assert!(rt; leads_on(&none, 0));
+    assert!(rt; !leads_on(&none, 2));
+    Ok(())
+}

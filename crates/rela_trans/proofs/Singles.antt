@@ -1,0 +1,75 @@
+-- A set of letters that has one alone.
+use Rattle.std.proofs.Common.{◌≡◌, ◌≢◌, ℕ, zero, suc, Bool, true, false, if◌then◌else◌, List, [], ◌∷◌, length, Option, None, Some, ◌⊎◌, inl, inr, refl, sym, ap, ◌∙◌, subst, arith}
+use Rattle.std.specs.List.{list_any}
+use Rattle.std.specs.Option.{option_map}
+use Rattle.std.proofs.lemmas.Bool.{cases_Bool, cases_eq, false≢true, false_from_ne_true}
+use Rattle.std.proofs.lemmas.List.{ext_get_or}
+use Rattle.std.proofs.lemmas.Option.{same_Some}
+use Rattle.rela_labels.specs.Letters.{has}
+use Rattle.rela_nfa.proofs.Joint.{any_letter, none_in}
+use Rattle.rela_trans.specs.Reached.{only_letter}
+
+-- k is the one letter of the set
+pub record IsOnly (set : List Bool) (k : ℕ) : Type 0 where
+  pub among : has set k ≡ true
+  pub others : (j : ℕ) → j ≢ k → has set j ≡ false
+
+after_none : (o : Option ℕ) (m : ℕ) → option_map suc o ≡ Some m → (k : ℕ) × (o ≡ Some k) × (suc k ≡ m)
+after_none None m e = absurd (cc)
+after_none (Some k) m e = (k, refl, same_Some (suc k) m e)
+
+pub only_is : (set : List Bool) (m : ℕ) → only_letter set ≡ Some m → IsOnly set m
+only_is [] m e = absurd (cc)
+only_is (true ∷ rest) m e = elim (cases_Bool (list_any (λ b. b) rest)) [
+  | inl some ↦ let bad : None ≡ Some m = ap (λ b. if b then None else Some 0) (sym some) ∙ e in absurd (cc)
+  | inr none ↦
+      let first : 0 ≡ m = same_Some 0 m (ap (λ b. if b then None else Some 0) (sym none) ∙ e) in
+      subst (IsOnly (true ∷ rest)) first (record { among = refl; others = λ j other. later j other none })
+]
+  where
+    later : (j : ℕ) → j ≢ 0 → list_any (λ b. b) rest ≡ false → has (true ∷ rest) j ≡ false
+    later zero other none = absurd (other refl)
+    later (suc j) other none = false_from_ne_true (has rest j) (λ among. false≢true (sym none ∙ any_letter rest j among))
+only_is (false ∷ rest) m e =
+    let found = after_none (only_letter rest) m e in
+    let one = only_is rest found.0 found.1 in
+    subst (IsOnly (false ∷ rest)) found.2 (record { among = one.among; others = λ j other. later j found.0 one other })
+  where
+    later : (j k : ℕ) → IsOnly rest k → j ≢ suc k → has (false ∷ rest) j ≡ false
+    later zero k one other = refl
+    later (suc j) k one other = one.others j (λ same. other (ap suc same))
+
+pub is_only : (set : List Bool) (k : ℕ) → IsOnly set k → only_letter set ≡ Some k
+is_only [] k one = absurd (false≢true one.among)
+is_only (true ∷ rest) zero one = ap (λ b. if b then None else Some 0) (none_in rest (λ j. one.others (suc j) (λ same. absurd (omega (arith, same)))))
+is_only (true ∷ rest) (suc k) one = absurd (false≢true (sym (one.others 0 (λ same. absurd (omega (arith, same))))))
+is_only (false ∷ rest) zero one = absurd (false≢true one.among)
+is_only (false ∷ rest) (suc k) one = ap (option_map suc) (is_only rest k (record { among = one.among; others = λ j other. one.others (suc j) (λ same. other (omega (arith, same))) }))
+
+none_or : (o : Option ℕ) → ((m : ℕ) → o ≡ Some m → ⊥) → o ≡ None
+none_or None never = refl
+none_or (Some m) never = absurd (never m refl)
+
+-- no letter is the one letter of an empty set
+pub only_of_none : (set : List Bool) → ((k : ℕ) → has set k ≡ false) → only_letter set ≡ None
+only_of_none set none = none_or (only_letter set) (λ m e. false≢true (sym (none m) ∙ (only_is set m e).among))
+
+-- nor of a set that has a letter and isn't that letter's
+pub only_of_more : (set alone : List Bool) (k : ℕ) → length set ≡ length alone → has set k ≡ true → IsOnly alone k → (set ≡ alone → ⊥) → only_letter set ≡ None
+only_of_more set alone k size among one more =
+    none_or (only_letter set) (λ m e. more (ext_get_or false set alone size (λ j below. same m (only_is set m e) j (cases_eq j k))))
+  where
+    same : (m : ℕ) → IsOnly set m → (j : ℕ) → (j ≡ k) ⊎ (j ≡ k → ⊥) → has set j ≡ has alone j
+    same m is j which = elim which [
+      | inl here ↦ ap (has set) here ∙ among ∙ sym one.among ∙ sym (ap (has alone) here)
+      | inr other ↦
+          false_from_ne_true (has set j) (λ there.
+          elim (cases_eq j m) [
+            | inl first ↦ elim (cases_eq k m) [
+              | inl second ↦ other (first ∙ sym second)
+              | inr apart ↦ false≢true (sym (is.others k apart) ∙ among)
+            ]
+            | inr apart ↦ false≢true (sym (is.others j apart) ∙ there)
+          ])
+          ∙ sym (one.others j other)
+    ]
