@@ -42,7 +42,7 @@ fn letters_below<L: LabelSet>(alloc: Global, size: u32, end: u32) -> Result<L, A
 {
     let mut set = L::none(alloc, size)?;
     for letter in 0..end {
-        set.add(letter);
+        set.add(alloc, letter)?;
     }
     Ok(set)
 }
