@@ -64,10 +64,14 @@ members_itself at network alphabet name r once alphabet_is told known =
     ∙ sym (own_members at network name once (sym (ap (λ names. has_name names name) alphabet_is) ∙ there)))
     told known
 
+pub name_known : (at : Level) (network : Network) (alphabet : List (List ℕ)) (name : List ℕ) → alphabet ≡ alphabet_of at network
+    → has_name alphabet name ≡ has_name (names_at at network) name
+name_known at network alphabet name alphabet_is = ap (λ names. has_name names name) alphabet_is ∙ has_name-ascending (names_at at network) name
+
 pub unknown_told : (at : Level) (network : Network) (alphabet : List (List ℕ)) (name : List ℕ) (r : Result (Vec ℕ Global) MemberError) → alphabet ≡ alphabet_of at network
     → IsErrOf r Unknown ↔ (has_name alphabet name ≡ false) → IsErrOf r Unknown ↔ ((false ≡ false) × (has_name (names_at at network) name ≡ false))
 unknown_told at network alphabet name r alphabet_is told =
-    let same : has_name alphabet name ≡ has_name (names_at at network) name = ap (λ names. has_name names name) alphabet_is ∙ has_name-ascending (names_at at network) name in
+    let same = name_known at network alphabet name alphabet_is in
     (λ e. (refl, sym same ∙ told.0 e), λ h. told.1 (same ∙ h.1))
 
 module _ (network : Network) (tagged : BTreeMap (List ℕ) (Vec ℕ Global)) (are : AreTagged (alphabet_of level.Device network) (devices_in network) tagged) (tag : List ℕ) where

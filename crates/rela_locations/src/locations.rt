@@ -1,10 +1,10 @@
 //! The locations of a network, and what is asked of them.
 
-ghost use Rattle.std.specs.Prelude.{◌≡◌, ◌≢◌, ◌<◌, ◌≤◌, Ok, Err, IfOk, IfErr, IsErrOf, IsTrue, false, length, ◌↔◌};
+ghost use Rattle.std.specs.Prelude.{◌≡◌, ◌≢◌, ◌<◌, ◌≤◌, Ok, Err, IfOk, IfErr, OnOk, IsErrOf, IsTrue, true, false, length, ◌↔◌};
 
 use crate::alphabets::Alphabets;
-use crate::lookup::{devices_with, inside, interfaces_with, itself};
-use crate::members::{By, MemberError};
+use crate::lookup::{devices_with, has, inside, interfaces_with, itself};
+use crate::members::{By, MemberError, is_finer};
 use crate::network::GroupEntry;
 use crate::tables::Tables;
 use crate::walk::read_network;
@@ -126,6 +126,40 @@ impl Locations {
             By::Device => self.in_device(alloc, level, name),
             By::Group => self.in_group(alloc, level, name),
             By::Tag => self.in_tagged(alloc, level, name),
+        }
+    }
+
+    /// Sees that a name picks locations of a level, by a binary search alone: where it does, `members`
+    /// lists them, and where it does not, `members` refuses for the same reason.
+    ///
+    /// # Errors
+    ///
+    /// `Finer` where what the name picks is finer than the level, a tag counting as a device; else
+    /// `Unknown` where no such location is there, or no device carries the tag. Never `Memory`.
+    pub fn find(&self, level: Level, by: By, name: &Name) -> Result<(), MemberError>
+        ensures known { OnOk result ((is_finer by level ≡ false) × (has_name (names_by by self.now) name.now ≡ true)) }
+        ensures finer { IsErrOf result MemberError.Finer ↔ IsTrue (is_finer by level) }
+        ensures unknown { IsErrOf result MemberError.Unknown ↔ ((is_finer by level ≡ false) × (has_name (names_by by self.now) name.now ≡ false)) }
+        ensures not_memory { result ≢ Err MemberError.Memory }
+    {
+        if is_finer(by, level) {
+            Err(MemberError::Finer)
+        } else if self.has(by, name) {
+            Ok(())
+        } else {
+            Err(MemberError::Unknown)
+        }
+    }
+
+    /// Whether a location has the name, or a device carries the tag.
+    fn has(&self, by: By, name: &Name) -> bool
+        ensures { result ≡ has_name (names_by by self.now) name.now }
+    {
+        match by {
+            By::Interface => has(&self.alphabets.interfaces, name),
+            By::Device => has(&self.alphabets.devices, name),
+            By::Group => has(&self.alphabets.groups, name),
+            By::Tag => self.tables.tagged.get(name).is_some(),
         }
     }
 

@@ -113,6 +113,13 @@ fn ascending(symbols: Vec<Symbol>) -> Vec<Symbol>
     symbols
 }
 
+/// Whether a location has this name.
+pub(crate) fn has(alphabet: &Alphabet, name: &Name) -> bool
+    ensures { result ≡ has_name alphabet.now name.now }
+{
+    find(alphabet, name).is_ok()
+}
+
 /// The symbol of a name.
 fn find(alphabet: &Alphabet, name: &Name) -> Result<Symbol, MemberError>
     ensures found { IfOk result (λ symbol. symbol ≡ index_of alphabet.now name.now) }

@@ -1,17 +1,30 @@
 //! What may be asked of a network's parts.
 
 ghost use Rattle.std.specs.Prelude.{◌≡◌};
+ghost use Rattle.rela_locations.specs.Network.{is_finer};
 
+use rela_names::Level;
 use std::alloc::{AllocError, AllocFailed};
 use thiserror::Error;
 
 /// What a name picks: a location of a level, or the devices with a tag.
-#[derive(Clone, Copy, PartialEq, Eq, Debug)]
+#[derive(Clone, Copy, PartialEq, Eq, Hash, Debug)]
 pub enum By {
     Interface,
     Device,
     Group,
     Tag,
+}
+
+/// Whether what is asked by is finer than the level. A tag counts as a device.
+pub(crate) fn is_finer(by: By, level: Level) -> bool
+    ensures { result ≡ is_finer by level }
+{
+    match by {
+        By::Interface => level != Level::Interface,
+        By::Device | By::Tag => level == Level::Group,
+        By::Group => false,
+    }
 }
 
 /// Why no members are given.

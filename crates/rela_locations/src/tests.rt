@@ -60,6 +60,26 @@ fn gives_the_members(rt: HostRuntime) -> Result<(), Fail> {
     Ok(())
 }
 
+#[test]
+fn finds_what_is_there(rt: HostRuntime) -> Result<(), Fail> {
+    let locations = Locations::decode(rt.alloc(), NETWORK)?;
+    let tag = Name::from_bytes(rt.alloc(), b"border")?;
+    assert!(rt; locations.find(Level::Device, By::Tag, &tag).is_ok());
+    assert!(rt;
+        matches!(
+            &locations.find(Level::Group, By::Tag, &tag),
+            Err(MemberError::Finer)
+        )
+    );
+    assert!(rt;
+        matches!(
+            &locations.find(Level::Device, By::Device, &tag),
+            Err(MemberError::Unknown)
+        )
+    );
+    Ok(())
+}
+
 fn refusal(alloc: Global, bytes: &[u8]) -> Option<LoadError>
     requires { length bytes.now ≤ 33554432 }
 {

@@ -60,14 +60,8 @@ pub(crate) fn gather<'a>(
     match path {
         PathExpr::Any => leaf(forms, Layer::Any),
         PathExpr::Empty => leaf(forms, Layer::Empty),
-        PathExpr::One(member) => one(alloc, scope, forms, member),
-        PathExpr::Class { negated, members } => class(
-            alloc,
-            scope,
-            forms,
-            *negated,
-            members.as_slice(),
-        ),
+        PathExpr::One(member) => one(scope, forms, member),
+        PathExpr::Class { negated, members } => class(scope, forms, *negated, members.as_slice()),
         PathExpr::Reference { name, at } => named(scope, forms, name, *at),
         PathExpr::Seq(parts) => join(alloc, scope, forms, Joint::Seq, parts.as_slice()),
         PathExpr::Alt(parts) => join(alloc, scope, forms, Joint::Alt, parts.as_slice()),
@@ -169,7 +163,6 @@ fn made_around(forms: &mut Forms<'_>, how: Wrap, part: usize) -> Result<usize, A
 
 /// Makes the class of one member.
 fn one<'a>(
-    alloc: Global,
     scope: &Scope<'a, '_>,
     forms: &mut Forms<'a>,
     member: &'a Member,
@@ -178,13 +171,12 @@ fn one<'a>(
     ensures made { IfOk result (λ k. IsMade (class_shape (record { network = scope.now.locations.now; level = scope.now.level }) false (member.now ∷ [])) (shapes_of forms.new.forms.items) k) }
     ensures refused { IfErr result (λ e. e ≢ Memory → class_shape (record { network = scope.now.locations.now; level = scope.now.level }) false (member.now ∷ []) ≡ Err e) }
 {
-    look_at_all(alloc, scope.locations, scope.level, slice::from_ref(member))?;
+    look_at_all(scope.locations, scope.level, slice::from_ref(member))?;
     leaf(forms, Layer::One(member))
 }
 
 /// Makes the class of some members.
 fn class<'a>(
-    alloc: Global,
     scope: &Scope<'a, '_>,
     forms: &mut Forms<'a>,
     negated: bool,
@@ -194,7 +186,7 @@ fn class<'a>(
     ensures made { IfOk result (λ k. IsMade (class_shape (record { network = scope.now.locations.now; level = scope.now.level }) negated members.now) (shapes_of forms.new.forms.items) k) }
     ensures refused { IfErr result (λ e. e ≢ Memory → class_shape (record { network = scope.now.locations.now; level = scope.now.level }) negated members.now ≡ Err e) }
 {
-    look_at_all(alloc, scope.locations, scope.level, members)?;
+    look_at_all(scope.locations, scope.level, members)?;
     leaf(forms, Layer::Class { negated, members })
 }
 

@@ -10,17 +10,15 @@ use rela_lex::SpecError;
 use rela_locations::{By, Locations, MemberError};
 use rela_names::{Level, Name};
 use rela_spec::Member;
-use std::alloc::Global;
 
 /// Sees that each member names some symbols.
 ///
 /// # Errors
 ///
 /// For the first that names none: `FinerLevel` where it is named by a finer level, else
-/// `UnknownLocation`, at its name. `Memory`.
+/// `UnknownLocation`, at its name.
 #[tactic(auto, unfolding(crate::specs::Places::listed))]
 pub(crate) fn look_at_all(
-    alloc: Global,
     locations: &Locations,
     level: Level,
     members: &[Member],
@@ -29,25 +27,20 @@ pub(crate) fn look_at_all(
     ensures refused { IfErr result (λ e. e ≢ Memory → listed (record { network = locations.now; level = level }) members.now ≡ Err e) }
 {
     for member in members {
-        look_at(alloc, locations, level, member)?;
+        look_at(locations, level, member)?;
     }
     Ok(())
 }
 
 /// Sees that the member names some symbols.
 #[tactic(auto, unfolding(crate::specs::Places::symbols_of))]
-fn look_at(
-    alloc: Global,
-    locations: &Locations,
-    level: Level,
-    member: &Member,
-) -> Result<(), SpecError>
+fn look_at(locations: &Locations, level: Level, member: &Member) -> Result<(), SpecError>
     ensures some { OnOk result (Succeeds (symbols_of (record { network = locations.now; level = level }) member.now)) }
     ensures refused { IfErr result (λ e. e ≢ Memory → symbols_of (record { network = locations.now; level = level }) member.now ≡ Err e) }
 {
     match member {
-        Member::Here { name, at } => look_for(alloc, locations, level, by_level(level), name, *at),
-        Member::Within { by, name, at } => look_for(alloc, locations, level, *by, name, *at),
+        Member::Here { name, at } => look_for(locations, level, by_level(level), name, *at),
+        Member::Within { by, name, at } => look_for(locations, level, *by, name, *at),
         Member::Drop | Member::Loop => Ok(()),
     }
 }
@@ -65,7 +58,6 @@ pub(crate) fn by_level(level: Level) -> By
 
 /// Sees that what is named is there, and no finer than the level.
 fn look_for(
-    alloc: Global,
     locations: &Locations,
     level: Level,
     by: By,
@@ -75,8 +67,8 @@ fn look_for(
     ensures some { OnOk result (Succeeds (located (record { network = locations.now; level = level }) by name.now at)) }
     ensures refused { IfErr result (λ e. e ≢ Memory → located (record { network = locations.now; level = level }) by name.now at ≡ Err e) }
 {
-    match locations.members(alloc, level, by, name) {
-        Ok(_) => Ok(()),
+    match locations.find(level, by, name) {
+        Ok(()) => Ok(()),
         Err(MemberError::Finer) => Err(SpecError::FinerLevel { at }),
         Err(MemberError::Unknown) => Err(SpecError::UnknownLocation { at }),
         Err(MemberError::Memory) => Err(SpecError::Memory),
