@@ -1,16 +1,20 @@
 -- Transducers whose letters are those of symbols by one or another partition.
-use Rattle.std.proofs.Common.{◌≡◌, ℕ, ◌<◌, ◌↔◌, Bool, true, List, [], ◌∷◌, ◌++◌, length, sym, subst, arith}
+use Rattle.std.proofs.Common.{◌≡◌, ℕ, ◌<◌, ◌↔◌, Bool, true, List, [], ◌∷◌, ◌++◌, length, map, sym, subst, arith}
 use Rattle.std.specs.List.{All}
 use Rattle.std.proofs.lemmas.List.Elements.{All-nil, All-cons, All-append, All-contains, All-head, All-tail}
 use Rattle.rela_labels.specs.Letters.{has}
 use Rattle.rela_labels.specs.Partition.{block_of, block_count}
 use Rattle.rela_labels.proofs.LettersOfWords.{has_below}
+use Rattle.rela_nfa.specs.Automaton.{Automaton}
+use Rattle.rela_nfa.specs.Relabelling.{blocks_of}
+use Rattle.rela_nfa.specs.Runs.{Accepts}
 use Rattle.rela_trans.specs.Machine.{Machine, Kind, IsMachine, IsMove, IsSized, moves_of, machine_states}
 use Rattle.rela_trans.specs.Runs.{IsSymbolOf, Does, ReachR, Relates}
 use Rattle.rela_trans.specs.declared.moves.MoveKind.TheVariants.{Silent, In, Out, Same}
 use Rattle.rela_trans.proofs.Accessors.{moves_ok}
 use Rattle.rela_trans.proofs.Reaching.{reach_start, reach_step, reach_each}
-use Rattle.rela_engine.specs.Reading.{read_by, Realises}
+use Rattle.rela_engine.specs.Reading.{read_by, Realises, RealisesFrom}
+use Rattle.rela_engine.proofs.PathLetters.{read_word}
 use Rattle.rela_engine.proofs.Readings.{read_symbol, is_symbol}
 
 all_front : (P : ℕ → Type 0) (u v : List ℕ) → All P (u ++ v) → All P u
@@ -82,10 +86,10 @@ module _ (f : ℕ → ℕ) (t : Machine) (ok : IsMachine t) (n : ℕ) (only : (s
   pub related_below : (u v : List ℕ) → Relates f t u v → AreBelow u × AreBelow v
   related_below u v (q, reach, final) = reach_below q u v reach
 
--- what is related by blocks alone, where each symbol has one
-abbrev KeepsPairs : List ℕ → List ℕ → Machine → Machine → Type 0
-KeepsPairs coarse fine a b =
-    (u v : List ℕ) → All (λ s. s < length fine) u → All (λ s. s < length fine) v → Relates (block_of fine) b u v ↔ Relates (block_of coarse) a u v
+-- what is related by blocks alone, where each symbol has one, and the first word is one of the set
+abbrev KeepsPairs : List ℕ → List ℕ → (List ℕ → Type 0) → Machine → Machine → Type 0
+KeepsPairs coarse fine words a b =
+    (u v : List ℕ) → All (λ s. s < length fine) u → All (λ s. s < length fine) v → words u → Relates (block_of fine) b u v ↔ Relates (block_of coarse) a u v
 
 module _ (coarse fine : List ℕ) (same_symbols : length fine ≡ length coarse) (a b : Machine) (a_ok : IsMachine a) (b_ok : IsMachine b)
     (a_letters : a.letters ≡ block_count coarse) (b_letters : b.letters ≡ block_count fine) where
@@ -98,17 +102,38 @@ module _ (coarse fine : List ℕ) (same_symbols : length fine ≡ length coarse)
   fine_only : (s : ℕ) → read_by fine s < b.letters → s < length fine
   fine_only s letter = is_symbol fine s (omega (arith, letter, b_letters))
 
-  pub same_relation : KeepsPairs coarse fine a b → Realises fine (Relates (read_by coarse) a) b
-  same_relation keeps = record {
+  pub same_from : (words : List ℕ → Type 0) → KeepsPairs coarse fine words a b → RealisesFrom fine words (Relates (read_by coarse) a) b
+  same_from words keeps = record {
     letters = b_letters;
-    relation = λ u v. (
+    relation = λ u v is_word. (
       λ related.
           let below = related_below (read_by fine) b b_ok (length fine) fine_only u v related in
           reread (block_of coarse) (read_by coarse) (length fine) (λ s within. sym (by_coarse s within)) a u v below.0 below.1
-          ((keeps u v below.0 below.1).0 (reread (read_by fine) (block_of fine) (length fine) (read_symbol fine) b u v below.0 below.1 related)),
+          ((keeps u v below.0 below.1 is_word).0 (reread (read_by fine) (block_of fine) (length fine) (read_symbol fine) b u v below.0 below.1 related)),
       λ related.
           let below = related_below (read_by coarse) a a_ok (length fine) coarse_only u v related in
           reread (block_of fine) (read_by fine) (length fine) (λ s within. sym (read_symbol fine s within)) b u v below.0 below.1
-          ((keeps u v below.0 below.1).1 (reread (read_by coarse) (block_of coarse) (length fine) by_coarse a u v below.0 below.1 related)),
+          ((keeps u v below.0 below.1 is_word).1 (reread (read_by coarse) (block_of coarse) (length fine) by_coarse a u v below.0 below.1 related)),
     );
   }
+
+  pub same_relation : ((u v : List ℕ) → All (λ s. s < length fine) u → All (λ s. s < length fine) v → Relates (block_of fine) b u v ↔ Relates (block_of coarse) a u v)
+      → Realises fine (Relates (read_by coarse) a) b
+  same_relation keeps =
+      let from = same_from (λ u. Unit {0}) (λ u v in_u in_v any. keeps u v in_u in_v) in
+      record { letters = from.letters; relation = λ u v. from.relation u v tt }
+
+  -- where the words are those that an automaton accepts by the blocks of their symbols
+  pub same_accepted : (paths : Automaton) → KeepsPairs coarse fine (λ u. Accepts paths (blocks_of fine u)) a b
+      → RealisesFrom fine (λ u. Accepts paths (map (read_by fine) u)) (Relates (read_by coarse) a) b
+  same_accepted paths keeps =
+      same_from (λ u. Accepts paths (map (read_by fine) u)) (λ u v in_u in_v accepted. keeps u v in_u in_v (subst (Accepts paths) (read_word fine u in_u) accepted))
+
+-- the words may be named otherwise
+pub realises_named : (blocks : List ℕ) (words others : List ℕ → Type 0) (pairs : List ℕ → List ℕ → Type 0) (t : Machine) → ((u : List ℕ) → others u → words u)
+    → RealisesFrom blocks words pairs t → RealisesFrom blocks others pairs t
+realises_named blocks words others pairs t on is = record { letters = is.letters; relation = λ u v in_others. is.relation u v (on u in_others) }
+
+-- what realises the relation does so for the words of each set
+pub realises_all : (blocks : List ℕ) (words : List ℕ → Type 0) (pairs : List ℕ → List ℕ → Type 0) (t : Machine) → Realises blocks pairs t → RealisesFrom blocks words pairs t
+realises_all blocks words pairs t is = record { letters = is.letters; relation = λ u v is_word. is.relation u v }

@@ -17,7 +17,7 @@ use Rattle.rela_trans.proofs.SymbolLetters.{letters_related, symbols_related}
 use Rattle.rela_translate.specs.Checked.{Checked}
 use Rattle.rela_translate.specs.Verdict.{AreMet, Offends}
 use Rattle.rela_compare.proofs.AcceptedLetters.{accepted_letters}
-use Rattle.rela_engine.specs.Reading.{read_by, Recognises, Realises}
+use Rattle.rela_engine.specs.Reading.{read_by, Recognises, Realises, RealisesFrom}
 use Rattle.rela_engine.specs.RowOf.{RowOf, IsOffence, relation_of}
 use Rattle.rela_engine.specs.Seen.{AreSeen, AreLeast, IsSource, IsFirstSource, TellsOf}
 use Rattle.rela_engine.proofs.LeastWords.{before_letters, first_symbols, same_words}
@@ -26,27 +26,29 @@ use Rattle.rela_engine.proofs.Readings.{covered}
 -- ---- images told by letters
 
 -- a relation with the same pairs
-pub same_pairs : (coarse fine : List ℕ) (pairs : Relation) (a b : Machine) → Realises coarse pairs a → Realises fine (Relates (read_by coarse) a) b → Realises fine pairs b
-same_pairs coarse fine pairs a b is same = record {
+pub same_pairs : (coarse fine : List ℕ) (words : WordSet) (pairs : Relation) (a b : Machine) → Realises coarse pairs a → RealisesFrom fine words (Relates (read_by coarse) a) b
+    → RealisesFrom fine words pairs b
+same_pairs coarse fine words pairs a b is same = record {
   letters = same.letters;
-  relation = λ u v. (λ related. (is.relation u v).0 ((same.relation u v).0 related), λ pair. (same.relation u v).1 ((is.relation u v).1 pair));
+  relation = λ u v in_words. (
+    λ related. (is.relation u v).0 ((same.relation u v in_words).0 related),
+    λ pair. (same.relation u v in_words).1 ((is.relation u v).1 pair),
+  );
 }
 
 -- what an automaton of an image recognises
 pub recognises_image : (blocks : List ℕ) (words : WordSet) (pairs : Relation) (a : Automaton) (t : Machine) (image : Automaton)
-    → Recognises blocks words a → Realises blocks pairs t → image.letters ≡ a.letters
+    → Recognises blocks words a → RealisesFrom blocks words pairs t → image.letters ≡ a.letters
     → ((v : List ℕ) → Accepts image (map (read_by blocks) v) ↔ ((source : List ℕ) × Accepts a (map (read_by blocks) source) × Relates (read_by blocks) t source v))
     → Recognises blocks (ImageOf words pairs) image
 recognises_image blocks words pairs a t image in_a in_t letters language = record {
   letters = letters ∙ in_a.letters;
   language = λ v. (
     λ accepted.
-        let found = (language v).0 accepted in record {
-          source = found.0;
-          in_set = (in_a.language found.0).0 found.1;
-          related = (in_t.relation found.0 v).0 found.2;
-        },
-    λ is. (language v).1 (is.source, (in_a.language is.source).1 is.in_set, (in_t.relation is.source v).1 is.related),
+        let found = (language v).0 accepted in
+        let in_words = (in_a.language found.0).0 found.1 in
+        record { source = found.0; in_set = in_words; related = (in_t.relation found.0 v in_words).0 found.2 },
+    λ is. (language v).1 (is.source, (in_a.language is.source).1 is.in_set, (in_t.relation is.source v is.in_set).1 is.related),
   );
 }
 
@@ -66,7 +68,7 @@ pub seen_by_same : (blocks coarse : List ℕ) (words : WordSet) (pairs : Relatio
     → Realises coarse pairs t → AreSeen blocks words (Relates (read_by coarse) t) paths relation image → AreSeen blocks words pairs paths relation image
 seen_by_same blocks coarse words pairs t paths relation image is seen = record {
   of_paths = seen.of_paths;
-  of_relation = same_pairs coarse blocks pairs t relation is seen.of_relation;
+  of_relation = same_pairs coarse blocks words pairs t relation is seen.of_relation;
   of_image = image_of_same blocks words (Relates (read_by coarse) t) pairs image is.relation seen.of_image;
   paths_ok = seen.paths_ok;
   relation_ok = seen.relation_ok;
@@ -121,18 +123,15 @@ module _ (blocks : List ℕ) (is : IsPartition blocks) (words : WordSet) (pairs 
       → (u : List ℕ) × (map (read_by blocks) u ≡ letters) × words u × pairs u word
   path_of letters word source =
       let u = symbols_related (read_by blocks) relation seen.relation_ok
-      (subst (λ n. (k : ℕ) → k < n → (s : ℕ) × (read_by blocks s ≡ k)) (sym seen.of_relation.letters) (covered blocks is)) letters word source.1 in (
-        u.0,
-        u.1,
-        (seen.of_paths.language u.0).0 (subst (Accepts paths) (sym u.1) source.0),
-        (seen.of_relation.relation u.0 word).0 u.2,
-      )
+      (subst (λ n. (k : ℕ) → k < n → (s : ℕ) × (read_by blocks s ≡ k)) (sym seen.of_relation.letters) (covered blocks is)) letters word source.1 in
+      let in_words = (seen.of_paths.language u.0).0 (subst (Accepts paths) (sym u.1) source.0) in
+      (u.0, u.1, in_words, (seen.of_relation.relation u.0 word in_words).0 u.2)
 
   -- and each path that is related to the word has letters that are a source
   source_of : (u word : List ℕ) → words u → pairs u word → IsSource paths relation (map (read_by blocks) word) (map (read_by blocks) u)
   source_of u word in_words related = (
     (seen.of_paths.language u).1 in_words,
-    letters_related (read_by blocks) relation u word ((seen.of_relation.relation u word).1 related),
+    letters_related (read_by blocks) relation u word ((seen.of_relation.relation u word in_words).1 related),
   )
 
   -- each word of the image has a source

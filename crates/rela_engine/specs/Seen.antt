@@ -1,5 +1,5 @@
 -- The paths of a snapshot and what a relation makes of them, as automata over blocks of symbols.
-use Rattle.std.specs.Prelude.{◌≡◌, ℕ, ◌+◌, ◌↔◌, List, map, All}
+use Rattle.std.specs.Prelude.{◌≡◌, ℕ, ◌+◌, List, map, All}
 use Rattle.rela_graph.specs.Alone.{StandsAlone}
 use Rattle.rela_graph.specs.Topology.{Topology, symbol_at}
 use Rattle.rela_graph.specs.declared.node.Node.{Node}
@@ -15,7 +15,7 @@ use Rattle.rela_report.specs.declared.rows.Side.{Side}
 use Rattle.rela_rir.specs.Words.{ImageOf}
 use Rattle.rela_trans.specs.Machine.{Machine, IsMachine}
 use Rattle.rela_trans.specs.Runs.{Relates}
-use Rattle.rela_engine.specs.Reading.{read_by, Recognises, Realises}
+use Rattle.rela_engine.specs.Reading.{read_by, Recognises, RealisesFrom}
 
 -- each node's location has a block of its own
 abbrev pub NodesStandAlone : List ℕ → Level → List Node → Type 0
@@ -34,10 +34,11 @@ pub record AreFiner (coarse : List ℕ) (locations : ℕ) (level : Level) (pre p
 abbrev pub AreLeastSymbols : List ℕ → List ℕ → Type 0
 AreLeastSymbols blocks word = All (λ s. IsLeastOf blocks (block_of blocks s) s) word
 
--- the automaton of a set of words, each of which has least symbols alone, the transducer of a relation, and the automaton of the image
+-- the automaton of a set of words, each of which has least symbols alone, a transducer of the relation for those words, and the
+-- automaton of the image
 pub record AreSeen (blocks : List ℕ) (words : List ℕ → Type 0) (pairs : List ℕ → List ℕ → Type 0) (paths : Automaton) (relation : Machine) (image : Automaton) : Type 0 where
   pub of_paths : Recognises blocks words paths
-  pub of_relation : Realises blocks pairs relation
+  pub of_relation : RealisesFrom blocks words pairs relation
   pub of_image : Recognises blocks (ImageOf words pairs) image
   pub paths_ok : IsAutomaton paths
   pub relation_ok : IsMachine relation

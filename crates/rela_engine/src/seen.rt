@@ -1,5 +1,5 @@
 //! The paths of a snapshot and what a relation makes of them, as automata.
-ghost use Rattle.std.specs.Prelude.{◌≡◌, ℕ, ◌+◌, ◌<◌, ◌≤◌, List, IfOk, All, length};
+ghost use Rattle.std.specs.Prelude.{◌≡◌, ℕ, ◌+◌, ◌<◌, ◌≤◌, List, IfOk, All, length, map};
 ghost use Rattle.rela_graph.specs.Alone.{StandsAlone};
 ghost use Rattle.rela_graph.specs.Paths.{Paths};
 ghost use Rattle.rela_graph.specs.Topology.{symbol_at};
@@ -7,9 +7,10 @@ ghost use Rattle.rela_labels.specs.Partition.{IsPartition, block_count};
 ghost use Rattle.rela_names.specs.Alphabet.{path_symbols};
 ghost use Rattle.rela_nfa.specs.Automaton.{IsAutomaton};
 ghost use Rattle.rela_nfa.specs.Relabelling.{Refines};
+ghost use Rattle.rela_nfa.specs.Runs.{Accepts};
 ghost use Rattle.rela_trans.specs.Machine.{IsMachine};
 ghost use Rattle.rela_trans.specs.Runs.{Relates};
-ghost use Rattle.rela_engine.specs.Reading.{read_by, Recognises, Realises};
+ghost use Rattle.rela_engine.specs.Reading.{read_by, Recognises, Realises, RealisesFrom};
 ghost use Rattle.rela_engine.specs.Seen.{AreLeastSymbols, AreSeen, NodesStandAlone};
 
 use crate::unlimited::unlimited;
@@ -20,8 +21,8 @@ use rela_nfa::Nfa;
 use rela_trans::{Transducer, image};
 use std::alloc::{AllocError, Global};
 
-/// A set of paths, a relation, and the image of the paths under it. Their letters are blocks of
-/// symbols.
+/// A set of paths, a relation as far as it is one of those paths, and the image of the paths under it.
+/// Their letters are blocks of symbols.
 #[derive(Drop)]
 pub(crate) struct Seen<L: LabelSet> {
     pub(crate) paths: Nfa<L>,
@@ -52,7 +53,7 @@ pub(crate) fn see<L: LabelSet>(
     ensures { IfOk result (λ seen. AreSeen blocks.now (Paths graph.now level alphabet.now) (Relates (read_by coarse.now) relation.now) seen.paths seen.relation seen.image) }
 {
     let paths = paths_over(alloc, graph, level, alphabet, blocks)?;
-    let relation = relation_over(alloc, relation, coarse, blocks)?;
+    let relation = relation_over(alloc, relation, &paths, coarse, blocks)?;
     let image = unlimited(image(alloc, &paths, &relation, usize::MAX))?;
     prove!(image.start() < image.states());
     Ok(Seen {
@@ -86,8 +87,31 @@ fn paths_over<L: LabelSet>(
     Ok(nfa)
 }
 
-/// The relation, over the finer blocks.
+/// The relation over the finer blocks, as far as it is one of the paths.
 fn relation_over<L: LabelSet>(
+    alloc: Global,
+    relation: &Transducer<WideSet>,
+    paths: &Nfa<L>,
+    coarse: &Partition,
+    blocks: &Partition,
+) -> Result<Transducer<L>, AllocError>
+    requires refines { Refines blocks.now coarse.now }
+    requires letters { relation.now.letters ≡ block_count coarse.now }
+    requires paths { paths.now.letters ≡ block_count blocks.now }
+    requires fits { L.fits (block_count blocks.now) }
+    ensures relation { IfOk result (RealisesFrom blocks.now (λ u. Accepts paths.now (map (read_by blocks.now) u)) (Relates (read_by coarse.now) relation.now)) }
+    ensures machine { IfOk result IsMachine }
+{
+    // To look at few states costs no more than to go through the pairs of states.
+    if relation.states() <= paths.states() {
+        whole_relation(alloc, relation, coarse, blocks)
+    } else {
+        read_relation(alloc, relation, paths, coarse, blocks)
+    }
+}
+
+/// The relation over the finer blocks, by each of its states.
+fn whole_relation<L: LabelSet>(
     alloc: Global,
     relation: &Transducer<WideSet>,
     coarse: &Partition,
@@ -100,6 +124,26 @@ fn relation_over<L: LabelSet>(
     ensures machine { IfOk result IsMachine }
 {
     let finer = relation.relabel(alloc, coarse, blocks)?;
+    prove!(relation.start() < relation.states());
+    prove!(finer.start() < finer.states());
+    Ok(finer)
+}
+
+/// The relation over the finer blocks, by the states to which some path leads.
+fn read_relation<L: LabelSet>(
+    alloc: Global,
+    relation: &Transducer<WideSet>,
+    paths: &Nfa<L>,
+    coarse: &Partition,
+    blocks: &Partition,
+) -> Result<Transducer<L>, AllocError>
+    requires refines { Refines blocks.now coarse.now }
+    requires letters { relation.now.letters ≡ block_count coarse.now }
+    requires paths { paths.now.letters ≡ block_count blocks.now }
+    ensures relation { IfOk result (RealisesFrom blocks.now (λ u. Accepts paths.now (map (read_by blocks.now) u)) (Relates (read_by coarse.now) relation.now)) }
+    ensures machine { IfOk result IsMachine }
+{
+    let finer = relation.relabel_reached(alloc, paths, coarse, blocks)?;
     prove!(relation.start() < relation.states());
     prove!(finer.start() < finer.states());
     Ok(finer)

@@ -1,7 +1,14 @@
-use Rattle.rela_engine.proofs.Rereading.{same_relation}
+use Rattle.std.proofs.Common.{map}
+use Rattle.std.proofs.lemmas.Result.{IfOk-weaker}
+use Rattle.rela_nfa.specs.Runs.{Accepts}
+use Rattle.rela_trans.specs.Runs.{Relates}
+use Rattle.rela_engine.specs.Reading.{read_by, Realises, RealisesFrom}
+use Rattle.rela_engine.proofs.Rereading.{realises_all}
 use Rattle.rela_engine.proofs.seen.relation_over.Goals as goal
 
-pub returns-clause-relation : goal.returns-clause-relation
-returns-clause-relation g c =
-    same_relation c.args.coarse.now c.args.blocks.now c.requires.refines.same_symbols c.args.relation.now c.in_ok-finer.finer
-    c.start.ensures.machine c.start-2.ensures.machine c.requires.letters c.in_ok-finer.ensures.letters c.in_ok-finer.ensures.relation
+pub returns-then-states-clause-relation : goal.returns-then-states-clause-relation
+returns-then-states-clause-relation g c =
+    let blocks = c.args.blocks.now in
+    let pairs = Relates (read_by c.args.coarse.now) c.args.relation.now in
+    IfOk-weaker c.whole_relation.result (Realises blocks pairs) (RealisesFrom blocks (λ u. Accepts c.args.paths.now (map (read_by blocks) u)) pairs)
+    (realises_all blocks (λ u. Accepts c.args.paths.now (map (read_by blocks) u)) pairs) c.whole_relation.ensures.relation

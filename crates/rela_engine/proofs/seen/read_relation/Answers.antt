@@ -1,0 +1,7 @@
+use Rattle.rela_engine.proofs.Rereading.{same_accepted}
+use Rattle.rela_engine.proofs.seen.read_relation.Goals as goal
+
+pub returns-clause-relation : goal.returns-clause-relation
+returns-clause-relation g c =
+    same_accepted c.args.coarse.now c.args.blocks.now c.requires.refines.same_symbols c.args.relation.now c.in_ok-finer.finer
+    c.start.ensures.machine c.start-2.ensures.machine c.requires.letters c.in_ok-finer.ensures.letters c.args.paths.now c.in_ok-finer.ensures.relation
