@@ -25,6 +25,8 @@ pub mod Tries
 pub mod PathShapes
 pub mod Gathering
 pub mod Listings
+pub mod Picks
+pub mod Known
 pub mod Unfolding
 pub mod BodySizes
 pub mod BodyLaws

@@ -101,7 +101,7 @@ numbered_grows place (Star a) n = numbered_grows place a n
 abbrev Again : Place → Shape → Type 0
 Again place s = (n m : Numbering) → Grown (numbered place s n).after m → numbered place s m ≡ record { value = (numbered place s n).value; after = m }
 
-placed_again : (c : Listing) (n m : Numbering) → Grown (placed c n).after m → placed c m ≡ record { value = (placed c n).value; after = m }
+pub placed_again : (c : Listing) (n m : Numbering) → Grown (placed c n).after m → placed c m ≡ record { value = (placed c n).value; after = m }
 placed_again c n m g =
     let has : list_any (same_listing c) m.classes ≡ true = ap (λ (cs : List Listing). list_any (same_listing c) cs) g.is ∙ table_has n.classes c g.more in
     let same : position_or_len (same_listing c) m.classes ≡ position_or_len (same_listing c) n.classes =

@@ -18,6 +18,7 @@ pub mod Bodies
 pub mod BodyGathers
 pub mod Expand
 pub mod Tables
+pub mod Known
 pub mod Walk
 pub mod Walks
 pub mod LangW

@@ -18,6 +18,7 @@ mod trees;
 mod unfit;
 mod unfolding;
 mod walking;
+mod written;
 
 ghost use Rattle.std.specs.Prelude.{◌≡◌, ◌≢◌, IfErr, IfOk, Err, Ok, map};
 ghost use Rattle.std.specs.List.{All, AllZip};

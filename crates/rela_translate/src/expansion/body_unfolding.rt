@@ -4,6 +4,7 @@ ghost use Rattle.std.specs.Prelude.{◌≡◌, ◌+◌, ◌<◌, ◌≤◌, ◌^
 ghost use Rattle.rela_translate.specs.Bodies.{AreBodies, behind_modifier, bodies_of, body_at, modifier_at};
 ghost use Rattle.rela_translate.specs.Expand.{symbols_in};
 ghost use Rattle.rela_translate.specs.Forms.{shapes_of};
+ghost use Rattle.rela_translate.specs.Known.{ArePlaced, AreWritten};
 ghost use Rattle.rela_translate.specs.Measures.{weight_of, weight_of_modifier};
 ghost use Rattle.rela_translate.specs.Numbered.{core_joined, numbered_body, numbered_change};
 ghost use Rattle.rela_translate.specs.Tables.{IsCounted, numbering_of};
@@ -25,21 +26,25 @@ use std::alloc::{AllocError, Global};
 ///
 /// `TooLarge` where the classes list more than 4,000,000 symbols together; `Memory`.
 #[tactic(auto, using(crate::proofs::BodyUnfolding::modifier_steps))]
-fn unfold_modifier(
+fn unfold_modifier<'a>(
     alloc: Global,
     locations: &Locations,
     level: Level,
-    forms: &Forms<'_>,
+    forms: &Forms<'a>,
     modifier: &Modifier<usize>,
-    numbers: &mut Numbers,
+    numbers: &mut Numbers<'a>,
 ) -> Result<Change, Unfit>
     requires inside { behind_modifier modifier.now ≤ length (shapes_of forms.now.forms.items) }
     requires room { length numbers.old.classes.keys + weight_of_modifier (modifier_at (shapes_of forms.now.forms.items) modifier.now) < 2 ^ 32 }
     requires few { numbers.old.markers + 1 < 2 ^ 32 }
     requires counted { IsCounted numbers.old }
+    requires written { AreWritten (record { network = locations.now; level = level }) numbers.old }
+    requires places { ArePlaced (record { network = locations.now; level = level }) (shapes_of forms.now.forms.items) numbers.old }
     ensures unfolded { IfOk result (λ c. numbered_change (record { network = locations.now; level = level }) (modifier_at (shapes_of forms.now.forms.items) modifier.now) (numbering_of numbers.old)
         ≡ record { value = c; after = numbering_of numbers.new }) }
     ensures counted { OnOk result (IsCounted numbers.new) }
+    ensures written { OnOk result (AreWritten (record { network = locations.now; level = level }) numbers.new) }
+    ensures places { OnOk result (ArePlaced (record { network = locations.now; level = level }) (shapes_of forms.now.forms.items) numbers.new) }
     ensures too_large { IfErr result (λ e. e ≡ Unfit.TooLarge → 4000000 < symbols_in (numbered_change (record { network = locations.now; level = level }) (modifier_at (shapes_of forms.now.forms.items) modifier.now) (numbering_of numbers.old)).after.classes) }
 {
     match modifier {
@@ -77,23 +82,27 @@ fn unfold_modifier(
 ///
 /// `TooLarge` where the classes list more than 4,000,000 symbols together; `Memory`.
 #[tactic(auto, using(crate::proofs::BodyUnfolding::body_steps))]
-pub(crate) fn unfold_body(
+pub(crate) fn unfold_body<'a>(
     alloc: Global,
     locations: &Locations,
     level: Level,
-    forms: &Forms<'_>,
+    forms: &Forms<'a>,
     bodies: &Bodies,
     place: usize,
-    numbers: &mut Numbers,
+    numbers: &mut Numbers<'a>,
 ) -> Result<Core, Unfit>
     requires inside { place < length bodies.now.forms.items }
     requires are { AreBodies (shapes_of forms.now.forms.items) bodies.now.forms.items }
     requires room { length numbers.old.classes.keys + weight_of (body_at (bodies_of (shapes_of forms.now.forms.items) bodies.now.forms.items) place) < 2 ^ 32 }
     requires few { numbers.old.markers + weight_of (body_at (bodies_of (shapes_of forms.now.forms.items) bodies.now.forms.items) place) < 2 ^ 32 }
     requires counted { IsCounted numbers.old }
+    requires written { AreWritten (record { network = locations.now; level = level }) numbers.old }
+    requires places { ArePlaced (record { network = locations.now; level = level }) (shapes_of forms.now.forms.items) numbers.old }
     ensures unfolded { IfOk result (λ c. numbered_body (record { network = locations.now; level = level }) (body_at (bodies_of (shapes_of forms.now.forms.items) bodies.now.forms.items) place) (numbering_of numbers.old)
         ≡ record { value = c; after = numbering_of numbers.new }) }
     ensures counted { OnOk result (IsCounted numbers.new) }
+    ensures written { OnOk result (AreWritten (record { network = locations.now; level = level }) numbers.new) }
+    ensures places { OnOk result (ArePlaced (record { network = locations.now; level = level }) (shapes_of forms.now.forms.items) numbers.new) }
     ensures too_large { IfErr result (λ e. e ≡ Unfit.TooLarge → 4000000 < symbols_in (numbered_body (record { network = locations.now; level = level }) (body_at (bodies_of (shapes_of forms.now.forms.items) bodies.now.forms.items) place) (numbering_of numbers.old)).after.classes) }
 {
     match bodies.get(place) {

@@ -61,12 +61,7 @@ pub(crate) fn gather<'a>(
         PathExpr::Any => leaf(forms, Layer::Any),
         PathExpr::Empty => leaf(forms, Layer::Empty),
         PathExpr::One(member) => one(scope, forms, member),
-        PathExpr::Class { negated, members } => class(
-            scope,
-            forms,
-            *negated,
-            members.as_slice(),
-        ),
+        PathExpr::Class { negated, members } => class(scope, forms, *negated, members.as_slice()),
         PathExpr::Reference { name, at } => named(scope, forms, name, *at),
         PathExpr::Seq(parts) => join(alloc, scope, forms, Joint::Seq, parts.as_slice()),
         PathExpr::Alt(parts) => join(alloc, scope, forms, Joint::Alt, parts.as_slice()),

@@ -1,28 +1,28 @@
-//! The symbols that the members of a class name.
+//! The symbols that a class lists.
 
-ghost use Rattle.std.specs.Prelude.{◌≡◌, ℕ, ◌||◌, IfOk, OnOk};
+ghost use Rattle.std.specs.Prelude.{◌≡◌, ℕ, ◌||◌, IfOk, OnOk, map};
 ghost use Rattle.rela_locations.specs.Tables.{has_number};
-ghost use Rattle.rela_translate.specs.Numbered.{found, named_by, or_none};
-ghost use Rattle.rela_translate.specs.Places.{located};
+ghost use Rattle.rela_translate.specs.Known.{picked};
+ghost use Rattle.rela_translate.specs.Numbered.{or_none};
+ghost use Rattle.rela_translate.specs.Places.{in_some, located};
 
-use crate::expansion::members::by_level;
+use crate::expansion::written::Pick;
 use rela_locations::{By, Locations, MemberError};
 use rela_names::{Level, Name, Symbol};
-use rela_spec::Member;
 use std::alloc::{AllocError, Global};
 
-/// The path symbols that some member names, ascending. A member that names none adds none.
+/// The path symbols that are picked, ascending. What picks none adds none.
 pub(crate) fn list(
     alloc: Global,
     locations: &Locations,
     level: Level,
-    members: &[Member],
+    picks: &[Pick<'_>],
 ) -> Result<Vec<Symbol>, AllocError>
-    ensures { IfOk result (λ symbols. symbols.items ≡ found (record { network = locations.now; level = level }) members.now) }
+    ensures { IfOk result (λ symbols. symbols.items ≡ in_some (record { network = locations.now; level = level }) (map (picked (record { network = locations.now; level = level })) picks.now)) }
 {
     let mut symbols = Vec::new(alloc);
-    for member in members {
-        let more = named_by(alloc, locations, level, member)?;
+    for pick in picks {
+        let more = picked(alloc, locations, level, pick)?;
         symbols.extend_from_slice(more.as_slice())?;
     }
     symbols.sort_unstable();
@@ -30,21 +30,19 @@ pub(crate) fn list(
     Ok(symbols)
 }
 
-/// The path symbols that the member names.
-#[tactic(auto, unfolding(crate::specs::Places::symbols_of))]
-fn named_by(
+/// The path symbols that are picked.
+fn picked(
     alloc: Global,
     locations: &Locations,
     level: Level,
-    member: &Member,
+    pick: &Pick<'_>,
 ) -> Result<Vec<Symbol>, AllocError>
-    ensures { IfOk result (λ symbols. symbols.items ≡ named_by (record { network = locations.now; level = level }) member.now) }
+    ensures { IfOk result (λ symbols. symbols.items ≡ picked (record { network = locations.now; level = level }) pick.now) }
 {
-    match member {
-        Member::Here { name, .. } => within(alloc, locations, level, by_level(level), name),
-        Member::Within { by, name, .. } => within(alloc, locations, level, *by, name),
-        Member::Drop => Ok(vec![in alloc; locations.alphabet(level).drop_symbol()]?),
-        Member::Loop => Ok(vec![in alloc; locations.alphabet(level).loop_symbol()]?),
+    match pick {
+        Pick::Within(by, name) => within(alloc, locations, level, *by, name),
+        Pick::Drop => Ok(vec![in alloc; locations.alphabet(level).drop_symbol()]?),
+        Pick::Loop => Ok(vec![in alloc; locations.alphabet(level).loop_symbol()]?),
     }
 }
 

@@ -16,7 +16,7 @@ use rela_spec::Member;
 /// # Errors
 ///
 /// For the first that names none: `FinerLevel` where it is named by a finer level, else
-/// `UnknownLocation`, at its name. `Memory`.
+/// `UnknownLocation`, at its name.
 #[tactic(auto, unfolding(crate::specs::Places::listed))]
 pub(crate) fn look_at_all(
     locations: &Locations,
@@ -34,11 +34,7 @@ pub(crate) fn look_at_all(
 
 /// Sees that the member names some symbols.
 #[tactic(auto, unfolding(crate::specs::Places::symbols_of))]
-fn look_at(
-    locations: &Locations,
-    level: Level,
-    member: &Member,
-) -> Result<(), SpecError>
+fn look_at(locations: &Locations, level: Level, member: &Member) -> Result<(), SpecError>
     ensures some { OnOk result (Succeeds (symbols_of (record { network = locations.now; level = level }) member.now)) }
     ensures refused { IfErr result (λ e. e ≢ Memory → symbols_of (record { network = locations.now; level = level }) member.now ≡ Err e) }
 {

@@ -71,4 +71,4 @@ unfold_body-requires-in-Join t c =
     let inside = c.requires.inside in
     let room = c.requires.room in
     let few = c.requires.few in
-    (omega arith, (omega arith, (c.requires.are, (omega arith, (omega arith, c.in_ok-first-in-Join.ensures.counted)))))
+    (omega arith, (omega arith, (c.requires.are, (omega arith, (omega arith, (c.in_ok-first-in-Join.ensures.counted, (c.in_ok-first-in-Join.ensures.written, c.in_ok-first-in-Join.ensures.places)))))))

@@ -9,9 +9,9 @@ use Rattle.rela_translate.proofs.expansion.listing.list.Goals as goal
 pub returns : goal.returns
 returns c =
     let place : Place = record { network = c.args.locations.now; level = c.args.level } in
-    let members = c.args.members.now in
+    let picks = c.args.picks.now in
     let sorted = c.sort_unstable.new.self.items in
     dedup_is eqb sorted c.dedup.new.self.items c.dedup.ensures.filtered
-    ∙ listed_is_found place members (take c.loop-member.member-index members) c.loop-member.symbols.items sorted
-    (take_all c.loop-member.member-index members c.loop-member-test.false) c.loop-member.invariant c.sort_unstable.ensures.sorted
-    (λ n. sym (list_any-IsPermutation (λ m. m == n) c.loop-member.symbols.items sorted c.sort_unstable.ensures.permutation))
+    ∙ listed_is_found place picks (take c.loop-pick.pick-index picks) c.loop-pick.symbols.items sorted
+    (take_all c.loop-pick.pick-index picks c.loop-pick-test.false) c.loop-pick.invariant c.sort_unstable.ensures.sorted
+    (λ n. sym (list_any-IsPermutation (λ m. m == n) c.loop-pick.symbols.items sorted c.sort_unstable.ensures.permutation))

@@ -35,7 +35,7 @@ unfold-requires-in-Join t c =
     let left = room_left place a c.args.numbers.now c.unfold.new.numbers c.in_ok-a-in-Join.a c.in_ok-a-in-Join.ensures.unfolded in
     let below = c.in-Join.ensures.below in
     let room = c.requires.room in
-    (omega arith, (omega arith, (omega arith, c.in_ok-a-in-Join.ensures.counted)))
+    (omega arith, (omega arith, (omega arith, (c.in_ok-a-in-Join.ensures.counted, (c.in_ok-a-in-Join.ensures.written, c.in_ok-a-in-Join.ensures.places)))))
 
 pub returns-in_ok-class-in-One-clause-unfolded : goal.returns-in_ok-class-in-One-clause-unfolded
 returns-in_ok-class-in-One-clause-unfolded t c =
