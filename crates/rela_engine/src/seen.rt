@@ -87,6 +87,10 @@ fn paths_over<L: LabelSet>(
     Ok(nfa)
 }
 
+/// A relation with no more states than this for each state of the paths is relabelled whole: that costs
+/// a step for each of its states, and to find those that are reached a step for each pair.
+const FEW_FOR_EACH: usize = 32;
+
 /// The relation over the finer blocks, as far as it is one of the paths.
 fn relation_over<L: LabelSet>(
     alloc: Global,
@@ -102,8 +106,7 @@ fn relation_over<L: LabelSet>(
     ensures relation { IfOk result (RealisesFrom blocks.now (λ u. Accepts paths.now (map (read_by blocks.now) u)) (Relates (read_by coarse.now) relation.now)) }
     ensures machine { IfOk result IsMachine }
 {
-    // To look at few states costs no more than to go through the pairs of states.
-    if relation.states() <= paths.states() {
+    if relation.states() / FEW_FOR_EACH <= paths.states() {
         whole_relation(alloc, relation, coarse, blocks)
     } else {
         read_relation(alloc, relation, paths, coarse, blocks)
