@@ -161,35 +161,6 @@ fn numbers_classes_and_markers(rt: HostRuntime) -> Result<(), Fail> {
     Ok(())
 }
 
-#[test]
-fn numbers_a_class_once(rt: HostRuntime) -> Result<(), Fail> {
-    let alloc = rt.alloc();
-    let locations = Locations::decode(alloc, NETWORK)?;
-    let text =
-        b"level device; path e = [r1 r4 r1]; check c1 : { ($e | .)* : replace([r4 device(r1)], [r1 r4 r1] | $e) };";
-    let checks = checks_of(&rt, alloc, &locations, text.as_slice())?;
-    assert_eq!(rt; checks.len(), 1);
-    let either = Expr::Alt(
-        Boxed::new(alloc, Expr::Class(0))?,
-        Boxed::new(alloc, Expr::Class(1))?,
-    );
-    let twice = Expr::Alt(
-        Boxed::new(alloc, Expr::Class(0))?,
-        Boxed::new(alloc, Expr::Class(0))?,
-    );
-    let body = Core::Unit {
-        zone: Expr::Star(Boxed::new(alloc, either)?),
-        modifier: Change::Replace(Expr::Class(0), twice),
-    };
-    assert_eq!(rt; *checks[0].body(), body);
-    assert_eq!(rt; checks[0].classes().len(), 2);
-    assert_eq!(rt;
-        checks[0].classes()[0].members.as_slice(),
-        [0, 3].as_slice()
-    );
-    Ok(())
-}
-
 /// A text inside this many brackets, each inside the one before.
 fn nested(
     alloc: Global,
