@@ -1,4 +1,5 @@
-ghost use Rattle.std.specs.Prelude.{◌≡◌, ◌<◌, ◌↔◌, true, IfOk, IsTrue, All, length};
+ghost use Rattle.std.specs.Prelude.{◌≡◌, ◌<◌, ◌↔◌, true, IfOk, IsTrue, None, All, length};
+ghost use Rattle.std.specs.Option.{unwrap_or};
 ghost use Rattle.rela_names.specs.Alphabet.{path_symbols};
 ghost use Rattle.rela_translate.specs.Zones.{Before, After};
 ghost use Rattle.rela_engine.specs.Blocks.{AreBlocks};
@@ -26,13 +27,14 @@ pub struct Compiled<'a> {
     locations: u32,
     blocks: Partition,
     before: Transducer<WideSet>,
-    after: Transducer<WideSet>,
-    /// Whether no unit of the check asks for a change.
-    treats_sides_alike: bool,
+    /// The relation after the change; none where no unit of the check asks for one, and so the relation
+    /// before it has the same pairs and serves both sides.
+    after: Option<Transducer<WideSet>>,
 }
 
 impl<'a> Model for Compiled<'a> {
-    ghost use Rattle.std.specs.Prelude.{◌↔◌, IsTrue};
+    ghost use Rattle.std.specs.Prelude.{◌≡◌, ◌↔◌, None};
+    ghost use Rattle.std.specs.Option.{unwrap_or};
     ghost use Rattle.rela_engine.specs.Compilation.{Compilation, IsCompiled};
     ghost use Rattle.rela_engine.specs.Sides.{TreatsSidesAlike};
 
@@ -48,7 +50,7 @@ impl<'a> Model for Compiled<'a> {
       locations = c.locations;
       blocks = c.blocks;
       before = c.before;
-      after = c.after;
+      after = unwrap_or c.after c.before;
     } };
 
     ghost invariant = { λ c. IsCompiled (record {
@@ -56,8 +58,8 @@ impl<'a> Model for Compiled<'a> {
       locations = c.locations;
       blocks = c.blocks;
       before = c.before;
-      after = c.after;
-    }) × (IsTrue c.treats_sides_alike ↔ TreatsSidesAlike c.check.now.body) };
+      after = unwrap_or c.after c.before;
+    }) × ((c.after ≡ None) ↔ TreatsSidesAlike c.check.now.body) };
 }
 
 /// The check compiled under the alphabet of its level, of which its class table lists path symbols
@@ -80,29 +82,33 @@ pub fn compile<'a>(
         blocks,
         before,
         after,
-        treats_sides_alike: treats_sides_alike(check.body()),
     })
 }
 
-/// The check's relations before and after the change over the blocks of its symbols.
+/// The check's relation before the change over the blocks of its symbols, and the one after it, where a
+/// unit asks for a change.
 fn relations_over(
     alloc: Global,
     check: &Check,
     alphabet: &Alphabet,
     blocks: &Partition,
-) -> Result<(Transducer<WideSet>, Transducer<WideSet>), AllocError>
+) -> Result<(Transducer<WideSet>, Option<Transducer<WideSet>>), AllocError>
     requires blocks { AreBlocks check.now (length alphabet.now) blocks.now }
     requires listed { All (λ set. All (λ s. s < path_symbols alphabet.now) set.members) check.now.classes }
     ensures before { IfOk result (λ pair. Realises blocks.now (Before check.now.classes (length alphabet.now) check.now.body) pair.0) }
-    ensures after { IfOk result (λ pair. Realises blocks.now (After check.now.classes (length alphabet.now) check.now.body) pair.1) }
+    ensures after { IfOk result (λ pair. Realises blocks.now (After check.now.classes (length alphabet.now) check.now.body) (unwrap_or pair.1 pair.0)) }
+    ensures alike { IfOk result (λ pair. (pair.1 ≡ None) ↔ TreatsSidesAlike check.now.body) }
 {
     // By what each check keeps, its terms name drop and its markers alone, and no location.
     let _ = check.body();
     let relations = translate(alloc, check, alphabet)?;
     let letters = Letters::new(alloc, check, alphabet, blocks)?;
     let before = transducer(alloc, &relations.before, &letters)?;
+    if treats_sides_alike(check.body()) {
+        return Ok((before, None));
+    }
     let after = transducer(alloc, &relations.after, &letters)?;
-    Ok((before, after))
+    Ok((before, Some(after)))
 }
 
 impl<'a> Compiled<'a> {
@@ -148,7 +154,7 @@ impl<'a> Compiled<'a> {
         ensures relations { IsTrue result → SamePairs (Before self.now.check.classes self.now.locations self.now.check.body)
             (After self.now.check.classes self.now.locations self.now.check.body) }
     {
-        self.treats_sides_alike
+        self.after.is_none()
     }
 
     /// The blocks of its symbols. Two symbols share one where they are one symbol, or locations that
@@ -173,6 +179,9 @@ impl<'a> Compiled<'a> {
         ensures after { result.now ≡ self.now.after }
         ensures relation { Realises self.now.blocks (After self.now.check.classes self.now.locations self.now.check.body) self.now.after }
     {
-        &self.after
+        match &self.after {
+            Some(after) => after,
+            None => &self.before,
+        }
     }
 }

@@ -28,7 +28,7 @@ pub fn minimise<L: LabelSet>(alloc: Global, dfa: &Dfa<L>) -> Result<Dfa<L>, Allo
     prove!(dfa.start() < dfa.states());
     let refinement = refined(alloc, dfa)?;
     let classes = quotient(alloc, dfa, &refinement.classes, refinement.members.len())?;
-    let nfa = classes.to_nfa(alloc)?;
+    let nfa = classes.into_nfa(alloc)?;
     match determinise(alloc, &nfa, dfa.over(), usize::MAX) {
         Ok(made) => Ok(made),
         Err(error) => Err(want_of_memory(error)),

@@ -127,14 +127,41 @@ impl<L: LabelSet> Dfa<L> {
         target_of(&self.edges[q], letter).unwrap()
     }
 
+    /// A copy of the automaton.
+    pub(crate) fn copy(&self, alloc: Global) -> Result<Dfa<L>, AllocError>
+        ensures { IfOk result (λ dfa. dfa ≡ self.now) }
+    {
+        let over = self.over.copy(alloc)?;
+        let finals = Vec::from_slice(alloc, &self.finals)?;
+        let edges = copy_all(alloc, &self.edges)?;
+        Ok(Dfa::new(over, self.start, finals, edges))
+    }
+
     /// The same automaton, as one that need not be deterministic.
     pub fn to_nfa(&self, alloc: Global) -> Result<Nfa<L>, AllocError>
         ensures automaton { IfOk result (λ nfa. nfa ≡ automaton_of self.now) }
         ensures reach { IfOk result (λ nfa. (q : ℕ) (word : List ℕ) → Reach nfa q word ↔ LeadsTo self.now q word) }
         ensures language { IfOk result (λ nfa. (word : List ℕ) → Accepts nfa word ↔ IsAccepted self.now word) }
     {
-        let edges = copy_all(alloc, &self.edges)?;
-        let nfa = Nfa::from_parts(alloc, self.over.size(), self.start, &self.finals, edges)?;
+        let copy = self.copy(alloc)?;
+        copy.into_nfa(alloc)
+    }
+
+    /// The same automaton, as one that need not be deterministic. It takes the edges as they are, and
+    /// copies none.
+    pub fn into_nfa(self, alloc: Global) -> Result<Nfa<L>, AllocError>
+        ensures automaton { IfOk result (λ nfa. nfa ≡ automaton_of self) }
+        ensures reach { IfOk result (λ nfa. (q : ℕ) (word : List ℕ) → Reach nfa q word ↔ LeadsTo self q word) }
+        ensures language { IfOk result (λ nfa. (word : List ℕ) → Accepts nfa word ↔ IsAccepted self word) }
+    {
+        let letters = self.over.size();
+        let Dfa {
+            over: _,
+            start,
+            finals,
+            edges,
+        } = self;
+        let nfa = Nfa::from_parts(alloc, letters, start, &finals, edges)?;
         Ok(nfa)
     }
 }

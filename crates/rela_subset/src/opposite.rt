@@ -1,7 +1,6 @@
 ghost use Rattle.std.specs.Prelude.{◌≡◌, ℕ, ◌↔◌, IfOk, List, map, not};
 ghost use Rattle.rela_subset.specs.Deterministic.{IsAccepted, IsOver, state_after};
 
-use crate::copies::copy_all;
 use crate::dfa::Dfa;
 use rela_labels::LabelSet;
 use std::alloc::{AllocError, Global};
@@ -16,11 +15,30 @@ pub fn complement<L: LabelSet>(alloc: Global, dfa: &Dfa<L>) -> Result<Dfa<L>, Al
     ensures states { IfOk result (λ other. (word : List ℕ) → state_after other word ≡ state_after dfa.now word) }
     ensures language { IfOk result (λ other. (word : List ℕ) → IsAccepted other word ↔ (IsOver dfa.now.over word × ¬ IsAccepted dfa.now word)) }
 {
-    let over = dfa.over.copy(alloc)?;
-    let finals = others(alloc, &dfa.finals)?;
-    let edges = copy_all(alloc, &dfa.edges)?;
-    let other = Dfa::new(over, dfa.start, finals, edges);
-    Ok(other)
+    let copy = dfa.copy(alloc)?;
+    copy.into_complement(alloc)
+}
+
+impl<L: LabelSet> Dfa<L> {
+    /// The automaton with the same states and edges that accepts the words over the same letters which
+    /// this one doesn't accept, as by [`complement`]. It takes the edges as they are, and copies none.
+    pub fn into_complement(self, alloc: Global) -> Result<Dfa<L>, AllocError>
+        ensures over { IfOk result (λ other. other.over ≡ self.over) }
+        ensures start { IfOk result (λ other. other.start ≡ self.start) }
+        ensures edges { IfOk result (λ other. other.edges ≡ self.edges) }
+        ensures finals { IfOk result (λ other. other.finals ≡ map not self.finals) }
+        ensures states { IfOk result (λ other. (word : List ℕ) → state_after other word ≡ state_after self word) }
+        ensures language { IfOk result (λ other. (word : List ℕ) → IsAccepted other word ↔ (IsOver self.over word × ¬ IsAccepted self word)) }
+    {
+        let Dfa {
+            over,
+            start,
+            finals,
+            edges,
+        } = self;
+        let finals = others(alloc, &finals)?;
+        Ok(Dfa::new(over, start, finals, edges))
+    }
 }
 
 /// The opposite of each.

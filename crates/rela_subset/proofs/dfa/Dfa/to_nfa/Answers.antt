@@ -1,27 +1,14 @@
-use Rattle.std.proofs.Common.{◌≡◌, ◌↔◌, ℕ, List, length, ap, sym, subst, ◌∙◌}
-use Rattle.rela_nfa.specs.Automaton.{Automaton}
+use Rattle.std.proofs.Common.{◌↔◌, ℕ, List, IfOk, subst}
 use Rattle.rela_nfa.specs.Runs.{Reach, Accepts}
-use Rattle.rela_nfa.specs.Stored.{moves_in}
-use Rattle.rela_subset.specs.Deterministic.{IsDeterministic, IsAccepted, LeadsTo, automaton_of}
-use Rattle.rela_subset.proofs.Words.{reach_leads, accepts_accepted}
-use Rattle.rela_subset.proofs.Views.{automaton_is}
+use Rattle.rela_subset.specs.Deterministic.{Deterministic, IsAccepted, LeadsTo}
 use Rattle.rela_subset.proofs.dfa.Dfa.to_nfa.Goals as goal
 
-module _ (g : Rattle.rela_subset.proofs.dfa.Dfa.to_nfa.Given.Over) (c : goal.In_ok-nfa g) where
-  ok : IsDeterministic c.args.self.now
-  ok = subst IsDeterministic c.self.view_is c.self.invariant
-
-  same : automaton_of c.args.self.now ≡ c.in_ok-nfa.nfa
-  same =
-      let is = c.in_ok-nfa.ensures in
-      sym (automaton_is c.in_ok-nfa.nfa c.args.self.now
-      (is.letters ∙ c.size.ensures.size ∙ ap (λ d. length d.over) c.self.view_is)
-      (is.start ∙ ap (λ d. d.start) c.self.view_is)
-      (is.finals ∙ c.deref-2.ensures.value ∙ ap (λ d. d.finals) c.self.view_is)
-      (is.edges ∙ c.in_ok-edges.ensures ∙ ap (moves_in g.L.LabelSet.letters) c.deref.ensures.value ∙ ap (λ d. d.edges) c.self.view_is))
-
 pub returns-clause-reach : goal.returns-clause-reach
-returns-clause-reach g c = subst (λ (nfa : Automaton). (q : ℕ) (word : List ℕ) → Reach nfa q word ↔ LeadsTo c.args.self.now q word) (same g c) (reach_leads c.args.self.now (ok g c))
+returns-clause-reach g c =
+    subst (λ (d : Deterministic). IfOk c.into_nfa.result (λ nfa. (q : ℕ) (word : List ℕ) → Reach nfa q word ↔ LeadsTo d q word))
+    c.in_ok-copy.ensures c.into_nfa.ensures.reach
 
 pub returns-clause-language : goal.returns-clause-language
-returns-clause-language g c = subst (λ (nfa : Automaton). (word : List ℕ) → Accepts nfa word ↔ IsAccepted c.args.self.now word) (same g c) (accepts_accepted c.args.self.now (ok g c))
+returns-clause-language g c =
+    subst (λ (d : Deterministic). IfOk c.into_nfa.result (λ nfa. (word : List ℕ) → Accepts nfa word ↔ IsAccepted d word))
+    c.in_ok-copy.ensures c.into_nfa.ensures.language
