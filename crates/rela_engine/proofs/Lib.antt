@@ -18,3 +18,4 @@ pub mod OwnLetters
 pub mod OtherWords
 pub mod CheckedRelations
 pub mod AlikeBodies
+pub mod OneRelation

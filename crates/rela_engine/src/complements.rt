@@ -27,11 +27,7 @@ pub(crate) fn complement_over(
 
 /// The minimal automaton of the words over these letters that the automaton accepts. The one with all
 /// sets of states, which may be far larger, is let go here.
-fn least_over(
-    alloc: Global,
-    a: &Nfa<WideSet>,
-    over: &WideSet,
-) -> Result<Dfa<WideSet>, AllocError>
+fn least_over(alloc: Global, a: &Nfa<WideSet>, over: &WideSet) -> Result<Dfa<WideSet>, AllocError>
     requires { length over.now ≡ a.now.letters }
     ensures over { IfOk result (λ dfa. dfa.over ≡ over.now) }
     ensures language { IfOk result (λ dfa. (w : List ℕ) → IsAccepted dfa w ↔ (IsOver over.now w × Accepts a.now w)) }

@@ -3,6 +3,7 @@ use Rattle.rela_translate.specs.Zones.{Before, After}
 use Rattle.rela_engine.specs.Lettering.{Lettering, IsOwn}
 use Rattle.rela_engine.specs.Named.{NamesR}
 use Rattle.rela_engine.proofs.CheckedRelations.{before_own, after_own, realised_as}
+use Rattle.rela_engine.proofs.OneRelation.{serves_both}
 use Rattle.rela_engine.proofs.compiled.relations_over.Goals as goal
 
 pub transducer-requires : goal.transducer-requires
@@ -28,3 +29,11 @@ returns-clause-after c =
     realised_as c.in_ok-letters.letters c.args.check.now (length c.args.alphabet.now) c.args.blocks.now c.in_ok-relations.relations.after
     (After c.args.check.now.classes (length c.args.alphabet.now) c.args.check.now.body) c.in_ok-after.after
     c.in_ok-letters.ensures c.in_ok-relations.ensures.after c.in_ok-after.ensures
+
+pub returns-then-treats_sides_alike-clause-after : goal.returns-then-treats_sides_alike-clause-after
+returns-then-treats_sides_alike-clause-after c =
+    serves_both c.args.blocks.now c.args.check.now (length c.args.alphabet.now) c.body-2.result.now c.in_ok-before.before
+    c.body-2.ensures.body (c.treats_sides_alike.ensures.0 c.if-treats_sides_alike.true)
+    (realised_as c.in_ok-letters.letters c.args.check.now (length c.args.alphabet.now) c.args.blocks.now c.in_ok-relations.relations.before
+    (Before c.args.check.now.classes (length c.args.alphabet.now) c.args.check.now.body) c.in_ok-before.before
+    c.in_ok-letters.ensures c.in_ok-relations.ensures.before c.in_ok-before.ensures)
