@@ -6,13 +6,14 @@ use Rattle.rela_rir.specs.Words.{Relation}
 use Rattle.rela_rir.specs.Meaning.{InR}
 use Rattle.rela_rir.specs.declared.term.RelTerm.{RelTerm}
 use Rattle.rela_trans.specs.Machine.{Machine}
+use Rattle.rela_trans.specs.Runs.{Relates}
 use Rattle.rela_translate.specs.Checked.{Checked, IsCheck, markers_of}
 use Rattle.rela_translate.specs.Settings.{bare}
 use Rattle.rela_translate.specs.Terms.{before_of, after_of}
 use Rattle.rela_translate.specs.Zones.{marker_symbol, drop_symbol}
 use Rattle.rela_engine.specs.Lettering.{Lettering, IsOwn, setting_of}
 use Rattle.rela_engine.specs.Named.{NamesR}
-use Rattle.rela_engine.specs.Reading.{Realises}
+use Rattle.rela_engine.specs.Reading.{read_by, Realises}
 use Rattle.rela_engine.proofs.NamedByChecks.{before_names, after_names}
 
 drop_own : (l : Lettering) → IsOwn l (drop_symbol l.locations)
@@ -37,6 +38,17 @@ pub realised : (blocks : List ℕ) (X Y : Relation) (t : Machine) → ((u v : Li
 realised blocks X Y t same is = record {
   letters = is.letters;
   relation = λ u v. (λ related. (same u v).0 ((is.relation u v).0 related), λ y. (is.relation u v).1 ((same u v).1 y));
+}
+
+-- a transducer over the same letters that relates the same pairs is one of the same relation
+pub realised_alike : (blocks : List ℕ) (X : Relation) (s t : Machine) → t.letters ≡ s.letters
+    → ((read : ℕ → ℕ) (u v : List ℕ) → Relates read t u v ↔ Relates read s u v) → Realises blocks X s → Realises blocks X t
+realised_alike blocks X s t same alike is = record {
+  letters = same ∙ is.letters;
+  relation = λ u v. (
+    λ related. (is.relation u v).0 ((alike (read_by blocks) u v).0 related),
+    λ x. (alike (read_by blocks) u v).1 ((is.relation u v).1 x),
+  );
 }
 
 pub realised_as : (l : Lettering) (check : Checked) (n : ℕ) (blocks : List ℕ) (r : RelTerm) (Y : Relation) (t : Machine)

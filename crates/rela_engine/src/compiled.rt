@@ -7,9 +7,9 @@ ghost use Rattle.rela_engine.specs.Compilation.{IsCompiled};
 ghost use Rattle.rela_engine.specs.Reading.{Realises};
 ghost use Rattle.rela_engine.specs.Sides.{SamePairs, TreatsSidesAlike};
 
-use crate::automata::transducer;
 use crate::blocks::blocks_of;
 use crate::letters::Letters;
+use crate::relation::relation_of;
 use crate::sides::treats_sides_alike;
 use rela_labels::{Partition, WideSet};
 use rela_names::{Alphabet, Level};
@@ -103,11 +103,11 @@ fn relations_over(
     let _ = check.body();
     let relations = translate(alloc, check, alphabet)?;
     let letters = Letters::new(alloc, check, alphabet, blocks)?;
-    let before = transducer(alloc, &relations.before, &letters)?;
+    let before = relation_of(alloc, &relations.before, &letters)?;
     if treats_sides_alike(check.body()) {
         return Ok((before, None));
     }
-    let after = transducer(alloc, &relations.after, &letters)?;
+    let after = relation_of(alloc, &relations.after, &letters)?;
     Ok((before, Some(after)))
 }
 

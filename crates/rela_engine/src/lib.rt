@@ -12,6 +12,7 @@ mod letter_sets;
 mod letters;
 mod markers;
 mod offence;
+mod relation;
 mod seen;
 mod sides;
 mod unlimited;

@@ -6,14 +6,14 @@ use Rattle.rela_engine.proofs.CheckedRelations.{before_own, after_own, realised_
 use Rattle.rela_engine.proofs.OneRelation.{serves_both}
 use Rattle.rela_engine.proofs.compiled.relations_over.Goals as goal
 
-pub transducer-requires : goal.transducer-requires
-transducer-requires c =
+pub relation_of-requires : goal.relation_of-requires
+relation_of-requires c =
     subst (λ (l : Lettering). NamesR (IsOwn l) c.in_ok-relations.relations.before) (sym c.in_ok-letters.ensures)
     (before_own (record { check = c.args.check.now; locations = length c.args.alphabet.now; blocks = c.args.blocks.now }) c.in_ok-relations.relations.before
     c.body.ensures.check c.in_ok-relations.ensures.before_term)
 
-pub transducer-requires-2 : goal.transducer-requires-2
-transducer-requires-2 c =
+pub relation_of-requires-2 : goal.relation_of-requires-2
+relation_of-requires-2 c =
     subst (λ (l : Lettering). NamesR (IsOwn l) c.in_ok-relations.relations.after) (sym c.in_ok-letters.ensures)
     (after_own (record { check = c.args.check.now; locations = length c.args.alphabet.now; blocks = c.args.blocks.now }) c.in_ok-relations.relations.after
     c.body.ensures.check c.in_ok-relations.ensures.after_term)
