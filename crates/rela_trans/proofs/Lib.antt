@@ -24,3 +24,5 @@ pub mod WrittenEdges
 pub mod ImageMade
 pub mod ReadLetters
 pub mod SymbolLetters
+pub mod Coaccessible
+pub mod LeadingOn

@@ -1,3 +1,4 @@
+pub mod Coaccessible
 pub mod Composition
 pub mod Construction
 pub mod ImageMoves

@@ -11,6 +11,7 @@ mod joint;
 mod laws;
 mod moves;
 mod operations;
+mod pruned;
 mod reading_finer;
 mod relabel;
 mod relabel_reached;
