@@ -2,7 +2,7 @@
 use Rattle.std.proofs.Common.{◌≡◌, ℕ, ◌+◌, ◌<◌, ◌≤◌, ◌⊎◌, ◌↔◌, Bool, true, false, IsTrue, cond, List, [], ◌∷◌, ◌++◌, length, get_or, set, map, take, drop, refl, sym, ap, ◌∙◌, subst, inl, inr, arith}
 use Rattle.std.specs.List.{All, Contains, filter}
 use Rattle.std.proofs.lemmas.Bool.{cases_lt, cases_eq, both_ways}
-use Rattle.std.proofs.lemmas.List.{append-nil, drop-drop, drop_more, drop-set-lt, get_or_append_left, get_or_default, get_or-map, get_or_past, get_or-set_other, get_or-set_same, length-drop, length-map, map-set, map_push, take-append-le, take_all, take_more, take_more_set}
+use Rattle.std.proofs.lemmas.List.{append-nil, get_or_append_left, get_or_default, get_or-map, get_or_past, get_or-set_other, get_or-set_same, length-map, map-set, map_push, take-append-le, take_all, take_more}
 use Rattle.std.proofs.lemmas.List.Elements.{All-contains, Contains-append_left, Contains-get_or, Contains-push, Contains-push_cases}
 use Rattle.rela_nfa.specs.StateSet.{AreFlagged, Inserts, Adds}
 use Rattle.rela_nfa.proofs.Flagged.{flag_within}
@@ -281,27 +281,6 @@ map-filter f test (x ∷ xs) = by (test (f x)) (map-filter f test xs)
 
 pub list_read : {A : Type 0} (lists : List (Vec ℕ A)) (i : ℕ) (v : Vec ℕ A) (read : List ℕ) → i < length lists → v ≡ get_or lists i v → read ≡ v.items → read ≡ list_at (lists_of lists) i
 list_read {A} lists i v read below at is = is ∙ ap (λ (u : Vec ℕ A). u.items) at ∙ sym (get_or-map (λ (u : Vec ℕ A). u.items) lists i v [] below)
-
--- one list of moves more
-pub kept_more : {L A : Type 0} (letters : L → List Bool) (flags : List Bool) (first now : List (Vec (Move L) A)) (i : ℕ) (v new : Vec (Move L) A) → i < length now → v ≡ get_or now i v
-    → moves_in letters (take i now) ≡ map (kept_by flags) (moves_in letters (take i first)) → drop i now ≡ drop i first
-    → map (move_of letters) new.items ≡ kept_by flags (map (move_of letters) v.items)
-    → moves_in letters (take (i + 1) (set now i new)) ≡ map (kept_by flags) (moves_in letters (take (i + 1) first))
-kept_more {L} {A} letters flags first now i v new below at done rest kept =
-    let same : drop i first ≡ v ∷ drop (i + 1) now = sym rest ∙ drop_more now i v below ∙ ap (λ w. w ∷ drop (i + 1) now) (sym at) in
-    let within : i < length first = omega (arith, ap length same, length-drop i first) in
-    let at_first : get_or first i v ≡ v = cc (drop_more first i v within) in
-    ap (moves_in letters) (take_more_set now i new below) ∙ map_push (λ (w : Vec (Move L) A). map (move_of letters) w.items) (take i now) new
-    ∙ ap (λ l. l ++ map (move_of letters) new.items ∷ []) done
-    ∙ ap (λ m. map (kept_by flags) (moves_in letters (take i first)) ++ m ∷ []) kept
-    ∙ sym (ap (λ l. map (kept_by flags) (moves_in letters l)) (take_more first i v within)
-    ∙ ap (λ w. map (kept_by flags) (moves_in letters (take i first ++ w ∷ []))) at_first
-    ∙ ap (map (kept_by flags)) (map_push (λ (w : Vec (Move L) A). map (move_of letters) w.items) (take i first) v)
-    ∙ map_push (kept_by flags) (moves_in letters (take i first)) (map (move_of letters) v.items))
-
-pub rest_more : {X : Type 0} (first now : List X) (i : ℕ) (new : X) → drop i now ≡ drop i first → drop (i + 1) (set now i new) ≡ drop (i + 1) first
-rest_more first now i new rest =
-    drop-set-lt (i + 1) now i new (omega arith) ∙ sym (drop-drop 1 i now) ∙ ap (drop 1) rest ∙ drop-drop 1 i first
 
 -- of so many with others behind them, as many as there are
 pub whole_taken : {X : Type 0} (n : ℕ) (xs ys : List X) → length xs ≡ n → take n (xs ++ ys) ≡ xs

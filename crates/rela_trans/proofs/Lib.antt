@@ -26,3 +26,6 @@ pub mod ReadLetters
 pub mod SymbolLetters
 pub mod Coaccessible
 pub mod LeadingOn
+pub mod InPlace
+pub mod Detouring
+pub mod Shortening

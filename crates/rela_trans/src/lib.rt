@@ -15,6 +15,7 @@ mod pruned;
 mod reading_finer;
 mod relabel;
 mod relabel_reached;
+mod shortened;
 mod tapes;
 mod transducer;
 
