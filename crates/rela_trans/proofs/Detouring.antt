@@ -8,7 +8,7 @@ use Rattle.std.proofs.lemmas.List.Sums.{sum_by-set}
 use Rattle.std.specs.Option.{unwrap_or}
 use Rattle.rela_nfa.proofs.Moves.{Contains-nil}
 use Rattle.rela_trans.specs.Construction.{silent}
-use Rattle.rela_trans.specs.Detours.{AreEnds, ByDetours, Detours, IsDetour, IsEnd, IsPassed, IsWalked}
+use Rattle.rela_trans.specs.Detours.{ByDetours, Detours, IsDetour, IsEnd, IsPassed, IsWalked}
 use Rattle.rela_trans.specs.Machine.{Machine, IsMachine, IsMove, IsFinal, machine_states, moves_of}
 use Rattle.rela_trans.specs.declared.moves.Move.{Move}
 use Rattle.rela_trans.proofs.Accessors.{moves_ok}
@@ -184,6 +184,13 @@ settled_more old ends path i end below within so_far = (
     here p same = ap (λ n. get_or (set ends x end) n 0) same ∙ get_or-set_same ends x end 0 within
 
 -- ---- all ends
+
+-- from the states whose flag is set detours lead to the ends that stand for them, and others stand for themselves
+pub record AreEnds (t : Machine) (flags : List Bool) (ends : List ℕ) : Type 0 where
+  pub count : length ends ≡ machine_states t
+  pub led : (p : ℕ) → p < machine_states t → Detours t p (get_or ends p 0)
+  pub ended : (p : ℕ) → p < machine_states t → IsPassed flags p → IsEnd t (get_or ends p 0)
+  pub others : (p : ℕ) → p < machine_states t → ¬ IsPassed flags p → get_or ends p 0 ≡ p
 
 module _ (t : Machine) where
   pub ends_none : (flags : List Bool) (ends : List ℕ) → length ends ≡ machine_states t → ((p : ℕ) → p < machine_states t → get_or ends p 0 ≡ p) → ((p : ℕ) → ¬ IsPassed flags p) → AreEnds t flags ends

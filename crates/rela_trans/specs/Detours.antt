@@ -30,13 +30,6 @@ redirected ends move = record { kind = move.kind; to = slice_index ends move.to 
 abbrev pub IsPassed : List Bool → ℕ → Type 0
 IsPassed flags q = IsTrue (slice_index_or flags q false)
 
--- from the states whose flag is set detours lead to the ends that stand for them, and others stand for themselves
-pub record AreEnds (t : Machine) (flags : List Bool) (ends : List ℕ) : Type 0 where
-  pub count : length ends ≡ machine_states t
-  pub led : (p : ℕ) → p < machine_states t → Detours t p (slice_index ends p)
-  pub ended : (p : ℕ) → p < machine_states t → IsPassed flags p → IsEnd t (slice_index ends p)
-  pub others : (p : ℕ) → p < machine_states t → ¬ IsPassed flags p → slice_index ends p ≡ p
-
 -- from the states of the path, which had no flag and now have one, detours lead to the state, which has one too
 pub record IsWalked (t : Machine) (old new : List Bool) (path : List ℕ) (end : ℕ) : Type 0 where
   pub state : end < machine_states t

@@ -3,12 +3,14 @@
 
 mod compose;
 mod copying;
+mod detours;
 mod image_edges;
 mod image_pairs;
 mod imaging;
 mod inverse;
 mod joint;
 mod laws;
+mod leading;
 mod moves;
 mod operations;
 mod pruned;

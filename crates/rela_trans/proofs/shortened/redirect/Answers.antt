@@ -26,7 +26,7 @@ loop-edge-preserved g c =
     let i = c.loop-edge.edge-index in
     let edge = get_or moves i c.edge-item.result in
     record {
-      done = 
+      done =
           each_more (move_of g.L.LabelSet.letters) (redirected c.args.ends.now) c.args.moves.now moves i edge (record edge { to = get_or c.args.ends.now edge.to 0 })
           (omega (arith, c.loop-edge.auto.moves)) (ap (get_or moves i) c.edge-item.is) c.loop-edge.invariant.done c.loop-edge.invariant.rest refl;
       rest = rest_more c.args.moves.now moves i (record edge { to = get_or c.args.ends.now edge.to 0 }) c.loop-edge.invariant.rest;

@@ -1,9 +1,0 @@
-use Rattle.rela_nfa.specs.StateSet.{AreFlagged, Adds}
-use Rattle.rela_trans.proofs.Coaccessible.{IsFinalBelow}
-use Rattle.rela_trans.proofs.pruned.insert_finals.Given as goal
-
-abbrev pub invariant-loop-q : goal.invariant-loop-q
-invariant-loop-q g l = record {
-  flagged : AreFlagged l.flags l.states.items;
-  added : Adds (IsFinalBelow l.t l.q) l.initial.states.items l.states.items;
-}

@@ -1,9 +1,0 @@
-use Rattle.std.proofs.Common.{◌∙◌}
-use Rattle.rela_trans.proofs.Detouring.{walking_more, walking_none, walked, walked_from, one_less}
-use Rattle.rela_trans.proofs.shortened.walk.Goals as goal
-
-pub loop-flags-preserved : goal.loop-flags-preserved
-loop-flags-preserved g c =
-    rw c.in_ok-push.ensures.items
-    (walking_more c.args.t.now c.args.q c.args.flags.now c.loop-flags.flags c.loop-flags.path.items c.loop-flags.end c.next-end.result (c.loop-flags.auto.flags ∙ c.requires.count)
-    c.loop-flags.invariant c.loop-flags-test.true c.next-end.ensures.state c.next-end.ensures.next)
