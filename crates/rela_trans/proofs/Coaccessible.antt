@@ -1,20 +1,19 @@
 -- The states from which moves lead on to a final state, found backwards from the final states.
-use Rattle.std.proofs.Common.{◌≡◌, ℕ, ◌+◌, ◌<◌, ◌≤◌, ◌⊎◌, ◌↔◌, Bool, true, false, IsTrue, cond, List, [], ◌∷◌, ◌++◌, length, get_or, set, map, take, drop, refl, sym, ap, ◌∙◌, subst, inl, inr, arith}
+use Rattle.std.proofs.Common.{◌≡◌, ℕ, ◌+◌, ◌<◌, ◌≤◌, ◌⊎◌, ◌↔◌, Bool, true, false, IsTrue, cond, List, [], ◌∷◌, ◌++◌, length, get_or, set, map, take, refl, sym, ap, ◌∙◌, subst, inl, inr, arith}
 use Rattle.std.specs.List.{All, Contains, filter}
-use Rattle.std.proofs.lemmas.Bool.{cases_lt, cases_eq, both_ways}
+use Rattle.std.proofs.lemmas.Bool.{cases_lt, cases_eq}
 use Rattle.std.proofs.lemmas.List.{append-nil, get_or_append_left, get_or_default, get_or-map, get_or_past, get_or-set_other, get_or-set_same, length-map, map-set, map_push, take-append-le, take_all, take_more}
-use Rattle.std.proofs.lemmas.List.Elements.{All-contains, Contains-append_left, Contains-get_or, Contains-push, Contains-push_cases}
+use Rattle.std.proofs.lemmas.List.Elements.{Contains-append_left, Contains-get_or, Contains-push, Contains-push_cases}
 use Rattle.rela_nfa.specs.StateSet.{AreFlagged, Inserts, Adds}
 use Rattle.rela_nfa.proofs.Flagged.{flag_within}
-use Rattle.rela_nfa.proofs.Growing.{adds_all, adds_both, adds_length}
-use Rattle.rela_nfa.proofs.Moves.{Contains-nil, Contains-map, Contains-map_back}
+use Rattle.rela_nfa.proofs.Growing.{adds_all, adds_both}
+use Rattle.rela_nfa.proofs.Moves.{Contains-nil}
 use Rattle.rela_pairs.specs.Reachable.{Leads, Reachable}
-use Rattle.rela_trans.specs.Coaccessible.{LeadsOn, ends_of, kept_by, list_at, next_states}
-use Rattle.rela_trans.specs.Machine.{Machine, IsMachine, IsMove, IsFinal, machine_states, moves_of}
+use Rattle.rela_trans.specs.Coaccessible.{LeadsOn, ends_of, list_at, next_states}
+use Rattle.rela_trans.specs.Machine.{Machine, IsMachine, IsFinal, machine_states}
 use Rattle.std.specs.declared.vec.Vec.{Vec}
-use Rattle.rela_trans.specs.Stored.{lists_of, move_of, moves_in}
+use Rattle.rela_trans.specs.Stored.{lists_of, move_of}
 use Rattle.rela_trans.specs.declared.moves.Move.{Move}
-use Rattle.rela_trans.proofs.Accessors.{moves_ok}
 
 -- ---- lists of states that grow
 

@@ -9,7 +9,7 @@ use Rattle.rela_trans.specs.Coaccessible.{next_states}
 use Rattle.rela_trans.specs.Construction.{silent}
 use Rattle.rela_trans.specs.Detours.{ByDetours, Detours, IsDetour, IsEnd, redirected}
 use Rattle.rela_trans.specs.Machine.{Machine, Kind, IsMachine, IsMove, IsFinal, machine_states, moves_of}
-use Rattle.rela_trans.specs.Runs.{Step, Does, HasStep, Follow, inputs, outputs, ReachR, Relates}
+use Rattle.rela_trans.specs.Runs.{Step, Does, Follow, inputs, outputs, ReachR, Relates}
 use Rattle.rela_trans.specs.Stored.{move_of, moves_in}
 use Rattle.rela_trans.specs.declared.moves.Move.{Move}
 use Rattle.rela_trans.specs.declared.moves.MoveKind.TheVariants.{Silent}

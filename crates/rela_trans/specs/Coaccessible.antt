@@ -1,6 +1,6 @@
 -- The states from which moves lead on to a final state.
-use Rattle.std.specs.Prelude.{◌≡◌, ℕ, Bool, false, List, [], length, map, slice_index_or}
-use Rattle.std.specs.List.{Contains, filter}
+use Rattle.std.specs.Prelude.{ℕ, Bool, false, List, [], map, slice_index_or}
+use Rattle.std.specs.List.{filter}
 use Rattle.rela_pairs.specs.Reachable.{Reachable}
 use Rattle.rela_trans.specs.Machine.{Machine, moves_of, IsFinal}
 use Rattle.rela_trans.specs.declared.moves.Move.{Move}

@@ -1,5 +1,5 @@
 -- States that a transducer passes without a choice, reading and writing nothing.
-use Rattle.std.specs.Prelude.{◌≡◌, ◌⊎◌, ℕ, ◌<◌, Bool, false, IsTrue, List, [], ◌∷◌, length, slice_index, slice_index_or}
+use Rattle.std.specs.Prelude.{◌≡◌, ◌⊎◌, ℕ, ◌<◌, Bool, false, IsTrue, List, [], ◌∷◌, slice_index, slice_index_or}
 use Rattle.std.specs.List.{Contains}
 use Rattle.rela_trans.specs.Construction.{silent}
 use Rattle.rela_trans.specs.Machine.{Machine, machine_states, moves_of, IsFinal}

@@ -1,9 +1,8 @@
-use Rattle.std.proofs.Common.{◌≡◌, ◌+◌, ◌<◌, ◌++◌, length, get_or, drop, take, ap, sym, ◌∙◌, subst, inl, inr, arith}
-use Rattle.std.specs.List.{All, Contains}
+use Rattle.std.proofs.Common.{◌≡◌, ◌<◌, ◌++◌, length, get_or, drop, take, ap, sym, ◌∙◌, subst, inl, inr, arith}
+use Rattle.std.specs.List.{All}
 use Rattle.std.proofs.lemmas.Bool.{cases_lt}
 use Rattle.std.proofs.lemmas.List.{get_or_default}
 use Rattle.rela_trans.specs.Detours.{IsPassed, IsWalked}
-use Rattle.rela_trans.specs.Machine.{machine_states}
 use Rattle.rela_trans.proofs.Coaccessible.{whole_taken}
 use Rattle.rela_trans.proofs.Detouring.{AreEnds, IsSettled, ends_more, path_below}
 use Rattle.rela_trans.proofs.detours.detour_ends.Goals as goal

@@ -1,5 +1,5 @@
 use Rattle.std.proofs.Common.{◌∙◌}
-use Rattle.rela_trans.proofs.Detouring.{walking_more, walking_none, walked, walked_from, one_less}
+use Rattle.rela_trans.proofs.Detouring.{walking_more}
 use Rattle.rela_trans.proofs.detours.walk.Goals as goal
 
 pub loop-flags-preserved : goal.loop-flags-preserved

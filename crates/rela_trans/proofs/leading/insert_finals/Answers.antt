@@ -1,7 +1,6 @@
-use Rattle.std.proofs.Common.{◌≤◌, ap, sym, subst, ◌∙◌}
+use Rattle.std.proofs.Common.{◌≤◌, subst}
 use Rattle.std.proofs.lemmas.Bool.{both_ways}
-use Rattle.rela_nfa.specs.StateSet.{AreFlagged, Adds}
-use Rattle.rela_trans.proofs.Coaccessible.{IsFinalBelow, finals_all, finals_more, finals_same}
+use Rattle.rela_trans.proofs.Coaccessible.{finals_all, finals_more, finals_same}
 use Rattle.rela_trans.proofs.leading.insert_finals.Goals.{then-is_final+in_ok-insert, else-is_final}
 use Rattle.rela_trans.proofs.leading.insert_finals.Goals as goal
 

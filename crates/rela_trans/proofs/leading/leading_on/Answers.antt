@@ -1,8 +1,8 @@
-use Rattle.std.proofs.Common.{◌≡◌, ℕ, ◌+◌, ◌↔◌, Bool, List, [], ◌++◌, IsTrue, false, length, get_or, drop, take, sym, ◌∙◌, subst, arith}
+use Rattle.std.proofs.Common.{ℕ, ◌↔◌, Bool, List, ◌++◌, IsTrue, false, length, get_or, drop, take, sym, ◌∙◌, subst}
 use Rattle.std.specs.List.{Contains}
 use Rattle.rela_nfa.specs.StateSet.{Adds}
 use Rattle.rela_trans.specs.Coaccessible.{LeadsOn, list_at, next_states}
-use Rattle.rela_trans.specs.Machine.{IsFinal, machine_states}
+use Rattle.rela_trans.specs.Machine.{IsFinal}
 use Rattle.rela_trans.specs.Stored.{lists_of}
 use Rattle.rela_trans.proofs.Coaccessible.{leading, states_led, whole_taken}
 use Rattle.rela_trans.proofs.leading.leading_on.Goals as goal

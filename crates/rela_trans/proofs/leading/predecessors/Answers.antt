@@ -1,4 +1,4 @@
-use Rattle.std.proofs.Common.{◌≤◌, List, ap, subst, ◌∙◌}
+use Rattle.std.proofs.Common.{◌≤◌, subst, ◌∙◌}
 use Rattle.rela_trans.specs.Coaccessible.{ends_of}
 use Rattle.rela_trans.specs.Stored.{lists_of}
 use Rattle.rela_trans.proofs.Coaccessible.{IsPutAt, turned_all, turned_more}

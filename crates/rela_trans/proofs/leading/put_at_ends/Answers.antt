@@ -1,8 +1,8 @@
-use Rattle.std.proofs.Common.{◌≡◌, ◌+◌, ◌<◌, [], ◌∷◌, ◌++◌, length, get_or, map, set, take, ap, sym, ◌∙◌, subst}
+use Rattle.std.proofs.Common.{◌+◌, ◌<◌, length, map, take, sym, ◌∙◌, subst}
 use Rattle.std.proofs.lemmas.List.{length-set, take_all}
 use Rattle.rela_trans.specs.Coaccessible.{ends_of}
 use Rattle.rela_trans.specs.Stored.{lists_of, move_of}
-use Rattle.rela_trans.proofs.Coaccessible.{IsPutAt, put_more, put_pushed, ends_more}
+use Rattle.rela_trans.proofs.Coaccessible.{IsPutAt, put_pushed, ends_more}
 use Rattle.rela_trans.proofs.leading.put_at_ends.Goals as goal
 
 pub loop-edge-preserved : goal.loop-edge-preserved

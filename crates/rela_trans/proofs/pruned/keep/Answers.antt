@@ -1,5 +1,4 @@
-use Rattle.std.proofs.Common.{◌≡◌, false, get_or, map, ap, ◌∙◌, rules}
-use Rattle.std.specs.List.{filter}
+use Rattle.std.proofs.Common.{false, get_or, map, ap, ◌∙◌, rules}
 use Rattle.std.proofs.lemmas.Fn.{filter_same}
 use Rattle.rela_trans.specs.Stored.{move_of}
 use Rattle.rela_trans.proofs.Coaccessible.{map-filter}

@@ -1,4 +1,4 @@
-use Rattle.std.proofs.Common.{◌≡◌, get_or, map, ap, arith}
+use Rattle.std.proofs.Common.{get_or, map, ap, arith}
 use Rattle.rela_trans.specs.Coaccessible.{kept_by}
 use Rattle.rela_trans.specs.Stored.{move_of}
 use Rattle.rela_trans.proofs.InPlace.{each_more, rest_more}

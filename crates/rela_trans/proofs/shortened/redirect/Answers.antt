@@ -2,7 +2,6 @@ use Rattle.std.proofs.Common.{◌<◌, length, get_or, ap, subst, arith, refl}
 use Rattle.rela_trans.specs.Detours.{redirected}
 use Rattle.rela_trans.specs.Stored.{move_of}
 use Rattle.rela_trans.proofs.InPlace.{at_first, each_more, rest_more}
-use Rattle.rela_trans.proofs.shortened.redirect.Given.{Over}
 use Rattle.rela_trans.proofs.shortened.redirect.Goals as goal
 
 pub bounds-ends-edge : goal.bounds-ends-edge

@@ -1,4 +1,4 @@
-use Rattle.std.proofs.Common.{◌≡◌, length, get_or, map, drop, ap, sym, ◌∙◌, arith}
+use Rattle.std.proofs.Common.{length, get_or, map, drop, ap, ◌∙◌, arith}
 use Rattle.std.specs.Vec.{with_items}
 use Rattle.rela_trans.specs.Detours.{redirected}
 use Rattle.rela_trans.specs.Stored.{move_of}

@@ -1,4 +1,4 @@
-use Rattle.std.proofs.Common.{◌≡◌, ◌++◌, length, drop, map, take, ap, sym, ◌∙◌, subst, arith}
+use Rattle.std.proofs.Common.{◌++◌, length, drop, map, take, ap, ◌∙◌, subst}
 use Rattle.rela_trans.specs.Coaccessible.{kept_by}
 use Rattle.rela_trans.specs.Machine.{Machine, IsMachine}
 use Rattle.rela_trans.specs.Stored.{moves_in}
