@@ -24,3 +24,8 @@ pub mod WrittenEdges
 pub mod ImageMade
 pub mod ReadLetters
 pub mod SymbolLetters
+pub mod Coaccessible
+pub mod LeadingOn
+pub mod InPlace
+pub mod Detouring
+pub mod Shortening

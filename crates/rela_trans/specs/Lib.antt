@@ -1,5 +1,7 @@
+pub mod Coaccessible
 pub mod Composition
 pub mod Construction
+pub mod Detours
 pub mod ImageMoves
 pub mod Images
 pub mod Machine

@@ -3,17 +3,21 @@
 
 mod compose;
 mod copying;
+mod detours;
 mod image_edges;
 mod image_pairs;
 mod imaging;
 mod inverse;
 mod joint;
 mod laws;
+mod leading;
 mod moves;
 mod operations;
+mod pruned;
 mod reading_finer;
 mod relabel;
 mod relabel_reached;
+mod shortened;
 mod tapes;
 mod transducer;
 

@@ -95,6 +95,11 @@ fn leads_on(table: &Table, q: usize) -> bool {
     q < table.states() && !table.moves(q).is_empty()
 }
 
+/// Whether some move leads from the one state to the other.
+fn leads_to(table: &Table, q: usize, to: usize) -> bool {
+    q < table.states() && table.moves(q).iter().any(|edge| edge.to == to)
+}
+
 #[test]
 fn states_that_are_read(rt: HostRuntime) -> Result<(), Fail> {
     let alloc = rt.alloc();
@@ -111,5 +116,22 @@ fn states_that_are_read(rt: HostRuntime) -> Result<(), Fail> {
     assert_eq!(rt; none.states(), 4);
     assert!(rt; leads_on(&none, 0));
     assert!(rt; !leads_on(&none, 2));
+    assert!(rt; one.pruned(alloc)?.relates(alloc, &[1], &[2])?);
+    assert!(rt; !leads_on(&none.pruned(alloc)?, 0));
+    Ok(())
+}
+
+#[test]
+fn detours_left_out(rt: HostRuntime) -> Result<(), Fail> {
+    let alloc = rt.alloc();
+    let a = letter(alloc, 3, 0)?;
+    let b = letter(alloc, 3, 1)?;
+    // It reads from 0 to 1, goes on silently to 2, and writes from 2 to 3.
+    let turned: Table = Transducer::product(alloc, &a, &b)?;
+    assert!(rt; leads_to(&turned, 0, 1));
+    let short = turned.shortened(alloc)?;
+    assert!(rt; leads_to(&short, 0, 2));
+    assert!(rt; !leads_to(&short, 0, 1));
+    assert!(rt; short.relates(alloc, &[0], &[1])?);
     Ok(())
 }
