@@ -12,8 +12,8 @@ use rela_rir::RelTerm;
 use rela_trans::Transducer;
 use std::alloc::{AllocError, Global};
 
-/// The pairs of the term. The transducer is made once and walked beside the paths of each flow, so it
-/// has no move that leads to no final state, and no silent detour that one state alone leads out of.
+/// The pairs of the term. The transducer is made once and walked beside the paths of each flow, so the
+/// moves that lead to no final state are left out, and its silent detours too.
 pub(crate) fn relation_of(
     alloc: Global,
     term: &RelTerm,
