@@ -11,6 +11,3 @@ mod verdict;
 pub use comparison::{equal, included};
 pub use rela_nfa::BuildError;
 pub use verdict::{Verdict, Which};
-
-#[cfg(test)]
-mod tests;

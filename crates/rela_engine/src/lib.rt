@@ -20,6 +20,3 @@ mod witnesses;
 
 pub use compiled::{Compiled, compile};
 pub use decision::{decide, decide_compiled};
-
-#[cfg(test)]
-mod tests;

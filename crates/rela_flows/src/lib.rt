@@ -10,6 +10,3 @@ pub use planning::{PlannedRow, plan};
 pub use predicate::{FlowClass, Predicate};
 pub use prefix::{Ipv4Prefix, Ipv6Prefix, Prefix};
 pub use selection::selects;
-
-#[cfg(test)]
-mod tests;

@@ -18,8 +18,3 @@ mod reach;
 pub use graph::{Graph, MAX_EDGES, MAX_NODES};
 pub use node::{Link, Node};
 pub use outline::LevelGraph;
-
-#[cfg(test)]
-mod outline_tests;
-#[cfg(test)]
-mod tests;

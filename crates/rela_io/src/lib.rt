@@ -20,6 +20,3 @@ pub use outside::{Files, Sink};
 pub use reading::read_all;
 pub use std_sink::StdSink;
 pub use writing::write_all;
-
-#[cfg(test)]
-mod tests;

@@ -11,6 +11,3 @@ pub use indexes::index_list;
 pub use parts::{array, member, number, text};
 pub use reading::read;
 pub use serde_json::Value;
-
-#[cfg(test)]
-mod tests;

@@ -19,6 +19,3 @@ pub use label_set::LabelSet;
 pub use partition::Partition;
 pub use splitter::Splitter;
 pub use wide_set::WideSet;
-
-#[cfg(test)]
-mod tests;

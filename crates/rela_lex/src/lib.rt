@@ -5,8 +5,6 @@ mod cut;
 mod error;
 mod front;
 mod readings;
-#[cfg(test)]
-mod tests;
 mod token;
 
 pub use cut::{MAX_TEXT_LEN, tokens};

@@ -17,6 +17,3 @@ mod walk;
 
 pub use locations::Locations;
 pub use members::{By, MemberError};
-
-#[cfg(test)]
-mod tests;

@@ -14,6 +14,3 @@ mod signature;
 mod signatures;
 
 pub use minimising::minimise;
-
-#[cfg(test)]
-mod tests;

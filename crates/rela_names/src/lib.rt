@@ -20,6 +20,3 @@ pub use shortlex::{
     WordSet, first_is_unique, shortlex_is_irreflexive, shortlex_is_total, shortlex_is_transitive,
 };
 pub use word::{Symbol, Word};
-
-#[cfg(test)]
-mod tests;

@@ -19,6 +19,3 @@ pub use edge::Edge;
 pub use nfa::Nfa;
 pub use rela_pairs::BuildError;
 pub use relabel::{parents_of, relabelled_set};
-
-#[cfg(test)]
-mod tests;

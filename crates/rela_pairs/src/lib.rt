@@ -14,6 +14,3 @@ pub use explored::Explored;
 pub use exploring::explore;
 pub use pair::Pair;
 pub use successors::Successors;
-
-#[cfg(test)]
-mod tests;

@@ -8,6 +8,3 @@ mod texts;
 pub use rows::{ReportRow, Row, Side};
 pub use statuses::{STATUS_MET, STATUS_UNDECIDED, STATUS_VIOLATED, status};
 pub use texts::{text, total};
-
-#[cfg(test)]
-mod tests;

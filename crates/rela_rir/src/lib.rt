@@ -21,6 +21,3 @@ pub use limit_laws::{Staging, forced_is_licensed, places_tell_what_follows};
 pub use set::SymbolSet;
 pub use size::{depth, nodes};
 pub use term::{PathTerm, RelTerm};
-
-#[cfg(test)]
-mod tests;

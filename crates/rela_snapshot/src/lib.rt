@@ -15,6 +15,3 @@ mod walk;
 
 pub use pairing::{FlowPair, PairError, pair};
 pub use snapshot::{MAX_FLOWS, Snapshot};
-
-#[cfg(test)]
-mod tests;

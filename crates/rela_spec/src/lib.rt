@@ -11,6 +11,3 @@ pub use laws::{canonical_texts_are_read, grammar_is_unambiguous};
 pub use parsing::parse;
 pub use printing::print;
 pub use tree::{Item, Member, Modifier, PathExpr, SpecExpr, SpecFile};
-
-#[cfg(test)]
-mod tests;

@@ -26,6 +26,3 @@ pub use opposite::complement;
 pub use rela_nfa::BuildError;
 pub use search::first_word;
 pub use wanted::Wanted;
-
-#[cfg(test)]
-mod tests;

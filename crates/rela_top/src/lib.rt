@@ -28,8 +28,3 @@ pub use reporting::report;
 pub use rows::rows_of;
 pub use running::run;
 pub use words::{Command, read_words};
-
-#[cfg(test)]
-mod row_tests;
-#[cfg(test)]
-mod tests;

@@ -26,6 +26,3 @@ pub use laws::{letters_give_symbols, symbols_give_letters};
 pub use moves::{Move, MoveKind};
 pub use rela_pairs::BuildError;
 pub use transducer::Transducer;
-
-#[cfg(test)]
-mod tests;

@@ -17,6 +17,3 @@ pub use laws::{
     terms_mean_the_body,
 };
 pub use translation::{Relations, translate, zone_term};
-
-#[cfg(test)]
-mod tests;

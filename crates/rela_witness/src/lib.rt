@@ -13,6 +13,3 @@ mod sources;
 
 pub use related::least_source;
 pub use shortest::least_word;
-
-#[cfg(test)]
-mod tests;
