@@ -2,3 +2,4 @@ pub mod Distinct
 pub mod Numbering
 pub mod Parting
 pub mod Steps
+pub mod Telling

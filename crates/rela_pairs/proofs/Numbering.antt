@@ -65,7 +65,7 @@ grows_both xs ys old mid new first second within = (
   All-append (Contains xs) first.0 second.0 first.2 (All-weaker (Contains ys) (Contains xs) within second.0 second.2),
 )
 
-only_one : {X : Type 0} (x y : X) → Contains (x ∷ []) y → x ≡ y
+pub only_one : {X : Type 0} (x y : X) → Contains (x ∷ []) y → x ≡ y
 only_one x y (zero, below, is) = is
 only_one x y (suc k, below, is) = absurd (omega (arith, below))
 

@@ -18,7 +18,9 @@ impl Model for Explored {
 
     ghost Value = { Exploration };
 
-    ghost view = { λ e. record { pairs = e.found; targets = e.targets } };
+    ghost use Rattle.rela_pairs.specs.Keeping.{pairs_of};
+
+    ghost view = { λ e. record { pairs = pairs_of e.found; targets = e.targets } };
 }
 
 impl Explored {

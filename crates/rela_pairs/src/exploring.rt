@@ -38,7 +38,7 @@ pub fn explore<S: Successors>(
     ensures limit { IfErr result (λ e. e ≡ BuildError.Limit → MoreThan limit (Reachable (S.next successors.now) start)) }
     ensures greatest { limit ≡ usize.MAX → IfErr result (λ e. e ≢ BuildError.Limit) }
 {
-    let mut found = Found::new(alloc);
+    let mut found = Found::new(alloc, successors.shape())?;
     found.number(start, limit)?;
     let mut targets = Lists::new(alloc);
     let mut followers = Vec::new(alloc);

@@ -1,63 +1,76 @@
 ghost use Rattle.std.specs.Prelude.{◌≡◌, ◌<◌, ◌≤◌, ◌^◌, [], ◌∷◌, Some, IfOk, IfErr, OnOk, length, slice_get};
+ghost use Rattle.std.specs.List.{All};
 ghost use Rattle.rela_pairs.specs.Finding.{Finds, GrowsBy, AreNumbers, Passes};
+ghost use Rattle.rela_pairs.specs.Keeping.{pairs_of, Takes};
+ghost use Rattle.rela_pairs.specs.Places.{Fits};
 ghost use Rattle.rela_pairs.specs.Reachable.{AreDistinct};
+ghost use Rattle.rela_pairs.specs.declared.pair.Pair.{Pair};
 
 use crate::errors::BuildError;
+use crate::hashed::Hashed;
 use crate::pair::Pair;
-use indexmap::IndexSet;
-use std::alloc::Global;
-use std::marker::Model;
+use crate::shape::Shape;
+use crate::table::Table;
+use std::alloc::{AllocError, Global};
 
-/// The pairs that were found, each once, numbered in the order in which they came and looked up by
-/// their hash. Contracts see it as the list of them.
+/// The pairs that were found, each once, numbered in the order in which they came. They are looked up
+/// in a table where there can't be many, and else by their hash.
 #[derive(Drop)]
-pub(crate) struct Found {
-    pairs: IndexSet<Pair>,
-}
-
-impl Model for Found {
-    ghost use Rattle.std.specs.Prelude.{List};
-    ghost use Rattle.rela_pairs.specs.declared.pair.Pair.{Pair};
-    ghost use Rattle.rela_pairs.specs.Reachable.{AreDistinct};
-
-    ghost Value = { List Pair };
-
-    ghost view = { λ found. found.pairs.keys };
-
-    ghost invariant = { λ found. AreDistinct found.pairs.keys };
+pub(crate) enum Found {
+    Tabled(Table),
+    Hashed(Hashed),
 }
 
 impl Found {
-    /// No pair.
-    pub(crate) fn new(alloc: Global) -> Found
-        ensures { result ≡ [] }
+    /// No pair. Those that fit the shape can be put in.
+    pub(crate) fn new(alloc: Global, shape: Shape) -> Result<Found, AllocError>
+        ensures none { IfOk result (λ found. pairs_of found ≡ []) }
+        ensures takes { IfOk result (λ found. (x : Pair) → Fits shape x → Takes found x) }
     {
-        Found {
-            pairs: IndexSet::new(alloc),
+        match shape.table_places() {
+            Some(places) => Ok(Found::Tabled(Table::new(alloc, shape, places)?)),
+            None => Ok(Found::Hashed(Hashed::new(alloc))),
         }
     }
 
     /// The pairs, in the order of their numbers.
     pub(crate) fn pairs(&self) -> &[Pair]
-        ensures pairs { result.now ≡ self.now }
-        ensures distinct { AreDistinct self.now }
-        ensures few { length self.now < 2 ^ 63 }
+        ensures pairs { result.now ≡ pairs_of self.now }
+        ensures distinct { AreDistinct (pairs_of self.now) }
+        ensures few { length (pairs_of self.now) < 2 ^ 63 }
     {
-        let _ = self.pairs.len();
-        self.pairs.as_slice()
+        match self {
+            Found::Tabled(table) => table.pairs(),
+            Found::Hashed(hashed) => hashed.pairs(),
+        }
+    }
+
+    /// The number of a pair, which is put in unless it is there.
+    fn find(&mut self, pair: Pair) -> Result<usize, AllocError>
+        requires { Takes self.old pair }
+        ensures numbered { IfOk result (λ number. slice_get (pairs_of self.new) number ≡ Some pair) }
+        ensures finds { IfOk result (λ _. Finds (pairs_of self.old) (pairs_of self.new) pair) }
+        ensures takes { (x : Pair) → Takes self.old x → Takes self.new x }
+    {
+        match self {
+            Found::Tabled(table) => table.number(pair),
+            Found::Hashed(hashed) => hashed.number(pair),
+        }
     }
 
     /// The number of a pair, which is put in unless it is there. Limit where there is then one more
     /// than the limit.
     pub(crate) fn number(&mut self, pair: Pair, limit: usize) -> Result<usize, BuildError>
-        requires { length self.old ≤ limit }
-        ensures numbered { IfOk result (λ number. slice_get self.new number ≡ Some pair) }
-        ensures finds { IfOk result (λ _. Finds self.old self.new pair) }
-        ensures few { IfOk result (λ _. length self.new ≤ limit) }
-        ensures limit { IfErr result (λ e. e ≡ BuildError.Limit → Passes limit (pair ∷ []) self.old self.new) }
+        requires few { length (pairs_of self.old) ≤ limit }
+        requires takes { Takes self.old pair }
+        ensures numbered { IfOk result (λ number. slice_get (pairs_of self.new) number ≡ Some pair) }
+        ensures finds { IfOk result (λ _. Finds (pairs_of self.old) (pairs_of self.new) pair) }
+        ensures few { IfOk result (λ _. length (pairs_of self.new) ≤ limit) }
+        ensures limit { IfErr result (λ e. e ≡ BuildError.Limit → Passes limit (pair ∷ []) (pairs_of self.old) (pairs_of self.new)) }
+        ensures takes { (x : Pair) → Takes self.old x → Takes self.new x }
     {
-        let (number, _) = self.pairs.insert_full(pair)?;
-        if self.pairs.len() > limit {
+        let number = self.find(pair)?;
+        if self.pairs().len() > limit {
             return Err(BuildError::Limit);
         }
         Ok(number)
@@ -70,11 +83,13 @@ impl Found {
         limit: usize,
         numbers: &mut Vec<usize>,
     ) -> Result<(), BuildError>
-        requires { length self.old ≤ limit }
-        ensures numbers { OnOk result (AreNumbers self.new pairs.now numbers.new.items) }
-        ensures grows { OnOk result (GrowsBy pairs.now self.old self.new) }
-        ensures few { OnOk result (length self.new ≤ limit) }
-        ensures limit { IfErr result (λ e. e ≡ BuildError.Limit → Passes limit pairs.now self.old self.new) }
+        requires few { length (pairs_of self.old) ≤ limit }
+        requires takes { All (Takes self.old) pairs.now }
+        ensures numbers { OnOk result (AreNumbers (pairs_of self.new) pairs.now numbers.new.items) }
+        ensures grows { OnOk result (GrowsBy pairs.now (pairs_of self.old) (pairs_of self.new)) }
+        ensures few { OnOk result (length (pairs_of self.new) ≤ limit) }
+        ensures limit { IfErr result (λ e. e ≡ BuildError.Limit → Passes limit pairs.now (pairs_of self.old) (pairs_of self.new)) }
+        ensures takes { (x : Pair) → Takes self.old x → Takes self.new x }
     {
         numbers.clear();
         for pair in pairs {

@@ -5,12 +5,16 @@ mod errors;
 mod explored;
 mod exploring;
 mod found;
+mod hashed;
 mod lists;
 mod pair;
+mod shape;
 mod successors;
+mod table;
 
 pub use errors::BuildError;
 pub use explored::Explored;
 pub use exploring::explore;
 pub use pair::Pair;
+pub use shape::Shape;
 pub use successors::Successors;

@@ -1,8 +1,10 @@
 ghost use Rattle.std.specs.Prelude.{◌≡◌, ◌++◌, List, OnOk};
 ghost use Rattle.std.specs.List.{All};
+ghost use Rattle.rela_pairs.specs.Places.{Fits};
 ghost use Rattle.rela_pairs.specs.declared.pair.Pair.{Pair};
 
 use crate::pair::Pair;
+use crate::shape::Shape;
 use std::alloc::{AllocError, Global};
 
 /// What follows a pair of states. Contracts see it as `next`, and `is_pair` says of which pairs it
@@ -13,6 +15,10 @@ pub trait Successors {
 
     // the pairs that follow, in order
     ghost next: { Self → Pair → List Pair };
+
+    /// How many states there are on each side, at least one more than the greatest in a pair.
+    fn shape(&self) -> Shape
+        ensures fits { (x : Pair) → is_pair self.now x → Fits result x };
 
     /// Puts the pairs that follow behind those that are there, in order; a pair may come more than
     /// once.
