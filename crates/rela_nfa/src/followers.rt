@@ -8,7 +8,7 @@ ghost use Rattle.rela_nfa.specs.Stored.{move_of};
 use crate::edge::Edge;
 use crate::nfa::Nfa;
 use rela_labels::LabelSet;
-use rela_pairs::{Pair, Successors};
+use rela_pairs::{Pair, Shape, Successors};
 use std::alloc::{AllocError, Global};
 
 /// Two automata over the same letters, of which pairs of states follow pairs of states.
@@ -23,6 +23,13 @@ impl<'a, L: LabelSet> Successors for Meeting<'a, L> {
         × (pair.left < states meeting.first.now) × (pair.right < states meeting.second.now) };
 
     ghost next = { λ meeting pair. next_pairs meeting.first.now meeting.second.now pair };
+
+    fn shape(&self) -> Shape {
+        Shape {
+            lefts: self.first.states(),
+            rights: self.second.states(),
+        }
+    }
 
     fn add_next(
         &self,
