@@ -12,7 +12,7 @@ use crate::joint::{JointMove, add_first, add_second, add_with};
 use crate::moves::Move;
 use crate::transducer::Transducer;
 use rela_labels::LabelSet;
-use rela_pairs::{BuildError, Explored, Pair, Successors, explore};
+use rela_pairs::{BuildError, Explored, Pair, Shape, Successors, explore};
 use std::alloc::{AllocError, Global};
 
 /// The moves that two transducers over the same letters make together from a pair of their states.
@@ -71,6 +71,13 @@ impl<'a, L: LabelSet> Successors for Composing<'a, L> {
         × (pair.left < machine_states composing.first.now) × (pair.right < machine_states composing.second.now) };
 
     ghost next = { λ composing pair. next_pairs composing.first.now composing.second.now pair };
+
+    fn shape(&self) -> Shape {
+        Shape {
+            lefts: self.first.states(),
+            rights: self.second.states(),
+        }
+    }
 
     fn add_next(
         &self,

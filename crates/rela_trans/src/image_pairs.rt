@@ -14,7 +14,7 @@ use crate::moves::{Move, MoveKind};
 use crate::transducer::Transducer;
 use rela_labels::LabelSet;
 use rela_nfa::{Edge, Nfa};
-use rela_pairs::{Pair, Successors};
+use rela_pairs::{Pair, Shape, Successors};
 use std::alloc::{AllocError, Global};
 
 /// A transducer that reads the words of an automaton, over the same letters. Pairs of their states
@@ -30,6 +30,13 @@ impl<'a, L: LabelSet> Successors for ReadingSources<'a, L> {
         × (pair.left < states reading.source.now) × (pair.right < machine_states reading.transducer.now) };
 
     ghost next = { λ reading pair. next_pairs (source_of reading.source.now) reading.transducer.now pair };
+
+    fn shape(&self) -> Shape {
+        Shape {
+            lefts: self.source.states(),
+            rights: self.transducer.states(),
+        }
+    }
 
     fn add_next(
         &self,

@@ -12,7 +12,7 @@ use crate::moves::{Move, MoveKind};
 use crate::transducer::Transducer;
 use rela_labels::LabelSet;
 use rela_nfa::{Edge, Nfa};
-use rela_pairs::{Pair, Successors};
+use rela_pairs::{Pair, Shape, Successors};
 use std::alloc::{AllocError, Global};
 
 /// A transducer that reads the words of an automaton whose letters are finer: `parents` gives for
@@ -30,6 +30,13 @@ impl<'a, L: LabelSet, M: LabelSet> Successors for ReadingFiner<'a, L, M> {
         × (pair.left < states reading.sources.now) × (pair.right < machine_states reading.transducer.now) };
 
     ghost next = { λ reading pair. reading_pairs reading.parents.now reading.sources.now reading.transducer.now pair };
+
+    fn shape(&self) -> Shape {
+        Shape {
+            lefts: self.sources.states(),
+            rights: self.transducer.states(),
+        }
+    }
 
     fn add_next(
         &self,
