@@ -1,0 +1,31 @@
+//! Sets of three letters, and the automata of their words of one letter.
+
+ghost use Rattle.std.specs.Prelude.{◌≡◌, IfOk, length};
+
+use rela_labels::{BlockSet, LabelSet};
+use rela_nfa::Nfa;
+use std::alloc::{AllocError, Global};
+
+pub(crate) type Letters = BlockSet<1>;
+
+pub(crate) type Table = Nfa<Letters>;
+
+/// The set of these of three letters.
+pub(crate) fn set_of(alloc: Global, letters: &[u32]) -> Result<Letters, AllocError>
+    ensures { IfOk result (λ set. length set ≡ 3) }
+{
+    let mut set = Letters::none(alloc, 3)?;
+    for letter in letters {
+        if *letter < 3 {
+            set.add(alloc, *letter)?;
+        }
+    }
+    Ok(set)
+}
+
+/// The words of one of these of three letters.
+pub(crate) fn class(alloc: Global, letters: &[u32]) -> Result<Table, AllocError>
+    ensures { IfOk result (λ nfa. nfa.letters ≡ 3) }
+{
+    Nfa::class(alloc, 3, &set_of(alloc, letters)?)
+}

@@ -1,0 +1,147 @@
+//! The tokens of texts.
+
+use rela_lex::{MAX_TEXT_LEN, SpecError, Token, TokenKind, tokens};
+use std::alloc::{AllocError, Global};
+use std::process::Abort;
+use std::test::Fail;
+
+/// Adds the token to a line: its offset, and its text.
+fn push_token(line: &mut String, token: &Token) -> Result<(), AllocError> {
+    let at = token.at;
+    write!(line, " {at}:")?;
+    match &token.kind {
+        TokenKind::Mark(byte) => line.push(char::from(*byte)),
+        TokenKind::Bare(name) => push_bytes(line, name.as_bytes()),
+        TokenKind::Quoted(name) => {
+            line.push('"')?;
+            push_bytes(line, name.as_bytes())
+        }
+        TokenKind::Reference(name) => {
+            line.push('$')?;
+            push_bytes(line, name.as_bytes())
+        }
+    }
+}
+
+fn push_bytes(line: &mut String, bytes: &[u8]) -> Result<(), AllocError> {
+    for byte in bytes {
+        line.push(char::from(*byte))?;
+    }
+    Ok(())
+}
+
+fn outline(rt: &impl Abort, alloc: Global, text: &[u8]) -> Result<String, SpecError> {
+    assert!(rt; text.len() <= MAX_TEXT_LEN);
+    let mut line = String::new(alloc);
+    for token in &tokens(alloc, text)? {
+        push_token(&mut line, token)?;
+    }
+    Ok(line)
+}
+
+/// Where the text has its fault.
+fn fault(rt: &impl Abort, alloc: Global, text: &[u8]) -> Option<u32> {
+    assert!(rt; text.len() <= MAX_TEXT_LEN);
+    match tokens(alloc, text) {
+        Err(SpecError::BadToken { at }) => Some(at),
+        _ => None,
+    }
+}
+
+#[test]
+fn tokens_of_each_kind(rt: HostRuntime) -> Result<(), Fail> {
+    let line = outline(&rt, rt.alloc(), b"path p = (\"drop\"*\t| $q)?;\r\n")?;
+    assert_eq!(rt;
+        line.as_str(),
+        " 0:path 5:p 7:= 9:( 10:\"drop 16:* 18:| 20:$q 22:) 23:? 24:;"
+    );
+    let line = outline(&rt, rt.alloc(), b"{}[]^+!&,\"a\"b$c\"d\"")?;
+    assert_eq!(rt;
+        line.as_str(),
+        " 0:{ 1:} 2:[ 3:] 4:^ 5:+ 6:! 7:& 8:, 9:\"a 12:b 13:$c 15:\"d"
+    );
+    let line = outline(&rt, rt.alloc(), b"")?;
+    assert_eq!(rt; line.as_str(), "");
+    Ok(())
+}
+
+#[test]
+fn dots_and_colons(rt: HostRuntime) -> Result<(), Fail> {
+    let line = outline(&rt, rt.alloc(), b". : .. a:b .a a. .*:(:)")?;
+    assert_eq!(rt;
+        line.as_str(),
+        " 0:. 2:: 4:.. 7:a:b 11:.a 14:a. 17:. 18:* 19:: 20:( 21:: 22:)"
+    );
+    let line = outline(&rt, rt.alloc(), b"$. \":\" .")?;
+    assert_eq!(rt; line.as_str(), " 0:$. 3:\": 7:.");
+    Ok(())
+}
+
+#[test]
+fn comments_of_any_bytes(rt: HostRuntime) -> Result<(), Fail> {
+    let line = outline(&rt, rt.alloc(), b"a#b\r\xff\"$ @\nc# \x00\x80\xc3")?;
+    assert_eq!(rt; line.as_str(), " 0:a 10:c");
+    let line = outline(&rt, rt.alloc(), b"#")?;
+    assert_eq!(rt; line.as_str(), "");
+    Ok(())
+}
+
+#[test]
+fn the_first_fault(rt: HostRuntime) -> Result<(), Fail> {
+    let alloc = rt.alloc();
+    assert_eq!(rt; fault(&rt, alloc, b"a \"b"), Some(2));
+    assert_eq!(rt; fault(&rt, alloc, b"a \"\""), Some(2));
+    assert_eq!(rt; fault(&rt, alloc, b"\"b c\""), Some(0));
+    assert_eq!(rt; fault(&rt, alloc, b"ab $"), Some(3));
+    assert_eq!(rt; fault(&rt, alloc, b"ab $ c @"), Some(3));
+    assert_eq!(rt; fault(&rt, alloc, b"a@b"), Some(1));
+    assert_eq!(rt; fault(&rt, alloc, b"# \xc3\n \xc3"), Some(5));
+    assert_eq!(rt; fault(&rt, alloc, b"a\x0b"), Some(1));
+    assert_eq!(rt; fault(&rt, alloc, b"path p = .;"), None);
+    Ok(())
+}
+
+/// Bytes before and behind a name of so many bytes.
+fn around_name(
+    alloc: Global,
+    before: &[u8],
+    len: usize,
+    after: &[u8],
+) -> Result<Vec<u8>, AllocError> {
+    let mut text = Vec::from_slice(alloc, before)?;
+    for _ in 0..len {
+        text.push(b'n')?;
+    }
+    text.extend_from_slice(after)?;
+    Ok(text)
+}
+
+#[test]
+fn names_of_64_bytes_and_more(rt: HostRuntime) -> Result<(), Fail> {
+    let alloc = rt.alloc();
+    assert_eq!(rt;
+        fault(&rt, alloc, &around_name(alloc, b"; ", 64, b"")?),
+        None
+    );
+    assert_eq!(rt;
+        fault(&rt, alloc, &around_name(alloc, b"; ", 65, b"")?),
+        Some(2)
+    );
+    assert_eq!(rt;
+        fault(&rt, alloc, &around_name(alloc, b" $", 64, b"")?),
+        None
+    );
+    assert_eq!(rt;
+        fault(&rt, alloc, &around_name(alloc, b" $", 65, b"")?),
+        Some(1)
+    );
+    assert_eq!(rt;
+        fault(&rt, alloc, &around_name(alloc, b"\"", 64, b"\"")?),
+        None
+    );
+    assert_eq!(rt;
+        fault(&rt, alloc, &around_name(alloc, b"\"", 65, b"\"")?),
+        Some(0)
+    );
+    Ok(())
+}

@@ -1,0 +1,126 @@
+//! Canonical texts, and refusals of the grammar.
+
+use rela_lex::{MAX_TEXT_LEN, SpecError, tokens};
+use rela_spec::{parse, print};
+use std::alloc::{AllocError, Global};
+use std::process::Abort;
+use std::test::Fail;
+
+/// The canonical text of the specification that a text spells.
+fn canonical(rt: &impl Abort, alloc: Global, text: &[u8]) -> Result<Vec<u8>, SpecError> {
+    assert!(rt; text.len() <= MAX_TEXT_LEN);
+    let tokens = tokens(alloc, text)?;
+    let file = parse(alloc, tokens.as_slice(), text.len() as u32)?;
+    Ok(print(alloc, &file)?)
+}
+
+/// Says that the text has this canonical text, which is its own canonical text.
+fn becomes(rt: &impl Abort, alloc: Global, text: &[u8], wanted: &[u8]) -> Result<(), SpecError> {
+    let found = canonical(rt, alloc, text)?;
+    assert_eq!(rt; found.as_slice(), wanted);
+    let again = canonical(rt, alloc, wanted)?;
+    assert_eq!(rt; again.as_slice(), wanted);
+    Ok(())
+}
+
+/// Says that the text is refused so.
+fn refused(rt: &impl Abort, alloc: Global, text: &[u8], fault: SpecError) {
+    let found = canonical(rt, alloc, text).err();
+    assert_eq!(rt; found, Some(fault));
+}
+
+#[test]
+fn canonical_texts(rt: HostRuntime) -> Result<(), Fail> {
+    let alloc = rt.alloc();
+    becomes(&rt, alloc, b"", b"level interface;\n")?;
+    becomes(
+        &rt,
+        alloc,
+        b"spec s = ({ (a) | b c : preserve }); # x",
+        b"level interface;\nspec s = { a | b c : preserve };\n",
+    )?;
+    becomes(
+        &rt,
+        alloc,
+        b"check atmost c : { (.) : ignore(a) };",
+        b"level interface;\ncheck atmost c : { . : ignore(a) };\n",
+    )?;
+    Ok(())
+}
+
+#[test]
+fn canonical_paths(rt: HostRuntime) -> Result<(), Fail> {
+    let alloc = rt.alloc();
+    becomes(
+        &rt,
+        alloc,
+        b"level group;path \"path\"=()((a|b)&c d)|[^drop loop tag(t)]!(!$p*)?;path q=((a*)+){0}|[];",
+        b"level group;\npath \"path\" = () ((a | b) & c d) | [^drop loop tag(t)] !(!$p*)?;\npath q = ((a*)+){0} | [];\n",
+    )?;
+    Ok(())
+}
+
+#[test]
+fn canonical_checks(rt: HostRuntime) -> Result<(), Fail> {
+    let alloc = rt.alloc();
+    becomes(
+        &rt,
+        alloc,
+        b"check c for not(all)and(dst in 10.0.0.1/8 or flow\"flow\"):$s then({ . : drop}else{. : replace(a,b)});check d for all : $s;",
+        b"level interface;\ncheck c for not all and (dst in 10.0.0.0/8 or flow \"flow\") : $s then ({ . : drop } else { . : replace(a, b) });\ncheck d : $s;\n",
+    )?;
+    Ok(())
+}
+
+#[test]
+fn refusals(rt: HostRuntime) -> Result<(), Fail> {
+    let alloc = rt.alloc();
+    refused(
+        &rt,
+        alloc,
+        b"check c1 : { .* : preserve ;",
+        SpecError::Syntax { at: 27 },
+    );
+    refused(&rt, alloc, b"check c", SpecError::Syntax { at: 7 });
+    refused(
+        &rt,
+        alloc,
+        b"check c for dst in 10.0.0.0/33 : $s;",
+        SpecError::Syntax { at: 19 },
+    );
+    refused(&rt, alloc, b"path p = a{1}*;", SpecError::Syntax { at: 13 });
+    refused(
+        &rt,
+        alloc,
+        b"check c1 : { .{65} : preserve };",
+        SpecError::BadNumber { at: 15 },
+    );
+    refused(
+        &rt,
+        alloc,
+        b"path p = a{00};path q = a{65};",
+        SpecError::BadNumber { at: 11 },
+    );
+    refused(&rt, alloc, b"path p = a{65}", SpecError::Syntax { at: 14 });
+    Ok(())
+}
+
+/// A text that opens this many brackets.
+fn opening(alloc: Global, count: usize) -> Result<Vec<u8>, AllocError> {
+    let mut text = Vec::new(alloc);
+    text.extend_from_slice(b"path p = ")?;
+    for _ in 0..count {
+        text.push(b'(')?;
+    }
+    Ok(text)
+}
+
+#[test]
+fn brackets(rt: HostRuntime) -> Result<(), Fail> {
+    let alloc = rt.alloc();
+    let text = opening(alloc, 100)?;
+    refused(&rt, alloc, text.as_slice(), SpecError::Syntax { at: 109 });
+    let text = opening(alloc, 101)?;
+    refused(&rt, alloc, text.as_slice(), SpecError::TooDeep { at: 109 });
+    Ok(())
+}
