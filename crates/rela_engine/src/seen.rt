@@ -63,7 +63,8 @@ pub(crate) fn see<L: LabelSet>(
     })
 }
 
-/// The paths of the graph at the level.
+/// The paths of the graph at the level, without silent detours: each state is met once for each state of
+/// the relation.
 fn paths_over<L: LabelSet>(
     alloc: Global,
     graph: &Graph,
@@ -82,7 +83,8 @@ fn paths_over<L: LabelSet>(
     ensures least { IfOk result (λ _. (w : List ℕ) → Paths graph.now level alphabet.now w → AreLeastSymbols blocks.now w) }
 {
     prove!(graph.nodes().len() <= MAX_NODES);
-    let nfa = graph.to_nfa(alloc, level, alphabet, blocks)?;
+    let whole = graph.to_nfa(alloc, level, alphabet, blocks)?;
+    let nfa = whole.shortened(alloc)?;
     prove!(nfa.start() < nfa.states());
     Ok(nfa)
 }

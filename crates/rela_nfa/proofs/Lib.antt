@@ -13,3 +13,5 @@ pub mod Joint
 pub mod Meets
 pub mod Numbers
 pub mod Relabelled
+pub mod Detouring
+pub mod Shortening

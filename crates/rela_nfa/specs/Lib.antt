@@ -1,5 +1,6 @@
 pub mod Automaton
 pub mod Construction
+pub mod Detours
 pub mod Directing
 pub mod Languages
 pub mod Meeting

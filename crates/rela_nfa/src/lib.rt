@@ -2,6 +2,7 @@
 #![tactic(auto)]
 
 mod copying;
+mod detours;
 mod directing;
 mod edge;
 mod followers;
@@ -11,6 +12,7 @@ mod nfa;
 mod operations;
 mod reading;
 mod relabel;
+mod shortened;
 mod state_set;
 mod words;
 
