@@ -12,4 +12,5 @@ pub mod Growing
 pub mod Joint
 pub mod Meets
 pub mod Numbers
+pub mod Parted
 pub mod Relabelled
