@@ -12,6 +12,7 @@ pub mod Growing
 pub mod Joint
 pub mod Meets
 pub mod Numbers
+pub mod Parted
 pub mod Relabelled
 pub mod Detouring
 pub mod Shortening

@@ -2,34 +2,32 @@ ghost use Rattle.std.specs.Prelude.{◌≡◌, ℕ, ◌+◌, ◌<◌, ◌≤◌,
 ghost use Rattle.std.specs.List.{All};
 ghost use Rattle.rela_nfa.specs.Automaton.{states};
 ghost use Rattle.rela_nfa.specs.Construction.{shifted, silent, single, leaving, copied};
-ghost use Rattle.rela_nfa.specs.Stored.{move_of, moves_in};
+ghost use Rattle.rela_nfa.specs.Stored.{move_of};
 
 use crate::edge::Edge;
+use crate::edge_lists::EdgeLists;
 use crate::nfa::Nfa;
 use rela_labels::LabelSet;
 use std::alloc::{AllocError, Global};
 
-/// Copies of the edges, each of which leads to a state `by` later.
-pub(crate) fn shifted_edges<L: LabelSet>(
+/// Adds copies of the edges of another state, each of which leads to a state `by` later.
+fn add_shifted<L: LabelSet>(
     alloc: Global,
-    edges: &[Edge<L>],
+    edges: &mut Vec<Edge<L>>,
+    others: &[Edge<L>],
     by: usize,
-) -> Result<Vec<Edge<L>>, AllocError>
-    requires { All (λ edge. by + edge.to < 2 ^ 64) edges.now }
-    ensures { IfOk result (λ moved. map (move_of L.letters) moved.items ≡ map (shifted by) (map (move_of L.letters) edges.now)) }
+) -> Result<(), AllocError>
+    requires { All (λ edge. by + edge.to < 2 ^ 64) others.now }
+    ensures { OnOk result (map (move_of L.letters) edges.new.items ≡ map (move_of L.letters) edges.old.items ++ map (shifted by) (map (move_of L.letters) others.now)) }
 {
-    let mut moved = Vec::with_capacity(alloc, edges.len())?;
-    for edge in edges {
-        moved.push(edge.shifted(alloc, by)?)?;
+    for edge in others {
+        edges.push(edge.shifted(alloc, by)?)?;
     }
-    Ok(moved)
+    Ok(())
 }
 
 /// A silent edge to each of these states.
-pub(crate) fn silent_edges<L: LabelSet>(
-    alloc: Global,
-    ends: &[usize],
-) -> Result<Vec<Edge<L>>, AllocError>
+fn silent_edges<L: LabelSet>(alloc: Global, ends: &[usize]) -> Result<Vec<Edge<L>>, AllocError>
     ensures { IfOk result (λ edges. map (move_of L.letters) edges.items ≡ map silent ends.now) }
 {
     let mut edges = Vec::with_capacity(alloc, ends.len())?;
@@ -42,19 +40,16 @@ pub(crate) fn silent_edges<L: LabelSet>(
     Ok(edges)
 }
 
-/// One edge, by a letter of the set.
-pub(crate) fn one_edge<L: LabelSet>(
+/// The edges of a first state: a silent one to each of these.
+pub(crate) fn entry_edges<L: LabelSet>(
     alloc: Global,
-    set: L,
-    to: usize,
-) -> Result<Vec<Edge<L>>, AllocError>
-    ensures { IfOk result (λ edges. map (move_of L.letters) edges.items ≡ record { label = Some (L.letters set); to = to } ∷ []) }
+    ends: &[usize],
+) -> Result<EdgeLists<L>, AllocError>
+    ensures { IfOk result (λ edges. edges ≡ map silent ends.now ∷ []) }
 {
-    let mut edges = Vec::new(alloc);
-    edges.push(Edge {
-        label: Some(set),
-        to,
-    })?;
+    let mut leaving = silent_edges(alloc, ends)?;
+    let mut edges = EdgeLists::new(alloc);
+    edges.push(&mut leaving)?;
     Ok(edges)
 }
 
@@ -74,26 +69,27 @@ pub(crate) fn one_letter<L: LabelSet>(
 }
 
 impl<L: LabelSet> Nfa<L> {
-    /// The edges that leave a state, their ends `by` later, and where it is final a silent edge to
-    /// the exit.
-    fn leaving(
+    /// Adds the edges that leave a state, their ends `by` later, and where it is final a silent edge
+    /// to the exit.
+    fn add_leaving(
         &self,
         alloc: Global,
+        edges: &mut Vec<Edge<L>>,
         q: usize,
         by: usize,
         exit: Option<usize>,
-    ) -> Result<Vec<Edge<L>>, AllocError>
+    ) -> Result<(), AllocError>
         requires state { q < states self.now }
         requires room { by + states self.now ≤ 2 ^ 64 }
-        ensures { IfOk result (λ edges. map (move_of L.letters) edges.items ≡ leaving self.now by exit q) }
+        ensures { OnOk result (map (move_of L.letters) edges.new.items ≡ map (move_of L.letters) edges.old.items ++ leaving self.now by exit q) }
     {
-        let mut edges = shifted_edges(alloc, self.edges(q), by)?;
+        add_shifted(alloc, edges, self.edges(q), by)?;
         if self.is_final(q) {
             if let Some(to) = exit {
                 edges.push(Edge { label: None, to })?;
             }
         }
-        Ok(edges)
+        Ok(())
     }
 
     /// Adds the edges of each state, their ends `by` later, and for each that is final a silent edge
@@ -101,15 +97,17 @@ impl<L: LabelSet> Nfa<L> {
     pub(crate) fn copy_onto(
         &self,
         alloc: Global,
-        edges: &mut Vec<Vec<Edge<L>>>,
+        edges: &mut EdgeLists<L>,
         by: usize,
         exit: Option<usize>,
     ) -> Result<(), AllocError>
         requires { by + states self.now ≤ 2 ^ 64 }
-        ensures { OnOk result (moves_in L.letters edges.new.items ≡ moves_in L.letters edges.old.items ++ copied self.now by exit) }
+        ensures { OnOk result (edges.new ≡ edges.old ++ copied self.now by exit) }
     {
+        let mut leaving = Vec::new(alloc);
         for q in 0..self.states() {
-            edges.push(self.leaving(alloc, q, by, exit)?)?;
+            self.add_leaving(alloc, &mut leaving, q, by, exit)?;
+            edges.push(&mut leaving)?;
         }
         Ok(())
     }

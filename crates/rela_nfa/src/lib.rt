@@ -5,6 +5,7 @@ mod copying;
 mod detours;
 mod directing;
 mod edge;
+mod edge_lists;
 mod followers;
 mod meet;
 mod meeting;
@@ -18,6 +19,7 @@ mod words;
 
 pub use directing::{add_directed, add_silent};
 pub use edge::Edge;
+pub use edge_lists::EdgeLists;
 pub use nfa::Nfa;
 pub use rela_pairs::BuildError;
 pub use relabel::{parents_of, relabelled_set};

@@ -3,14 +3,13 @@ ghost use Rattle.std.specs.List.{All, range_with_len};
 ghost use Rattle.rela_nfa.specs.Automaton.{states};
 ghost use Rattle.rela_nfa.specs.Meeting.{next_pairs, final_both, product_moves_at, IsMeet, AreReachedTogether};
 ghost use Rattle.rela_nfa.specs.Runs.{Accepts};
-ghost use Rattle.rela_nfa.specs.Stored.{moves_in};
 ghost use Rattle.rela_pairs.specs.Exploration.{NumbersNext};
 ghost use Rattle.rela_pairs.specs.Reachable.{MoreThan};
 ghost use Rattle.rela_pairs.specs.declared.pair.Pair.{Pair};
 
-use crate::edge::Edge;
+use crate::edge_lists::EdgeLists;
 use crate::followers::Meeting;
-use crate::meeting::joint_edges;
+use crate::meeting::add_joint;
 use crate::nfa::Nfa;
 use rela_labels::LabelSet;
 use rela_pairs::{BuildError, Explored, Pair, explore};
@@ -48,18 +47,20 @@ fn product_edges<L: LabelSet>(
     first: &Nfa<L>,
     second: &Nfa<L>,
     explored: &Explored,
-) -> Result<Vec<Vec<Edge<L>>>, AllocError>
+) -> Result<EdgeLists<L>, AllocError>
     requires letters { first.now.letters ≡ second.now.letters }
     requires pairs { All (λ x. (x.left < states first.now) × (x.right < states second.now)) explored.now.pairs }
     requires one_list_each { length explored.now.targets ≡ length explored.now.pairs }
     requires targets { NumbersNext (next_pairs first.now second.now) explored.now }
-    ensures { IfOk result (λ edges. moves_in L.letters edges.items ≡ map (product_moves_at first.now second.now explored.now) (range_with_len 0 (length explored.now.pairs))) }
+    ensures { IfOk result (λ edges. edges ≡ map (product_moves_at first.now second.now explored.now) (range_with_len 0 (length explored.now.pairs))) }
 {
     let pairs = explored.pairs();
-    let mut edges = Vec::with_capacity(alloc, pairs.len())?;
+    let mut edges = EdgeLists::with_capacity(alloc, pairs.len())?;
+    let mut leaving = Vec::new(alloc);
     for number in 0..pairs.len() {
         let targets = explored.targets(number);
-        edges.push(joint_edges(alloc, first, second, pairs[number], targets)?)?;
+        add_joint(alloc, &mut leaving, first, second, pairs[number], targets)?;
+        edges.push(&mut leaving)?;
     }
     Ok(edges)
 }

@@ -1,4 +1,4 @@
-ghost use Rattle.std.specs.Prelude.{◌≡◌, ◌<◌, IfOk, OnOk, map, length};
+ghost use Rattle.std.specs.Prelude.{◌≡◌, ◌<◌, [], OnOk, map, length};
 ghost use Rattle.std.specs.List.{All};
 ghost use Rattle.std.specs.Option.{ForSome};
 ghost use Rattle.rela_nfa.specs.Automaton.{states};
@@ -52,27 +52,28 @@ fn add_with<L: LabelSet>(
     Ok(())
 }
 
-/// The edges that two automata over the same letters take together from a pair of their states, to
-/// these numbers of the pairs to which they lead.
-pub(crate) fn joint_edges<L: LabelSet>(
+/// Adds the edges that two automata over the same letters take together from a pair of their states,
+/// to these numbers of the pairs to which they lead. There are none before.
+pub(crate) fn add_joint<L: LabelSet>(
     alloc: Global,
+    edges: &mut Vec<Edge<L>>,
     first: &Nfa<L>,
     second: &Nfa<L>,
     pair: Pair,
     targets: &[usize],
-) -> Result<Vec<Edge<L>>, AllocError>
+) -> Result<(), AllocError>
+    requires empty { edges.old.items ≡ [] }
     requires letters { first.now.letters ≡ second.now.letters }
     requires left { pair.left < states first.now }
     requires right { pair.right < states second.now }
-    ensures { IfOk result (λ edges. map (move_of L.letters) edges.items ≡ numbered (joint_moves first.now second.now pair) targets.now) }
+    ensures { OnOk result (map (move_of L.letters) edges.new.items ≡ numbered (joint_moves first.now second.now pair) targets.now) }
 {
     let left = first.edges(pair.left);
     let right = second.edges(pair.right);
-    let mut edges = Vec::with_capacity(alloc, targets.len())?;
-    add_silent(&mut edges, left, targets)?;
-    add_silent(&mut edges, right, targets)?;
+    add_silent(edges, left, targets)?;
+    add_silent(edges, right, targets)?;
     for edge in left {
-        add_with(alloc, &mut edges, edge, right, targets)?;
+        add_with(alloc, edges, edge, right, targets)?;
     }
-    Ok(edges)
+    Ok(())
 }

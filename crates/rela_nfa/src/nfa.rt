@@ -5,6 +5,7 @@ ghost use Rattle.rela_nfa.specs.Automaton.{IsAutomaton, IsFinal, states, moves_o
 ghost use Rattle.rela_nfa.specs.Stored.{move_of, moves_in};
 
 use crate::edge::Edge;
+use crate::edge_lists::EdgeLists;
 use rela_labels::LabelSet;
 use std::alloc::{AllocError, Global};
 use std::marker::Model;
@@ -17,7 +18,7 @@ pub struct Nfa<L: LabelSet> {
     pub(crate) letters: u32,
     pub(crate) start: usize,
     pub(crate) finals: Vec<bool>,
-    pub(crate) edges: Vec<Vec<Edge<L>>>,
+    pub(crate) edges: EdgeLists<L>,
 }
 
 impl<L: LabelSet> Model for Nfa<L> {
@@ -25,20 +26,18 @@ impl<L: LabelSet> Model for Nfa<L> {
 
     ghost Value = { Automaton };
 
-    ghost use Rattle.rela_nfa.specs.Stored.{moves_in};
-
     ghost view = { λ nfa. record {
       letters = nfa.letters;
       start = nfa.start;
       finals = nfa.finals.items;
-      edges = moves_in L.letters nfa.edges.items;
+      edges = nfa.edges;
     } };
 
     ghost invariant = { λ nfa. L.fits nfa.letters × IsAutomaton (record {
       letters = nfa.letters;
       start = nfa.start;
       finals = nfa.finals.items;
-      edges = moves_in L.letters nfa.edges.items;
+      edges = nfa.edges;
     }) };
 }
 
@@ -60,12 +59,25 @@ impl<L: LabelSet> Nfa<L> {
         ensures edges { IfOk result (λ nfa. nfa.edges ≡ moves_in L.letters edges.items) }
     {
         let finals = Vec::from_slice(alloc, finals)?;
-        Ok(Nfa {
+        let edges = EdgeLists::from_lists(alloc, edges)?;
+        Ok(Nfa::from_lists(letters, start, finals, edges))
+    }
+
+    /// The same automaton of lists that already stand one behind the other. It takes no memory.
+    pub fn from_lists(letters: u32, start: usize, finals: Vec<bool>, edges: EdgeLists<L>) -> Nfa<L>
+        requires fits { L.fits letters }
+        requires automaton { IsAutomaton (record { letters = letters; start = start; finals = finals.items; edges = edges }) }
+        ensures letters { result.letters ≡ letters }
+        ensures start { result.start ≡ start }
+        ensures finals { result.finals ≡ finals.items }
+        ensures edges { result.edges ≡ edges }
+    {
+        Nfa {
             letters,
             start,
             finals,
             edges,
-        })
+        }
     }
 
     /// The number of letters.
@@ -110,6 +122,6 @@ impl<L: LabelSet> Nfa<L> {
         ensures lead { All (λ edge. edge.to < states self.now) result.now }
         ensures sized { All (λ edge. ForSome edge.label (λ set. length (L.letters set) ≡ self.now.letters)) result.now }
     {
-        self.edges[q].as_slice()
+        self.edges.list(q)
     }
 }

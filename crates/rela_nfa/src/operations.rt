@@ -3,7 +3,8 @@ ghost use Rattle.rela_nfa.specs.Automaton.{states};
 ghost use Rattle.rela_nfa.specs.Languages.{Joins, Repeats};
 ghost use Rattle.rela_nfa.specs.Runs.{Reach, Accepts};
 
-use crate::copying::silent_edges;
+use crate::copying::entry_edges;
+use crate::edge_lists::EdgeLists;
 use crate::nfa::Nfa;
 use rela_labels::LabelSet;
 use std::alloc::{AllocError, Global};
@@ -25,8 +26,7 @@ impl<L: LabelSet> Nfa<L> {
         finals.push(false)?;
         finals.extend_from_slice(&self.finals)?;
         finals.extend_from_slice(&other.finals)?;
-        let mut edges = Vec::new(alloc);
-        edges.push(silent_edges(alloc, &[1 + self.start(), 1 + count + other.start()])?)?;
+        let mut edges = entry_edges(alloc, &[1 + self.start(), 1 + count + other.start()])?;
         self.copy_onto(alloc, &mut edges, 1, None)?;
         other.copy_onto(alloc, &mut edges, 1 + count, None)?;
         Ok(Nfa {
@@ -50,7 +50,7 @@ impl<L: LabelSet> Nfa<L> {
         let count = self.states();
         let mut finals = vec![in alloc; false; count]?;
         finals.extend_from_slice(&other.finals)?;
-        let mut edges = Vec::new(alloc);
+        let mut edges = EdgeLists::with_capacity(alloc, finals.len())?;
         self.copy_onto(alloc, &mut edges, 0, Some(count + other.start()))?;
         other.copy_onto(alloc, &mut edges, count, None)?;
         Ok(Nfa {
@@ -74,8 +74,7 @@ impl<L: LabelSet> Nfa<L> {
         finals.push(true)?;
         finals.extend_from_slice(&self.finals)?;
         let entry = 1 + self.start();
-        let mut edges = Vec::new(alloc);
-        edges.push(silent_edges(alloc, &[entry])?)?;
+        let mut edges = entry_edges(alloc, &[entry])?;
         self.copy_onto(alloc, &mut edges, 1, Some(entry))?;
         Ok(Nfa {
             letters: self.letters,

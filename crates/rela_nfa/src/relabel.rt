@@ -5,9 +5,10 @@ ghost use Rattle.rela_labels.specs.Partition.{block_of, block_count};
 ghost use Rattle.rela_nfa.specs.Automaton.{states};
 ghost use Rattle.rela_nfa.specs.Relabelling.{Refines, blocks_of, relabelled, relabelled_move};
 ghost use Rattle.rela_nfa.specs.Runs.{Reach, Accepts};
-ghost use Rattle.rela_nfa.specs.Stored.{move_of, moves_in};
+ghost use Rattle.rela_nfa.specs.Stored.{move_of};
 
 use crate::edge::Edge;
+use crate::edge_lists::EdgeLists;
 use crate::nfa::Nfa;
 use rela_labels::{LabelSet, Partition};
 use std::alloc::{AllocError, Global};
@@ -102,18 +103,16 @@ fn relabelled_edges<L: LabelSet, M: LabelSet>(
 /// The edges of each state by the letters that lie in their labels.
 fn relabelled_lists<L: LabelSet, M: LabelSet>(
     alloc: Global,
-    lists: &[Vec<Edge<L>>],
+    lists: &EdgeLists<L>,
     parents: &[u32],
-) -> Result<Vec<Vec<Edge<M>>>, AllocError>
+) -> Result<EdgeLists<M>, AllocError>
     requires few { length parents.now < 2 ^ 32 }
     requires fits { M.fits (length parents.now) }
-    ensures { IfOk result (λ new. moves_in M.letters new.items ≡ map (map (relabelled_move parents.now)) (moves_in L.letters lists.now)) }
+    ensures { IfOk result (λ new. new ≡ map (map (relabelled_move parents.now)) lists.now) }
 {
-    let mut new = Vec::with_capacity(alloc, lists.len())?;
-    for edges in lists {
-        new.push(relabelled_edges(alloc, edges, parents)?)?;
-    }
-    Ok(new)
+    let edges = relabelled_edges(alloc, &lists.edges, parents)?;
+    let starts = Vec::from_slice(alloc, &lists.starts)?;
+    Ok(EdgeLists { edges, starts })
 }
 
 impl<L: LabelSet> Nfa<L> {

@@ -1,13 +1,13 @@
-ghost use Rattle.std.specs.Prelude.{◌≡◌, ℕ, ◌+◌, ◌<◌, ◌≤◌, ◌↔◌, true, List, [], IfOk, length, map, take};
+ghost use Rattle.std.specs.Prelude.{◌≡◌, ℕ, ◌+◌, ◌<◌, ◌≤◌, ◌↔◌, true, List, [], ◌∷◌, IfOk, length, map, take};
 ghost use Rattle.std.specs.List.{All};
 ghost use Rattle.rela_nfa.specs.Automaton.{states};
 ghost use Rattle.rela_nfa.specs.Construction.{single, links, IsChain};
 ghost use Rattle.rela_nfa.specs.Languages.{IsLetterOf};
 ghost use Rattle.rela_nfa.specs.Runs.{Reach, Accepts};
-ghost use Rattle.rela_nfa.specs.Stored.{moves_in};
 
-use crate::copying::{one_edge, one_letter};
+use crate::copying::one_letter;
 use crate::edge::Edge;
+use crate::edge_lists::EdgeLists;
 use crate::nfa::Nfa;
 use rela_labels::LabelSet;
 use std::alloc::{AllocError, Global};
@@ -46,9 +46,7 @@ impl<L: LabelSet> Nfa<L> {
         ensures language { IfOk result (λ nfa. (w : List ℕ) → Accepts nfa w ↔ IsLetterOf (L.letters set.now) w) }
     {
         let finals = Vec::from_slice(alloc, &[false, true])?;
-        let mut edges = Vec::new(alloc);
-        edges.push(one_edge(alloc, set.copy(alloc)?, 1)?)?;
-        edges.push(Vec::new(alloc))?;
+        let edges = edges_of_letter(alloc, set.copy(alloc)?)?;
         Ok(Nfa {
             letters,
             start: 0,
@@ -78,23 +76,44 @@ impl<L: LabelSet> Nfa<L> {
     }
 }
 
+/// An edge to the next state by a letter of the set, and no edge from there.
+fn edges_of_letter<L: LabelSet>(alloc: Global, set: L) -> Result<EdgeLists<L>, AllocError>
+    ensures { IfOk result (λ edges. edges ≡ links (L.letters set ∷ [])) }
+{
+    let mut leaving = Vec::new(alloc);
+    leaving.push(Edge {
+        label: Some(set),
+        to: 1,
+    })?;
+    let mut edges = EdgeLists::with_capacity(alloc, 2)?;
+    edges.push(&mut leaving)?;
+    // The vector is empty now.
+    edges.push(&mut leaving)?;
+    Ok(edges)
+}
+
 /// For each letter an edge to the next state, and no edge from the last state.
 fn edges_of_word<L: LabelSet>(
     alloc: Global,
     letters: u32,
     word: &[u32],
-) -> Result<Vec<Vec<Edge<L>>>, AllocError>
+) -> Result<EdgeLists<L>, AllocError>
     requires fits { L.fits letters }
     requires letters { All (λ k. k < letters) word.now }
-    ensures { IfOk result (λ edges. moves_in L.letters edges.items ≡ links (map (single letters) word.now)) }
+    ensures { IfOk result (λ edges. edges ≡ links (map (single letters) word.now)) }
 {
-    let mut edges = Vec::with_capacity(alloc, word.len())?;
+    let mut edges = EdgeLists::with_capacity(alloc, word.len())?;
+    let mut leaving = Vec::new(alloc);
     for letter in word {
         let set = one_letter(alloc, letters, *letter)?;
         let next = edges.len() + 1;
-        edges.push(one_edge(alloc, set, next)?)?;
+        leaving.push(Edge {
+            label: Some(set),
+            to: next,
+        })?;
+        edges.push(&mut leaving)?;
     }
-    edges.push(Vec::new(alloc))?;
+    edges.push(&mut leaving)?;
     Ok(edges)
 }
 
@@ -105,8 +124,9 @@ fn one_state<L: LabelSet>(alloc: Global, letters: u32, is_final: bool) -> Result
     ensures chain { IfOk result (λ nfa. IsChain [] is_final nfa) }
 {
     let finals = Vec::from_slice(alloc, &[is_final])?;
-    let mut edges = Vec::new(alloc);
-    edges.push(Vec::new(alloc))?;
+    let mut edges = EdgeLists::with_capacity(alloc, 1)?;
+    let mut leaving = Vec::new(alloc);
+    edges.push(&mut leaving)?;
     Ok(Nfa {
         letters,
         start: 0,

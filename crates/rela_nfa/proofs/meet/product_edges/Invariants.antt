@@ -1,8 +1,7 @@
-use Rattle.std.proofs.Common.{◌≡◌, map}
+use Rattle.std.proofs.Common.{◌≡◌, [], map}
 use Rattle.std.specs.List.{range_with_len}
 use Rattle.rela_nfa.specs.Meeting.{product_moves_at}
-use Rattle.rela_nfa.specs.Stored.{moves_in}
 use Rattle.rela_nfa.proofs.meet.product_edges.Given as goal
 
 abbrev pub invariant-loop-number : goal.invariant-loop-number
-invariant-loop-number g l = moves_in g.L.LabelSet.letters l.edges.items ≡ map (product_moves_at l.first l.second l.explored) (range_with_len 0 l.number)
+invariant-loop-number g l = (l.leaving.items ≡ []) × (l.edges ≡ map (product_moves_at l.first l.second l.explored) (range_with_len 0 l.number))

@@ -1,8 +1,7 @@
-use Rattle.std.proofs.Common.{◌+◌, false, ◌++◌, Some, None, ◌∙◌, sym, ap, subst}
+use Rattle.std.proofs.Common.{◌+◌, false, List, ◌++◌, Some, None, ◌∙◌, sym, ap, subst}
 use Rattle.std.specs.Prelude.{replicate}
-use Rattle.rela_nfa.specs.Automaton.{Automaton, IsAutomaton, states}
+use Rattle.rela_nfa.specs.Automaton.{Automaton, Move, IsAutomaton, states}
 use Rattle.rela_nfa.specs.Construction.{copied}
-use Rattle.rela_nfa.specs.Stored.{moves_in}
 use Rattle.rela_nfa.proofs.Concats.{IsConcat, concat_states, concat_ok, concat_first, concat_second, concat_language}
 use Rattle.rela_nfa.proofs.nfa.Nfa.concat.Given.{Over}
 use Rattle.rela_nfa.proofs.nfa.Nfa.concat.Goals as goal
@@ -13,7 +12,7 @@ nfa g c = record {
   letters = c.self.inside.letters;
   start = c.start-2.result;
   finals = c.extend_from_slice.new.self.items;
-  edges = moves_in g.L.LabelSet.letters c.copy_onto-2.new.edges.items;
+  edges = c.copy_onto-2.new.edges;
 }
 
 module _ (g : Over) (c : goal.After-start-2 g) where
@@ -35,7 +34,7 @@ module _ (g : Over) (c : goal.After-start-2 g) where
         edges =
             c.in_ok-copy_onto-2.ensures
             ∙ ap (λ l. l ++ copied b c.states-count.result None)
-            (c.in_ok-copy_onto.ensures ∙ ap (λ l. moves_in g.L.LabelSet.letters l ++ copied a 0 (Some (c.states-count.result + c.start.result))) c.new-edges.ensures.items
+            (c.in_ok-copy_onto.ensures ∙ ap (λ (l : List (List Move)). l ++ copied a 0 (Some (c.states-count.result + c.start.result))) c.in_ok-edges.ensures
             ∙ ap (λ n. copied a 0 (Some (c.states-count.result + n))) c.start.ensures.start)
             ∙ ap (λ n. copied a 0 (Some (n + b.start)) ++ copied b n None) count;
         finals =

@@ -5,7 +5,6 @@ use Rattle.rela_pairs.specs.Reachable.{Reachable, MoreThan}
 use Rattle.rela_pairs.specs.declared.pair.Pair.{Pair}
 use Rattle.rela_nfa.specs.Automaton.{Automaton, states}
 use Rattle.rela_nfa.specs.Meeting.{IsProduct, next_pairs, final_both, pair_of}
-use Rattle.rela_nfa.specs.Stored.{moves_in}
 use Rattle.rela_nfa.proofs.Meets.{explored_states, more_together, more_reachable, product_ok, product_meet, product_language}
 use Rattle.rela_nfa.proofs.nfa.Nfa.meet.Goals as goal
 
@@ -48,7 +47,7 @@ invariant_of-result g c =
       letters = c.self.inside.letters;
       start = 0;
       finals = c.in_ok-finals.finals.items;
-      edges = moves_in g.L.LabelSet.letters c.in_ok-edges.edges.items;
+      edges = c.in_ok-edges.edges;
     } in
     let built : IsProduct a b x nfa = record {
       letters = ap (λ (y : Automaton). y.letters) c.self.view_is;
@@ -71,7 +70,7 @@ returns-clause-pairs g c =
       letters = c.self.inside.letters;
       start = 0;
       finals = c.in_ok-finals.finals.items;
-      edges = moves_in g.L.LabelSet.letters c.in_ok-edges.edges.items;
+      edges = c.in_ok-edges.edges;
     } in
     let built : IsProduct a b x nfa = record {
       letters = ap (λ (y : Automaton). y.letters) c.self.view_is;
@@ -94,7 +93,7 @@ returns-clause-language g c =
       letters = c.self.inside.letters;
       start = 0;
       finals = c.in_ok-finals.finals.items;
-      edges = moves_in g.L.LabelSet.letters c.in_ok-edges.edges.items;
+      edges = c.in_ok-edges.edges;
     } in
     let built : IsProduct a b x nfa = record {
       letters = ap (λ (y : Automaton). y.letters) c.self.view_is;

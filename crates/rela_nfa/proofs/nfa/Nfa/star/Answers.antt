@@ -1,7 +1,6 @@
-use Rattle.std.proofs.Common.{◌≡◌, ◌+◌, true, [], ◌∷◌, ◌++◌, map, Some, ◌∙◌, ap, subst, refl}
-use Rattle.rela_nfa.specs.Automaton.{Automaton, IsAutomaton}
+use Rattle.std.proofs.Common.{◌+◌, true, List, [], ◌∷◌, ◌++◌, map, Some, ◌∙◌, ap, subst, refl}
+use Rattle.rela_nfa.specs.Automaton.{Automaton, Move, IsAutomaton}
 use Rattle.rela_nfa.specs.Construction.{silent, copied}
-use Rattle.rela_nfa.specs.Stored.{moves_in}
 use Rattle.rela_nfa.proofs.Stars.{IsStar, star_states, star_ok, star_start, star_copies, star_language}
 use Rattle.rela_nfa.proofs.nfa.Nfa.star.Given.{Over}
 use Rattle.rela_nfa.proofs.nfa.Nfa.star.Goals as goal
@@ -12,7 +11,7 @@ nfa g c = record {
   letters = c.self.inside.letters;
   start = 0;
   finals = c.extend_from_slice.new.self.items;
-  edges = moves_in g.L.LabelSet.letters c.copy_onto.new.edges.items;
+  edges = c.copy_onto.new.edges;
 }
 
 module _ (g : Over) (c : goal.In_ok-copy_onto g) where
@@ -22,14 +21,11 @@ module _ (g : Over) (c : goal.In_ok-copy_onto g) where
   built : IsStar c.args.self.now (nfa g c)
   built =
       let a = c.args.self.now in
-      let moves = moves_in g.L.LabelSet.letters in
-      let entry : moves c.push-2.new.self.items ≡ map silent ((1 + c.start-entry.result) ∷ []) ∷ [] =
-      ap moves c.in_ok-push-2.ensures.items ∙ ap (λ v. moves (v ++ c.in_ok-silent_edges.field-0 ∷ [])) c.new-edges.ensures.items ∙ ap (λ m. m ∷ []) c.in_ok-silent_edges.ensures in
       record {
         letters = ap (λ (x : Automaton). x.letters) c.self.view_is;
         start = refl;
         edges =
-            c.in_ok-copy_onto.ensures ∙ ap (λ l. l ++ copied a 1 (Some (1 + c.start-entry.result))) entry
+            c.in_ok-copy_onto.ensures ∙ ap (λ (l : List (List Move)). l ++ copied a 1 (Some (1 + c.start-entry.result))) c.in_ok-edges.ensures
             ∙ ap (λ n. map silent ((1 + n) ∷ []) ∷ [] ++ copied a 1 (Some (1 + n))) c.start-entry.ensures.start;
         finals =
             c.in_ok-extend_from_slice.ensures.items ∙ ap (λ l. l ++ c.deref.result.now) (c.in_ok-push.ensures.items ∙ ap (λ l. l ++ true ∷ []) c.new-finals.ensures.items)

@@ -1,7 +1,6 @@
-use Rattle.std.proofs.Common.{◌≡◌, ◌+◌, false, [], ◌∷◌, ◌++◌, map, None, ◌∙◌, sym, ap, subst, refl}
-use Rattle.rela_nfa.specs.Automaton.{Automaton, IsAutomaton, states}
+use Rattle.std.proofs.Common.{◌≡◌, ◌+◌, false, List, [], ◌∷◌, ◌++◌, map, None, ◌∙◌, sym, ap, subst, refl}
+use Rattle.rela_nfa.specs.Automaton.{Automaton, Move, IsAutomaton, states}
 use Rattle.rela_nfa.specs.Construction.{silent, copied}
-use Rattle.rela_nfa.specs.Stored.{moves_in}
 use Rattle.rela_nfa.proofs.Unions.{IsUnion, union_states, union_ok, union_start, union_first, union_second, union_language}
 use Rattle.rela_nfa.proofs.nfa.Nfa.union.Given.{Over}
 use Rattle.rela_nfa.proofs.nfa.Nfa.union.Goals as goal
@@ -12,7 +11,7 @@ nfa g c = record {
   letters = c.self.inside.letters;
   start = 0;
   finals = c.extend_from_slice-2.new.self.items;
-  edges = moves_in g.L.LabelSet.letters c.copy_onto-2.new.edges.items;
+  edges = c.copy_onto-2.new.edges;
 }
 
 module _ (g : Over) (c : goal.In_ok-copy_onto-2 g) where
@@ -26,17 +25,14 @@ module _ (g : Over) (c : goal.In_ok-copy_onto-2 g) where
   built =
       let a = c.args.self.now in
       let b = c.args.other.now in
-      let moves = moves_in g.L.LabelSet.letters in
       let ends = map silent ((1 + a.start) ∷ (1 + states a + b.start) ∷ []) in
-      let entry : moves c.push-2.new.self.items ≡ ends ∷ [] =
-      ap moves c.in_ok-push-2.ensures.items ∙ ap (λ v. moves (v ++ c.in_ok-silent_edges.field-0 ∷ [])) c.new-edges.ensures.items
-      ∙ ap (λ m. m ∷ []) (c.in_ok-silent_edges.ensures ∙ cc) in
+      let entry : c.in_ok-edges.edges ≡ ends ∷ [] = c.in_ok-edges.ensures ∙ ap (λ (m : List Move). m ∷ []) cc in
       record {
         letters = ap (λ (x : Automaton). x.letters) c.self.view_is;
         same_letters = sym c.requires.letters;
         start = refl;
         edges =
-            c.in_ok-copy_onto-2.ensures ∙ ap (λ l. l ++ copied b (1 + c.states-count.result) None) (c.in_ok-copy_onto.ensures ∙ ap (λ l. l ++ copied a 1 None) entry)
+            c.in_ok-copy_onto-2.ensures ∙ ap (λ l. l ++ copied b (1 + c.states-count.result) None) (c.in_ok-copy_onto.ensures ∙ ap (λ (l : List (List Move)). l ++ copied a 1 None) entry)
             ∙ ap (λ n. ends ∷ [] ++ copied a 1 None ++ copied b (1 + n) None) c.states-count.ensures.states;
         finals =
             c.in_ok-extend_from_slice-2.ensures.items

@@ -3,7 +3,6 @@ use Rattle.std.specs.Prelude.{replicate}
 use Rattle.std.proofs.lemmas.List.{length-map}
 use Rattle.rela_nfa.specs.Automaton.{Automaton}
 use Rattle.rela_nfa.specs.Construction.{single, IsChain}
-use Rattle.rela_nfa.specs.Stored.{moves_in}
 use Rattle.rela_nfa.proofs.Chains.{chain_ok, chain_states, singles_sized, word_reached, word_accepted}
 use Rattle.rela_nfa.proofs.nfa.Nfa.word.Given.{Over}
 use Rattle.rela_nfa.proofs.nfa.Nfa.word.Goals as goal
@@ -14,7 +13,7 @@ nfa g c = record {
   letters = c.args.letters;
   start = 0;
   finals = c.push.new.self.items;
-  edges = moves_in g.L.LabelSet.letters c.in_ok-edges.edges.items;
+  edges = c.in_ok-edges.edges;
 }
 
 module _ (g : Over) (c : goal.In_ok-edges g) where

@@ -5,7 +5,7 @@ use Rattle.rela_nfa.specs.Automaton.{Move, moves_of}
 use Rattle.rela_nfa.specs.Directing.{extended, silent_labels, labels_with}
 use Rattle.rela_nfa.specs.Stored.{move_of}
 use Rattle.rela_nfa.proofs.InTurn.{labels_more, joint_made}
-use Rattle.rela_nfa.proofs.meeting.joint_edges.Goals as goal
+use Rattle.rela_nfa.proofs.meeting.add_joint.Goals as goal
 
 pub loop-edge-preserved : goal.loop-edge-preserved
 loop-edge-preserved g c =

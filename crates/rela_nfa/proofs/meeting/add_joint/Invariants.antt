@@ -3,7 +3,7 @@ use Rattle.std.specs.List.{flat_map}
 use Rattle.rela_nfa.specs.Automaton.{moves_of}
 use Rattle.rela_nfa.specs.Directing.{extended, silent_labels, labels_with}
 use Rattle.rela_nfa.specs.Stored.{move_of}
-use Rattle.rela_nfa.proofs.meeting.joint_edges.Given as goal
+use Rattle.rela_nfa.proofs.meeting.add_joint.Given as goal
 
 abbrev pub invariant-loop-edge : goal.invariant-loop-edge
 invariant-loop-edge g l =

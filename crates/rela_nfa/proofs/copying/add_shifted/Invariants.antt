@@ -1,0 +1,9 @@
+use Rattle.std.proofs.Common.{◌≡◌, ◌++◌, map, take}
+use Rattle.rela_nfa.specs.Construction.{shifted}
+use Rattle.rela_nfa.specs.Stored.{move_of}
+use Rattle.rela_nfa.proofs.copying.add_shifted.Given as goal
+
+abbrev pub invariant-loop-edge : goal.invariant-loop-edge
+invariant-loop-edge g l =
+    map (move_of g.L.LabelSet.letters) l.edges.items
+    ≡ map (move_of g.L.LabelSet.letters) l.fn.edges.items ++ map (shifted l.by) (map (move_of g.L.LabelSet.letters) (take l.edge-index l.others))

@@ -1,0 +1,104 @@
+ghost use Rattle.std.specs.Prelude.{◌≡◌, ◌+◌, ◌<◌, [], ◌∷◌, ◌++◌, IfOk, OnOk, length, map, slice_index_or};
+ghost use Rattle.rela_nfa.specs.Stored.{move_of, moves_in};
+
+use crate::edge::Edge;
+use rela_labels::LabelSet;
+use std::alloc::{AllocError, Global};
+use std::marker::Model;
+
+/// The edges that leave each state. They stand one behind the other in one vector, and another says
+/// where those of each state begin: they end where the next state's begin. Contracts see it as the
+/// list of the edges of each state.
+#[derive(Drop)]
+pub struct EdgeLists<L: LabelSet> {
+    pub(crate) edges: Vec<Edge<L>>,
+    pub(crate) starts: Vec<usize>,
+}
+
+impl<L: LabelSet> Model for EdgeLists<L> {
+    ghost use Rattle.std.specs.Prelude.{List, length, map};
+    ghost use Rattle.rela_pairs.specs.Parting.{parts, Rises};
+    ghost use Rattle.rela_nfa.specs.Automaton.{Move};
+    ghost use Rattle.rela_nfa.specs.Stored.{move_of};
+
+    ghost Value = { List (List Move) };
+
+    ghost view = { λ lists. parts (map (move_of L.letters) lists.edges.items) lists.starts.items };
+
+    ghost invariant = { λ lists. Rises (length lists.edges.items) lists.starts.items };
+}
+
+impl<L: LabelSet> EdgeLists<L> {
+    /// No state.
+    pub fn new(alloc: Global) -> EdgeLists<L>
+        ensures { result ≡ [] }
+    {
+        EdgeLists {
+            edges: Vec::new(alloc),
+            starts: Vec::new(alloc),
+        }
+    }
+
+    /// No state, with room for this many.
+    pub fn with_capacity(alloc: Global, states: usize) -> Result<EdgeLists<L>, AllocError>
+        ensures { IfOk result (λ lists. lists ≡ []) }
+    {
+        let starts = Vec::with_capacity(alloc, states)?;
+        Ok(EdgeLists {
+            edges: Vec::new(alloc),
+            starts,
+        })
+    }
+
+    /// The lists of edges, one behind the other.
+    pub(crate) fn from_lists(
+        alloc: Global,
+        lists: Vec<Vec<Edge<L>>>,
+    ) -> Result<EdgeLists<L>, AllocError>
+        ensures { IfOk result (λ flat. flat ≡ moves_in L.letters lists.items) }
+    {
+        let mut flat = EdgeLists::with_capacity(alloc, lists.len())?;
+        for mut edges in lists {
+            flat.push(&mut edges)?;
+        }
+        Ok(flat)
+    }
+
+    /// How many states there are.
+    pub fn len(&self) -> usize
+        ensures { result ≡ length self.now }
+    {
+        self.starts.len()
+    }
+
+    /// The edges that leave the state.
+    pub fn list(&self, q: usize) -> &[Edge<L>]
+        requires { q < length self.now }
+        ensures { map (move_of L.letters) result.now ≡ slice_index_or self.now q [] }
+    {
+        let from = self.starts[q];
+        let to = end_of(&self.starts, q, self.edges.len());
+        &self.edges[from..to]
+    }
+
+    /// Adds a state, which these edges leave, and takes them out of the vector.
+    pub fn push(&mut self, edges: &mut Vec<Edge<L>>) -> Result<(), AllocError>
+        ensures list { OnOk result (self.new ≡ self.old ++ map (move_of L.letters) edges.old.items ∷ []) }
+        ensures taken { OnOk result (edges.new.items ≡ []) }
+    {
+        self.starts.push(self.edges.len())?;
+        self.edges.append(edges)?;
+        Ok(())
+    }
+}
+
+/// Where the edges of the state end, where those of the last end at `all`.
+fn end_of(starts: &[usize], q: usize, all: usize) -> usize
+    requires { q < length starts.now }
+    ensures { result ≡ slice_index_or starts.now (q + 1) all }
+{
+    match starts.get(q + 1) {
+        Some(next) => *next,
+        None => all,
+    }
+}
