@@ -1,12 +1,13 @@
-ghost use Rattle.std.specs.Prelude.{◌≡◌, ℕ, ◌<◌, ◌↔◌, false, List, None, IfOk, Contains, length, map, slice_index};
+ghost use Rattle.std.specs.Prelude.{◌≡◌, ℕ, ◌<◌, ◌↔◌, ◌++◌, false, List, None, IfOk, OnOk, Contains, length, map, slice_index};
 ghost use Rattle.std.specs.List.{All, range_with_len};
 ghost use Rattle.rela_nfa.specs.Automaton.{IsAutomaton, Move, moves_of, states};
 ghost use Rattle.rela_nfa.specs.Detours.{IsDirect, IsEnd, direct_moves, is_step, only_labelled, pulled, redirected};
 ghost use Rattle.rela_nfa.specs.Runs.{Accepts, HasStep, Reach};
-ghost use Rattle.rela_nfa.specs.Stored.{move_of, moves_in};
+ghost use Rattle.rela_nfa.specs.Stored.{move_of};
 
 use crate::detours::detour_ends;
 use crate::edge::Edge;
+use crate::edge_lists::EdgeLists;
 use crate::nfa::Nfa;
 use rela_labels::LabelSet;
 use std::alloc::{AllocError, Global};
@@ -62,25 +63,25 @@ fn redirected<L: LabelSet>(
     }
 }
 
-/// The edges of the state, each of which leads on at once.
-fn direct_edges<L: LabelSet>(
+/// Adds the edges of the state, each of which leads on at once.
+fn add_direct<L: LabelSet>(
     alloc: Global,
+    direct: &mut Vec<Edge<L>>,
     nfa: &Nfa<L>,
     ends: &[usize],
     q: usize,
-) -> Result<Vec<Edge<L>>, AllocError>
+) -> Result<(), AllocError>
     requires state { q < states nfa.now }
     requires count { length ends.now ≡ states nfa.now }
     requires ends { All (λ end. end < states nfa.now) ends.now }
-    ensures { IfOk result (λ edges. map (move_of L.letters) edges.items ≡ direct_moves nfa.now ends.now q) }
+    ensures { OnOk result (map (move_of L.letters) direct.new.items ≡ map (move_of L.letters) direct.old.items ++ direct_moves nfa.now ends.now q) }
 {
     let edges = nfa.edges(q);
-    let mut direct = Vec::with_capacity(alloc, edges.len())?;
     for edge in edges {
         let edge = pulled(nfa, ends[edge.to], edge);
         direct.push(redirected(alloc, ends, edge)?)?;
     }
-    Ok(direct)
+    Ok(())
 }
 
 /// The edges of each state, each of which leads on at once.
@@ -88,14 +89,16 @@ fn direct_lists<L: LabelSet>(
     alloc: Global,
     nfa: &Nfa<L>,
     ends: &[usize],
-) -> Result<Vec<Vec<Edge<L>>>, AllocError>
+) -> Result<EdgeLists<L>, AllocError>
     requires count { length ends.now ≡ states nfa.now }
     requires ends { All (λ end. end < states nfa.now) ends.now }
-    ensures { IfOk result (λ edges. moves_in L.letters edges.items ≡ map (direct_moves nfa.now ends.now) (range_with_len 0 (states nfa.now))) }
+    ensures { IfOk result (λ edges. edges ≡ map (direct_moves nfa.now ends.now) (range_with_len 0 (states nfa.now))) }
 {
-    let mut edges = Vec::with_capacity(alloc, nfa.states())?;
+    let mut edges = EdgeLists::with_capacity(alloc, nfa.states())?;
+    let mut direct = Vec::new(alloc);
     for q in 0..nfa.states() {
-        edges.push(direct_edges(alloc, nfa, ends, q)?)?;
+        add_direct(alloc, &mut direct, nfa, ends, q)?;
+        edges.push(&mut direct)?;
     }
     Ok(edges)
 }

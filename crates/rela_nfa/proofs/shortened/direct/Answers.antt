@@ -1,7 +1,6 @@
 use Rattle.std.proofs.Common.{sym, ◌∙◌, ap, subst, slice_index_or}
 use Rattle.rela_nfa.specs.Automaton.{Automaton}
 use Rattle.rela_nfa.specs.Detours.{IsDirect}
-use Rattle.rela_nfa.specs.Stored.{moves_in}
 use Rattle.rela_nfa.proofs.Shortening.{direct_ok}
 use Rattle.rela_nfa.proofs.shortened.direct.Goals as goal
 
@@ -13,7 +12,7 @@ invariant_of-result g c =
       letters = c.letters.result;
       start = slice_index_or ends c.start.result 0;
       finals = c.in_ok-finals.finals.items;
-      edges = moves_in g.L.LabelSet.letters c.in_ok-edges.edges.items;
+      edges = c.in_ok-edges.edges;
     } in
     let built : IsDirect a ends r = record {
       letters = c.letters.ensures.letters;
