@@ -6,6 +6,7 @@ pub mod NameSets
 pub mod PairLaws
 pub mod Writes
 pub mod Indexes
+pub mod NameIndexes
 pub mod Parents
 pub mod Known
 pub mod Places

@@ -7,6 +7,7 @@ mod containment;
 mod locations;
 mod lookup;
 mod members;
+mod name_index;
 mod name_set;
 mod network;
 mod pairs;

@@ -1,10 +1,12 @@
 //! The locations of a network, and what is asked of them.
 
-ghost use Rattle.std.specs.Prelude.{◌≡◌, ◌≢◌, ◌<◌, ◌≤◌, Ok, Err, IfOk, IfErr, OnOk, IsErrOf, IsTrue, true, false, length, ◌↔◌};
+ghost use Rattle.std.specs.Prelude.{◌≡◌, ◌≢◌, ℕ, ◌<◌, ◌≤◌, Ok, Err, Some, IfOk, IfErr, IfNone, OnOk, IsErrOf, IsTrue, true, false, length, slice_get, ◌↔◌};
+ghost use Rattle.std.specs.List.{All};
 
 use crate::alphabets::Alphabets;
 use crate::lookup::{devices_with, has, inside, interfaces_with, itself};
 use crate::members::{By, MemberError, is_finer};
+use crate::name_index::NameIndex;
 use crate::network::GroupEntry;
 use crate::tables::Tables;
 use crate::walk::read_network;
@@ -18,6 +20,7 @@ use std::marker::Model;
 pub struct Locations {
     groups: List<GroupEntry>,
     alphabets: Alphabets,
+    interfaces: NameIndex,
     tables: Tables,
 }
 
@@ -29,7 +32,7 @@ impl Model for Locations {
 
     ghost view = { λ locations. locations.groups };
 
-    ghost invariant = { λ locations. IsIndexed locations.groups locations.alphabets locations.tables };
+    ghost invariant = { λ locations. IsIndexed locations.groups locations.alphabets locations.interfaces locations.tables };
 }
 
 impl Locations {
@@ -70,10 +73,12 @@ impl Locations {
         let (groups, seen) = read_network(alloc, &root)?;
         drop(root);
         let alphabets = seen.into_alphabets(alloc)?;
+        let interfaces = NameIndex::new(alloc, &alphabets.interfaces)?;
         let tables = Tables::new(alloc, &alphabets, groups.as_slice())?;
         Ok(Locations {
             groups: List::from_vec(groups),
             alphabets,
+            interfaces,
             tables,
         })
     }
@@ -87,6 +92,15 @@ impl Locations {
             Level::Device => &self.alphabets.devices,
             Level::Group => &self.alphabets.groups,
         }
+    }
+
+    /// The interface of this name, and `None` where no interface has it. It takes expected constant
+    /// time.
+    pub fn interface(&self, name: &[u8]) -> Option<Symbol>
+        ensures found { (s : ℕ) → (result ≡ Some s) ↔ (slice_get (alphabet_of levels.Interface self.now) s ≡ Some name.now) }
+        ensures absent { IfNone result (All (λ other. other ≢ name.now) (alphabet_of levels.Interface self.now)) }
+    {
+        self.interfaces.find(name)
     }
 
     /// The location of a level in which an interface lies, in constant time.

@@ -10,7 +10,7 @@ ghost use Rattle.rela_snapshot.specs.Located.{StandsIn};
 use rela_graph::{Graph, Link, Node};
 use rela_json::LoadError;
 use rela_locations::Locations;
-use rela_names::{Alphabet, Level, Symbol};
+use rela_names::{Level, Symbol};
 use std::alloc::{AllocError, Global};
 use std::marker::Model;
 
@@ -67,14 +67,7 @@ fn interface_at(locations: &Locations, name: &[u8]) -> Option<Symbol>
     ensures place { result ≡ place_of (interfaces_in locations.now) name.now }
     ensures within { IfSome result (λ symbol. symbol < length (interfaces_in locations.now)) }
 {
-    find(locations.alphabet(Level::Interface), name)
-}
-
-fn find(names: &Alphabet, name: &[u8]) -> Option<Symbol>
-    ensures place { result ≡ place_of names.now name.now }
-    ensures within { IfSome result (λ symbol. symbol < length names.now) }
-{
-    names.find(name)
+    locations.interface(name)
 }
 
 /// The node at the interface of this name.

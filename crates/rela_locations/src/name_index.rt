@@ -1,0 +1,52 @@
+//! The symbols of locations, found by a hash of their names.
+
+ghost use Rattle.std.specs.Prelude.{◌≡◌, ◌≢◌, ◌↔◌, ℕ, Some, slice_get, IfOk, IfNone};
+ghost use Rattle.std.specs.List.{All};
+
+use indexmap::IndexSet;
+use rela_names::{Alphabet, Symbol};
+use std::alloc::{AllocError, Global};
+use std::marker::Model;
+
+/// The names of the locations of a level, found by a hash. The place of each is its symbol. Contracts
+/// see it as the list of them.
+#[derive(Drop)]
+pub(crate) struct NameIndex {
+    names: IndexSet<Vec<u8>>,
+}
+
+impl Model for NameIndex {
+    ghost use Rattle.std.specs.Prelude.{List, ℕ, map};
+    ghost use Rattle.rela_names.specs.Alphabet.{IsAlphabet};
+
+    ghost Value = { List (List ℕ) };
+
+    ghost view = { λ index. map (λ name. name.items) index.names.keys };
+
+    ghost invariant = { λ index. IsAlphabet (map (λ name. name.items) index.names.keys) };
+}
+
+impl NameIndex {
+    /// The index of an alphabet's locations.
+    pub(crate) fn new(alloc: Global, alphabet: &Alphabet) -> Result<NameIndex, AllocError>
+        ensures { IfOk result (λ index. index ≡ alphabet.now) }
+    {
+        let count = alphabet.len() - 2;
+        let mut names = IndexSet::with_capacity(alloc, count as usize)?;
+        for symbol in 0..count {
+            if let Some(name) = alphabet.name_of(symbol) {
+                names.insert(Vec::from_slice(alloc, name.as_bytes())?)?;
+            }
+        }
+        Ok(NameIndex { names })
+    }
+
+    /// The location of this name, and `None` where no location has it, in expected constant time.
+    pub(crate) fn find(&self, name: &[u8]) -> Option<Symbol>
+        ensures found { (s : ℕ) → (result ≡ Some s) ↔ (slice_get self.now s ≡ Some name.now) }
+        ensures absent { IfNone result (All (λ other. other ≢ name.now) self.now) }
+    {
+        let place = self.names.get_index_of(name)?;
+        Some(place as Symbol)
+    }
+}
