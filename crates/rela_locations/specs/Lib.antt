@@ -1,3 +1,4 @@
+pub mod Index
 pub mod Load
 pub mod Names
 pub mod Network

@@ -107,7 +107,6 @@ pub record AreTables (network : Network) (tables : Tables) : Type 0 where
   pub are_tagged : AreTagged (alphabet_of level.Device network) (devices_in network) tables.tagged
   pub devices_once : IsOnce (device_names (devices_in network))
 
-pub record IsIndexed (network : Network) (alphabets : Alphabets) (interfaces : List (List ℕ)) (tables : Tables) : Type 0 where
+pub record IsIndexed (network : Network) (alphabets : Alphabets) (tables : Tables) : Type 0 where
   pub are_alphabets : AreAlphabets network alphabets
-  pub interfaces_in_order : interfaces ≡ alphabet_of level.Interface network
   pub are_tables : AreTables network tables

@@ -1,11 +1,11 @@
 //! The names at the three levels.
 
-use rela_names::Alphabet;
+use crate::name_index::NameIndex;
 
-/// The alphabets of the three levels.
+/// The alphabets of the three levels, with the indexes of their names.
 #[derive(Drop)]
 pub(crate) struct Alphabets {
-    pub(crate) interfaces: Alphabet,
-    pub(crate) devices: Alphabet,
-    pub(crate) groups: Alphabet,
+    pub(crate) interfaces: NameIndex,
+    pub(crate) devices: NameIndex,
+    pub(crate) groups: NameIndex,
 }

@@ -6,7 +6,6 @@ ghost use Rattle.std.specs.List.{All};
 use crate::alphabets::Alphabets;
 use crate::lookup::{devices_with, has, inside, interfaces_with, itself};
 use crate::members::{By, MemberError, is_finer};
-use crate::name_index::NameIndex;
 use crate::network::GroupEntry;
 use crate::tables::Tables;
 use crate::walk::read_network;
@@ -20,7 +19,6 @@ use std::marker::Model;
 pub struct Locations {
     groups: List<GroupEntry>,
     alphabets: Alphabets,
-    interfaces: NameIndex,
     tables: Tables,
 }
 
@@ -32,7 +30,7 @@ impl Model for Locations {
 
     ghost view = { λ locations. locations.groups };
 
-    ghost invariant = { λ locations. IsIndexed locations.groups locations.alphabets locations.interfaces locations.tables };
+    ghost invariant = { λ locations. IsIndexed locations.groups locations.alphabets locations.tables };
 }
 
 impl Locations {
@@ -73,12 +71,10 @@ impl Locations {
         let (groups, seen) = read_network(alloc, &root)?;
         drop(root);
         let alphabets = seen.into_alphabets(alloc)?;
-        let interfaces = NameIndex::new(alloc, &alphabets.interfaces)?;
         let tables = Tables::new(alloc, &alphabets, groups.as_slice())?;
         Ok(Locations {
             groups: List::from_vec(groups),
             alphabets,
-            interfaces,
             tables,
         })
     }
@@ -88,9 +84,9 @@ impl Locations {
         ensures { result.now ≡ alphabet_of level self.now }
     {
         match level {
-            Level::Interface => &self.alphabets.interfaces,
-            Level::Device => &self.alphabets.devices,
-            Level::Group => &self.alphabets.groups,
+            Level::Interface => self.alphabets.interfaces.alphabet(),
+            Level::Device => self.alphabets.devices.alphabet(),
+            Level::Group => self.alphabets.groups.alphabet(),
         }
     }
 
@@ -100,7 +96,7 @@ impl Locations {
         ensures found { (s : ℕ) → (result ≡ Some s) ↔ (slice_get (alphabet_of levels.Interface self.now) s ≡ Some name.now) }
         ensures absent { IfNone result (All (λ other. other ≢ name.now) (alphabet_of levels.Interface self.now)) }
     {
-        self.interfaces.find(name)
+        self.alphabets.interfaces.find(name)
     }
 
     /// The location of a level in which an interface lies, in constant time.
@@ -117,8 +113,8 @@ impl Locations {
     }
 
     /// The locations of a level that lie in the named location, or in a device with the named tag,
-    /// ascending. It takes a look-up by binary search and, but for a tag, time linear in the answer;
-    /// for a tag it sorts the answer.
+    /// ascending. It takes a look-up by hash and time linear in the answer; for a tag it takes a
+    /// look-up by binary search, and sorts the answer.
     ///
     /// # Errors
     ///
@@ -143,7 +139,7 @@ impl Locations {
         }
     }
 
-    /// Sees that a name picks locations of a level, by a binary search alone: where it does, `members`
+    /// Sees that a name picks locations of a level, by a look-up alone: where it does, `members`
     /// lists them, and where it does not, `members` refuses for the same reason.
     ///
     /// # Errors

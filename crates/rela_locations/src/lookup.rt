@@ -10,14 +10,15 @@ ghost use Rattle.rela_locations.specs.Names.{has_name};
 ghost use Rattle.rela_locations.specs.Tables.{index_of, has_number, devices_for};
 
 use crate::members::MemberError;
+use crate::name_index::NameIndex;
 use crate::tags::Tagged;
-use rela_names::{Alphabet, Name, Symbol};
+use rela_names::{Name, Symbol};
 use std::alloc::{AllocError, Global};
 
 /// The location of this name, as its only member.
 pub(crate) fn itself(
     alloc: Global,
-    alphabet: &Alphabet,
+    alphabet: &NameIndex,
     name: &Name,
 ) -> Result<Vec<Symbol>, MemberError>
     ensures members { IfOk result (λ members. members.items ≡ index_of alphabet.now name.now ∷ []) }
@@ -32,7 +33,7 @@ pub(crate) fn itself(
 /// The list of the location of this name.
 pub(crate) fn inside(
     alloc: Global,
-    alphabet: &Alphabet,
+    alphabet: &NameIndex,
     lists: &[Vec<Symbol>],
     name: &Name,
 ) -> Result<Vec<Symbol>, MemberError>
@@ -114,14 +115,14 @@ fn ascending(symbols: Vec<Symbol>) -> Vec<Symbol>
 }
 
 /// Whether a location has this name.
-pub(crate) fn has(alphabet: &Alphabet, name: &Name) -> bool
+pub(crate) fn has(alphabet: &NameIndex, name: &Name) -> bool
     ensures { result ≡ has_name alphabet.now name.now }
 {
     find(alphabet, name).is_ok()
 }
 
 /// The symbol of a name.
-fn find(alphabet: &Alphabet, name: &Name) -> Result<Symbol, MemberError>
+fn find(alphabet: &NameIndex, name: &Name) -> Result<Symbol, MemberError>
     ensures found { IfOk result (λ symbol. symbol ≡ index_of alphabet.now name.now) }
     ensures known { OnOk result (has_name alphabet.now name.now ≡ true) }
     ensures unknown { OnErr result (has_name alphabet.now name.now ≡ false) }

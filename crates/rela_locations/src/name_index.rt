@@ -8,28 +8,29 @@ use rela_names::{Alphabet, Symbol};
 use std::alloc::{AllocError, Global};
 use std::marker::Model;
 
-/// The names of the locations of a level, found by a hash. The place of each is its symbol. Contracts
-/// see it as the list of them.
+/// The locations of a level, found by a hash of their names. Contracts see it as the list of the names,
+/// as they see the alphabet.
 #[derive(Drop)]
 pub(crate) struct NameIndex {
+    alphabet: Alphabet,
     names: IndexSet<Vec<u8>>,
 }
 
 impl Model for NameIndex {
     ghost use Rattle.std.specs.Prelude.{List, ℕ, map};
-    ghost use Rattle.rela_names.specs.Alphabet.{IsAlphabet};
+    ghost use Rattle.rela_locations.specs.Index.{IsIndexOf};
 
     ghost Value = { List (List ℕ) };
 
-    ghost view = { λ index. map (λ name. name.items) index.names.keys };
+    ghost view = { λ index. index.alphabet };
 
-    ghost invariant = { λ index. IsAlphabet (map (λ name. name.items) index.names.keys) };
+    ghost invariant = { λ index. IsIndexOf index.alphabet (map (λ name. name.items) index.names.keys) };
 }
 
 impl NameIndex {
     /// The index of an alphabet's locations.
-    pub(crate) fn new(alloc: Global, alphabet: &Alphabet) -> Result<NameIndex, AllocError>
-        ensures { IfOk result (λ index. index ≡ alphabet.now) }
+    pub(crate) fn new(alloc: Global, alphabet: Alphabet) -> Result<NameIndex, AllocError>
+        ensures { IfOk result (λ index. index ≡ alphabet) }
     {
         let count = alphabet.len() - 2;
         let mut names = IndexSet::with_capacity(alloc, count as usize)?;
@@ -38,7 +39,14 @@ impl NameIndex {
                 names.insert(Vec::from_slice(alloc, name.as_bytes())?)?;
             }
         }
-        Ok(NameIndex { names })
+        Ok(NameIndex { alphabet, names })
+    }
+
+    /// The alphabet itself.
+    pub(crate) fn alphabet(&self) -> &Alphabet
+        ensures { result.now ≡ self.now }
+    {
+        &self.alphabet
     }
 
     /// The location of this name, and `None` where no location has it, in expected constant time.

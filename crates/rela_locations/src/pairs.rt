@@ -6,8 +6,9 @@ ghost use Rattle.rela_locations.specs.Network.{devices_in};
 ghost use Rattle.rela_locations.specs.Tables.{index_of, AreKnown, device_names, interface_names, under, numbered_pairs};
 
 use crate::alphabets::Alphabets;
+use crate::name_index::NameIndex;
 use crate::network::{DeviceEntry, GroupEntry};
-use rela_names::{Alphabet, Name, Symbol};
+use rela_names::{Name, Symbol};
 use std::alloc::{AllocError, Global};
 
 /// A location and one round it.
@@ -37,8 +38,8 @@ pub(crate) fn interfaces_with_devices(
 
 fn add_interfaces(
     pairs: &mut Vec<Pair>,
-    interfaces: &Alphabet,
-    devices: &Alphabet,
+    interfaces: &NameIndex,
+    devices: &NameIndex,
     entries: &[DeviceEntry],
 ) -> Result<(), AllocError>
     requires interfaces { AreKnown interfaces.now (interface_names entries.now) }
@@ -77,7 +78,7 @@ pub(crate) fn interfaces_with_groups(
 
 fn add_all_interfaces(
     pairs: &mut Vec<Pair>,
-    interfaces: &Alphabet,
+    interfaces: &NameIndex,
     entries: &[DeviceEntry],
     group: Symbol,
 ) -> Result<(), AllocError>
@@ -92,7 +93,7 @@ fn add_all_interfaces(
 
 fn add_each(
     pairs: &mut Vec<Pair>,
-    alphabet: &Alphabet,
+    alphabet: &NameIndex,
     names: &[Name],
     parent: Symbol,
 ) -> Result<(), AllocError>
@@ -130,7 +131,7 @@ pub(crate) fn devices_with_groups(
 
 fn add_devices(
     pairs: &mut Vec<Pair>,
-    alphabet: &Alphabet,
+    alphabet: &NameIndex,
     entries: &[DeviceEntry],
     group: Symbol,
 ) -> Result<(), AllocError>
@@ -144,7 +145,7 @@ fn add_devices(
 }
 
 /// The symbol of a name that is there.
-pub(crate) fn symbol_of(alphabet: &Alphabet, name: &Name) -> Symbol
+pub(crate) fn symbol_of(alphabet: &NameIndex, name: &Name) -> Symbol
     requires { IsTrue (has_name alphabet.now name.now) }
     ensures { result ≡ index_of alphabet.now name.now }
 {

@@ -7,10 +7,10 @@ ghost use Rattle.rela_locations.specs.Tables.{AreAlphabets, IsNamedOnce, IsConta
 
 use crate::alphabets::Alphabets;
 use crate::containment::Containment;
+use crate::name_index::NameIndex;
 use crate::network::GroupEntry;
 use crate::pairs::{devices_with_groups, interfaces_with_devices, interfaces_with_groups};
 use crate::tags::{Tagged, tagged_devices};
-use rela_names::Alphabet;
 use std::alloc::{AllocError, Global};
 
 /// Which locations lie in which, by their symbols.
@@ -88,10 +88,10 @@ fn devices_in_groups(
 }
 
 /// How many locations there are.
-fn count_of(alphabet: &Alphabet) -> usize
+fn count_of(alphabet: &NameIndex) -> usize
     ensures count { result ≡ length alphabet.now }
     ensures ascending { IsAscending alphabet.now }
     ensures few { length alphabet.now ≤ 100000 }
 {
-    alphabet.len() as usize - 2
+    alphabet.alphabet().len() as usize - 2
 }

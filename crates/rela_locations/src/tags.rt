@@ -9,9 +9,10 @@ ghost use Rattle.rela_names.specs.Name.{bytes_cmp};
 ghost use Rattle.rela_locations.specs.Network.{devices_in};
 ghost use Rattle.rela_locations.specs.Tables.{AreKnown, device_names, has_number, devices_for, is_tagged, AreTagged};
 
+use crate::name_index::NameIndex;
 use crate::network::{DeviceEntry, GroupEntry};
 use crate::pairs::symbol_of;
-use rela_names::{Alphabet, Name, Symbol};
+use rela_names::{Name, Symbol};
 use std::alloc::{AllocError, Global};
 use std::collections::BTreeMap;
 
@@ -21,7 +22,7 @@ pub(crate) type Tagged = BTreeMap<Name, Vec<Symbol>>;
 /// The devices with each tag that these groups have.
 pub(crate) fn tagged_devices(
     alloc: Global,
-    devices: &Alphabet,
+    devices: &NameIndex,
     groups: &[GroupEntry],
 ) -> Result<Tagged, AllocError>
     requires { AreKnown devices.now (device_names (devices_in groups.now)) }
@@ -37,7 +38,7 @@ pub(crate) fn tagged_devices(
 fn add_devices(
     alloc: Global,
     tagged: &mut Tagged,
-    devices: &Alphabet,
+    devices: &NameIndex,
     entries: &[DeviceEntry],
 ) -> Result<(), AllocError>
     requires { AreKnown devices.now (device_names entries.now) }

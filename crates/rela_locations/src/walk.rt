@@ -10,6 +10,7 @@ ghost use Rattle.rela_locations.specs.Network.{names_at, alphabet_of};
 ghost use Rattle.rela_locations.specs.Load.{load_interface, load_interfaces, load_tag, load_tags, load_device, load_devices, load_group, load_groups, load_file};
 
 use crate::alphabets::Alphabets;
+use crate::name_index::NameIndex;
 use crate::name_set::NameSet;
 use crate::network::{DeviceEntry, GroupEntry};
 use crate::parts::{bytes, entries, part, whole_number};
@@ -26,7 +27,7 @@ pub(crate) struct Seen {
 }
 
 impl Seen {
-    /// The names as alphabets.
+    /// The names as alphabets with their indexes.
     pub(crate) fn into_alphabets(self, alloc: Global) -> Result<Alphabets, AllocError>
         ensures interfaces { IfOk result (λ alphabets. alphabets.interfaces ≡ self.interfaces) }
         ensures devices { IfOk result (λ alphabets. alphabets.devices ≡ self.devices) }
@@ -38,9 +39,9 @@ impl Seen {
             interfaces,
         } = self;
         Ok(Alphabets {
-            interfaces: interfaces.into_alphabet(alloc)?,
-            devices: devices.into_alphabet(alloc)?,
-            groups: groups.into_alphabet(alloc)?,
+            interfaces: NameIndex::new(alloc, interfaces.into_alphabet(alloc)?)?,
+            devices: NameIndex::new(alloc, devices.into_alphabet(alloc)?)?,
+            groups: NameIndex::new(alloc, groups.into_alphabet(alloc)?)?,
         })
     }
 }
