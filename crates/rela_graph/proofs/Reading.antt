@@ -1,14 +1,13 @@
 -- What the automaton of a graph's walks reaches and accepts.
-use Rattle.std.proofs.Common.{◌≡◌, ◌≢◌, ℕ, zero, suc, ◌+◌, ◌<◌, ◌⊎◌, ◌↔◌, Result, Ok, Err, Bool, true, false, List, [], ◌∷◌, ◌++◌, length, get_or, Option, None, Some, refl, sym, ap, ◌∙◌, subst, inl, inr, arith, length-append}
+use Rattle.std.proofs.Common.{◌≡◌, ◌≢◌, ℕ, zero, suc, ◌+◌, ◌<◌, ◌⊎◌, ◌↔◌, true, false, List, [], ◌∷◌, ◌++◌, length, get_or, Option, None, Some, refl, sym, ap, ◌∙◌, subst, inl, inr, arith, length-append}
 use Rattle.std.specs.List.{All}
 use Rattle.std.specs.Option.{option_to_list}
-use Rattle.std.specs.Result.{IfOk}
 use Rattle.std.proofs.lemmas.Bool.{cases_eq, eq-eqb, ne_eqb}
 use Rattle.std.proofs.lemmas.List.{append-nil, map_push, get_or_append_left, get_or_at}
 use Rattle.std.proofs.lemmas.List.Elements.{All-nil, All-cons, All-push}
 use Rattle.rela_names.specs.declared.level.Level.{Level}
 use Rattle.rela_labels.specs.Partition.{block_of}
-use Rattle.rela_nfa.specs.Automaton.{Automaton, Move, IsFinal}
+use Rattle.rela_nfa.specs.Automaton.{Automaton, IsFinal}
 use Rattle.rela_nfa.specs.Relabelling.{blocks_of}
 use Rattle.rela_nfa.specs.Runs.{StepIn, HasStep, Reach, Accepts}
 use Rattle.rela_nfa.proofs.Moves.{no_step}
@@ -18,7 +17,6 @@ use Rattle.rela_graph.specs.Alone.{StandsAlone}
 use Rattle.rela_graph.specs.Lettering.{letter_at, read_between}
 use Rattle.rela_graph.specs.Paths.{Paths, Undelivered, Arrives, base, locations}
 use Rattle.rela_graph.specs.Topology.{Topology, IsTopology, HasEdge, IsStart, IsDelivered}
-use Rattle.rela_graph.specs.Unrolled.{IsUnrolled}
 use Rattle.rela_graph.specs.Walk.{IsWalk, IsCyclic, IsDropNode}
 use Rattle.rela_graph.specs.declared.letters.Letters.{Letters}
 use Rattle.rela_graph.proofs.Arriving.{base_same, base_other, arrive_same, arrive_other}
@@ -299,11 +297,3 @@ module _ (g : Topology) (level : Level) (alphabet : List (List ℕ)) (blocks : L
           (1 + count, undelivered_reach w (n, front, tail, arrives, inr rest, some, whole), last_final)
     ],
   )
-
--- what comes of these parts reads the walks
-pub read_result : {E : Type 0} (g : Topology) (letters : Letters) (lists : List (List Move)) (finals : List Bool) (result : Result Automaton E)
-    → finals ≡ false ∷ (g.delivered ++ true ∷ []) → IsUnrolled g letters lists → IfOk result (λ nfa. nfa.letters ≡ letters.count) → IfOk result (λ nfa. nfa.start ≡ 0)
-    → IfOk result (λ nfa. nfa.finals ≡ finals) → IfOk result (λ nfa. nfa.edges ≡ lists) → IfOk result (IsReader g letters)
-read_result g letters lists finals (Ok nfa) finals_are unrolled same_count start same_finals same_edges =
-    record { count = same_count; start = start; finals = same_finals ∙ finals_are; edges = subst (IsUnrolled g letters) (sym same_edges) unrolled }
-read_result g letters lists finals (Err e) finals_are unrolled same_count start same_finals same_edges = tt

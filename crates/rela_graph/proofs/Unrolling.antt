@@ -1,12 +1,10 @@
 -- The edges of each state, as they are listed.
-use Rattle.std.proofs.Common.{◌≡◌, ℕ, zero, suc, ◌+◌, ◌<◌, ◌≤◌, ◌⊎◌, ◌↔◌, Bool, true, false, IsTrue, List, [], ◌∷◌, ◌++◌, length, get_or, map, Option, Some, sym, ap, ◌∙◌, Vec, subst, inl, inr, arith}
+use Rattle.std.proofs.Common.{◌≡◌, ℕ, zero, suc, ◌+◌, ◌<◌, ◌≤◌, ◌⊎◌, ◌↔◌, Bool, true, false, IsTrue, List, [], ◌∷◌, ◌++◌, length, get_or, map, Option, Some, sym, ap, ◌∙◌, subst, inl, inr, arith}
 use Rattle.std.specs.List.{All, Contains}
 use Rattle.std.proofs.lemmas.Bool.{cases_lt, cases_eq}
-use Rattle.std.proofs.lemmas.List.{get_or_append_left, get_or_at, get_or_default, length_push, map_push}
+use Rattle.std.proofs.lemmas.List.{get_or_append_left, get_or_at, get_or_default, length_push}
 use Rattle.std.proofs.lemmas.List.Elements.{All-nil}
 use Rattle.rela_nfa.specs.Automaton.{Automaton, Move, IsMove, IsAutomaton, states}
-use Rattle.rela_nfa.specs.Stored.{move_of, moves_in}
-use Rattle.rela_nfa.specs.declared.edge.Edge.{Edge}
 use Rattle.rela_graph.specs.Lettering.{AreLetters, letter_at, read_between, by_letter, only_if, link_move}
 use Rattle.rela_graph.specs.Topology.{Topology, IsTopology, HasEdge, IsStart, IsEdgeFrom}
 use Rattle.rela_graph.specs.Unrolled.{LeadOn, Begins, GoesOn, IsUnrolled}
@@ -122,11 +120,6 @@ pub record SoFar (g : Topology) (letters : Letters) (edges : List (List Move)) (
   pub len : length edges ≡ 1 + n
   pub first : LeadOn letters.count (length g.nodes + 2) (get_or edges 0 []) (Begins g letters)
   pub nodes : (k : ℕ) → k < n → LeadOn letters.count (length g.nodes + 2) (get_or edges (1 + k) []) (GoesOn g letters k)
-
--- one list more
-pub lists_more : {L A : Type 0} (letters : L → List Bool) (old new : List (Vec (Edge L) A)) (v : Vec (Edge L) A) → new ≡ old ++ v ∷ []
-    → moves_in letters new ≡ moves_in letters old ++ map (move_of letters) v.items ∷ []
-lists_more letters old new v is = ap (moves_in letters) is ∙ map_push (λ v. map (move_of letters) v.items) old v
 
 module _ (g : Topology) (letters : Letters) where
   pub first_list : (old edges : List (List Move)) (moves : List Move) → edges ≡ old ++ moves ∷ [] → old ≡ []

@@ -1,11 +1,11 @@
-ghost use Rattle.std.specs.Prelude.{◌≡◌, ℕ, ◌+◌, ◌<◌, ◌≤◌, ◌↔◌, true, false, List, [], ◌∷◌, ◌++◌, IsTrue, IfOk, length, map};
+ghost use Rattle.std.specs.Prelude.{◌≡◌, ℕ, ◌+◌, ◌<◌, ◌≤◌, ◌↔◌, true, false, List, [], ◌∷◌, ◌++◌, IsTrue, IfOk, OnOk, length, map};
 ghost use Rattle.std.specs.List.{All};
 ghost use Rattle.rela_names.specs.Alphabet.{path_symbols};
 ghost use Rattle.rela_labels.specs.Partition.{block_count};
 ghost use Rattle.rela_nfa.specs.Automaton.{states};
 ghost use Rattle.rela_nfa.specs.Relabelling.{blocks_of};
 ghost use Rattle.rela_nfa.specs.Runs.{Reach, Accepts};
-ghost use Rattle.rela_nfa.specs.Stored.{move_of, moves_in};
+ghost use Rattle.rela_nfa.specs.Stored.{move_of};
 ghost use Rattle.rela_graph.specs.Alone.{StandsAlone};
 ghost use Rattle.rela_graph.specs.Lettering.{AreLetters};
 ghost use Rattle.rela_graph.specs.Paths.{Paths, Undelivered, Arrives, locations};
@@ -17,7 +17,7 @@ use crate::graph::Graph;
 use crate::letters::Letters;
 use rela_labels::{LabelSet, Partition};
 use rela_names::{Alphabet, Level};
-use rela_nfa::{Edge, Nfa};
+use rela_nfa::{Edge, EdgeLists, Nfa};
 use std::alloc::{AllocError, Global};
 
 impl Graph {
@@ -56,7 +56,7 @@ impl Graph {
         let letters = Letters::new(alloc, self, level, alphabet, blocks)?;
         let finals = self.finals(alloc)?;
         let edges = self.edge_lists(alloc, &letters)?;
-        Nfa::from_parts(alloc, letters.count, 0, &finals, edges)
+        Ok(Nfa::from_lists(letters.count, 0, finals, edges))
     }
 
     /// Whether each state is final: those of nodes that deliver are, and the last.
@@ -77,65 +77,65 @@ impl Graph {
         &self,
         alloc: Global,
         letters: &Letters,
-    ) -> Result<Vec<Vec<Edge<L>>>, AllocError>
+    ) -> Result<EdgeLists<L>, AllocError>
         requires fits { L.fits letters.now.count }
         requires letters { AreLetters self.now letters.now }
-        ensures { IfOk result (λ edges. IsUnrolled self.now letters.now (moves_in L.letters edges.items)) }
+        ensures { IfOk result (λ edges. IsUnrolled self.now letters.now edges) }
     {
         let count = self.nodes().len();
         let cyclic = self.cyclic_nodes(alloc)?;
-        let mut edges = Vec::with_capacity(alloc, count + 2)?;
-        edges.push(self.edges_to_starts(alloc, letters)?)?;
+        let mut edges = EdgeLists::with_capacity(alloc, count + 2)?;
+        let mut leaving = Vec::new(alloc);
+        self.add_edges_to_starts(alloc, &mut leaving, letters)?;
+        edges.push(&mut leaving)?;
         for n in 0..count {
-            edges.push(self.edges_of_node(alloc, letters, n as u32, cyclic[n])?)?;
+            self.add_edges_of_node(alloc, &mut leaving, letters, n as u32, cyclic[n])?;
+            edges.push(&mut leaving)?;
         }
-        edges.push(Vec::new(alloc))?;
+        edges.push(&mut leaving)?;
         Ok(edges)
     }
 
-    /// An edge to each start by its letter.
-    fn edges_to_starts<L: LabelSet>(
+    /// Adds an edge to each start by its letter. There are none before.
+    fn add_edges_to_starts<L: LabelSet>(
         &self,
         alloc: Global,
+        edges: &mut Vec<Edge<L>>,
         letters: &Letters,
-    ) -> Result<Vec<Edge<L>>, AllocError>
+    ) -> Result<(), AllocError>
+        requires empty { edges.old.items ≡ [] }
         requires fits { L.fits letters.now.count }
         requires letters { AreLetters self.now letters.now }
-        ensures { IfOk result (λ edges. LeadOn letters.now.count (length self.now.nodes + 2) (map (move_of L.letters) edges.items) (Begins self.now letters.now)) }
+        ensures { OnOk result (LeadOn letters.now.count (length self.now.nodes + 2) (map (move_of L.letters) edges.new.items) (Begins self.now letters.now)) }
     {
-        let mut edges = Vec::new(alloc);
         for n in 0..self.nodes().len() {
             let is_start = self.is_start(n as u32);
-            letters.add_if(alloc, &mut edges, is_start, letters.nodes[n], 1 + n)?;
+            letters.add_if(alloc, edges, is_start, letters.nodes[n], 1 + n)?;
         }
-        Ok(edges)
+        Ok(())
     }
 
-    /// The edges of the state that stands at a node: those of the graph, and to the last state by
-    /// `drop` where the node drops, and by `loop` where it lies on a cycle.
-    fn edges_of_node<L: LabelSet>(
+    /// Adds the edges of the state that stands at a node: those of the graph, and to the last state by
+    /// `drop` where the node drops, and by `loop` where it lies on a cycle. There are none before.
+    fn add_edges_of_node<L: LabelSet>(
         &self,
         alloc: Global,
+        edges: &mut Vec<Edge<L>>,
         letters: &Letters,
         n: u32,
         is_cyclic: bool,
-    ) -> Result<Vec<Edge<L>>, AllocError>
+    ) -> Result<(), AllocError>
+        requires empty { edges.old.items ≡ [] }
         requires fits { L.fits letters.now.count }
         requires letters { AreLetters self.now letters.now }
         requires node { n < length self.now.nodes }
         requires cyclic { IsTrue is_cyclic ↔ IsCyclic self.now n }
-        ensures { IfOk result (λ edges. LeadOn letters.now.count (length self.now.nodes + 2) (map (move_of L.letters) edges.items) (GoesOn self.now letters.now n)) }
+        ensures { OnOk result (LeadOn letters.now.count (length self.now.nodes + 2) (map (move_of L.letters) edges.new.items) (GoesOn self.now letters.now n)) }
     {
         let end = 1 + self.nodes().len();
-        let mut edges = letters.edges_along(alloc, self.edges_from(n))?;
-        letters.add_if(
-            alloc,
-            &mut edges,
-            self.is_drop_node(n),
-            letters.drop_letter,
-            end,
-        )?;
-        letters.add_if(alloc, &mut edges, is_cyclic, letters.loop_letter, end)?;
-        Ok(edges)
+        letters.add_along(alloc, edges, self.edges_from(n))?;
+        letters.add_if(alloc, edges, self.is_drop_node(n), letters.drop_letter, end)?;
+        letters.add_if(alloc, edges, is_cyclic, letters.loop_letter, end)?;
+        Ok(())
     }
 }

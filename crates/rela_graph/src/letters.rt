@@ -1,4 +1,4 @@
-ghost use Rattle.std.specs.Prelude.{◌≡◌, ℕ, ◌+◌, ◌<◌, ◌≤◌, ◌++◌, IfOk, OnOk, length, map};
+ghost use Rattle.std.specs.Prelude.{◌≡◌, ℕ, ◌+◌, ◌<◌, ◌≤◌, [], ◌++◌, IfOk, OnOk, length, map};
 ghost use Rattle.std.specs.List.{All};
 ghost use Rattle.rela_names.specs.Alphabet.{path_symbols};
 ghost use Rattle.rela_labels.specs.Partition.{block_of, block_count};
@@ -107,21 +107,22 @@ impl Letters {
         self.edge_by(alloc, letter, to)
     }
 
-    /// The edge for each of the graph's.
-    pub(crate) fn edges_along<L: LabelSet>(
+    /// Adds the edge for each of the graph's. There are none before.
+    pub(crate) fn add_along<L: LabelSet>(
         &self,
         alloc: Global,
+        edges: &mut Vec<Edge<L>>,
         links: &[Link],
-    ) -> Result<Vec<Edge<L>>, AllocError>
+    ) -> Result<(), AllocError>
+        requires empty { edges.old.items ≡ [] }
         requires fits { L.fits self.now.count }
         requires each { All (λ k. k < self.now.count) self.now.nodes.items }
         requires joins { All (JoinsNodes (length self.now.nodes.items)) links.now }
-        ensures { IfOk result (λ edges. map (move_of L.letters) edges.items ≡ map (link_move self.now) links.now) }
+        ensures { OnOk result (map (move_of L.letters) edges.new.items ≡ map (link_move self.now) links.now) }
     {
-        let mut edges = Vec::with_capacity(alloc, links.len())?;
         for link in links {
             edges.push(self.edge_along(alloc, link)?)?;
         }
-        Ok(edges)
+        Ok(())
     }
 }

@@ -1,9 +1,9 @@
-ghost use Rattle.std.specs.Prelude.{◌≡◌, ◌<◌, IfOk, OnOk, map, length};
+ghost use Rattle.std.specs.Prelude.{◌≡◌, ◌<◌, [], IfOk, OnOk, map, length};
 ghost use Rattle.std.specs.List.{All, range_with_len};
 ghost use Rattle.std.specs.Option.{ForSome, option_map};
 ghost use Rattle.rela_nfa.specs.Automaton.{states};
 ghost use Rattle.rela_nfa.specs.Directing.{extended};
-ghost use Rattle.rela_nfa.specs.Stored.{move_of as edge_of, moves_in as edges_in};
+ghost use Rattle.rela_nfa.specs.Stored.{move_of as edge_of};
 ghost use Rattle.rela_trans.specs.Composition.{joint_moves, numbered, product_moves_at};
 ghost use Rattle.rela_trans.specs.ImageMoves.{source_of, read_by, written_label, written_labels, alone_labels, read_labels, final_image};
 ghost use Rattle.rela_trans.specs.Images.{written_edges};
@@ -14,7 +14,7 @@ use crate::joint::{after_same, second_alone};
 use crate::moves::{Move, MoveKind};
 use crate::transducer::Transducer;
 use rela_labels::LabelSet;
-use rela_nfa::{Edge, Nfa, add_directed, add_silent};
+use rela_nfa::{Edge, EdgeLists, Nfa, add_directed, add_silent};
 use rela_pairs::{Explored, Pair};
 use std::alloc::{AllocError, Global};
 
@@ -97,29 +97,30 @@ fn add_read<L: LabelSet>(
     Ok(())
 }
 
-/// The edges by what is written from a pair of states on, to these numbers of the pairs to which they
-/// lead.
-fn edges_from<L: LabelSet>(
+/// Adds the edges by what is written from a pair of states on, to these numbers of the pairs to which
+/// they lead. There are none before.
+fn add_edges_from<L: LabelSet>(
     alloc: Global,
+    edges: &mut Vec<Edge<L>>,
     source: &Nfa<L>,
     transducer: &Transducer<L>,
     pair: Pair,
     targets: &[usize],
-) -> Result<Vec<Edge<L>>, AllocError>
+) -> Result<(), AllocError>
+    requires empty { edges.old.items ≡ [] }
     requires letters { source.now.letters ≡ transducer.now.letters }
     requires left { pair.left < states source.now }
     requires right { pair.right < machine_states transducer.now }
-    ensures { IfOk result (λ edges. map (edge_of L.letters) edges.items ≡ written_edges (numbered (joint_moves (source_of source.now) transducer.now pair) targets.now)) }
+    ensures { OnOk result (map (edge_of L.letters) edges.new.items ≡ written_edges (numbered (joint_moves (source_of source.now) transducer.now pair) targets.now)) }
 {
     let sources = source.edges(pair.left);
     let moves = transducer.moves(pair.right);
-    let mut edges = Vec::with_capacity(alloc, targets.len())?;
-    add_silent(&mut edges, sources, targets)?;
-    add_alone(alloc, &mut edges, moves, targets)?;
+    add_silent(edges, sources, targets)?;
+    add_alone(alloc, edges, moves, targets)?;
     for edge in sources {
-        add_read(alloc, &mut edges, edge, moves, targets)?;
+        add_read(alloc, edges, edge, moves, targets)?;
     }
-    Ok(edges)
+    Ok(())
 }
 
 /// For each pair the edges by what is written from it on, to the numbers of the pairs.
@@ -128,18 +129,27 @@ pub(crate) fn image_edges<L: LabelSet>(
     source: &Nfa<L>,
     transducer: &Transducer<L>,
     explored: &Explored,
-) -> Result<Vec<Vec<Edge<L>>>, AllocError>
+) -> Result<EdgeLists<L>, AllocError>
     requires letters { source.now.letters ≡ transducer.now.letters }
     requires pairs { All (λ x. (x.left < states source.now) × (x.right < machine_states transducer.now)) explored.now.pairs }
     requires one_list_each { length explored.now.targets ≡ length explored.now.pairs }
-    ensures { IfOk result (λ edges. edges_in L.letters edges.items
+    ensures { IfOk result (λ edges. edges
         ≡ map written_edges (map (product_moves_at (source_of source.now) transducer.now explored.now) (range_with_len 0 (length explored.now.pairs)))) }
 {
     let pairs = explored.pairs();
-    let mut edges = Vec::with_capacity(alloc, pairs.len())?;
+    let mut edges = EdgeLists::with_capacity(alloc, pairs.len())?;
+    let mut leaving = Vec::new(alloc);
     for number in 0..pairs.len() {
         let targets = explored.targets(number);
-        edges.push(edges_from(alloc, source, transducer, pairs[number], targets)?)?;
+        add_edges_from(
+            alloc,
+            &mut leaving,
+            source,
+            transducer,
+            pairs[number],
+            targets,
+        )?;
+        edges.push(&mut leaving)?;
     }
     Ok(edges)
 }

@@ -55,8 +55,7 @@ pub fn image<L: LabelSet>(
     let explored = explore(alloc, &reading, start, limit)?;
     let finals = image_finals(alloc, a, transducer, explored.pairs())?;
     let edges = image_edges(alloc, a, transducer, &explored)?;
-    let image = Nfa::from_parts(alloc, a.letters(), 0, &finals, edges)?;
-    Ok(image)
+    Ok(Nfa::from_lists(a.letters(), 0, finals, edges))
 }
 
 /// Whether each number of the word is a letter.

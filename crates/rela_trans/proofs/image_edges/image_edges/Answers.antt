@@ -3,8 +3,9 @@ use Rattle.std.specs.List.{range_with_len}
 use Rattle.std.proofs.lemmas.List.{map_push}
 use Rattle.std.proofs.lemmas.List.FromFn.{map-range_with_len_more}
 use Rattle.rela_pairs.specs.declared.pair.Pair.{Pair}
+use Rattle.rela_nfa.specs.Automaton.{Move as Edge}
 use Rattle.rela_nfa.specs.Meeting.{pair_of}
-use Rattle.rela_nfa.specs.Stored.{move_of as edge_of, moves_in as edges_in}
+use Rattle.rela_nfa.specs.Stored.{move_of as edge_of}
 use Rattle.rela_trans.specs.Composition.{joint_moves, numbered, product_moves_at}
 use Rattle.rela_trans.specs.ImageMoves.{source_of}
 use Rattle.rela_trans.specs.Images.{written_edges}
@@ -17,14 +18,14 @@ loop-number-preserved g c =
     let t = c.args.transducer.now in
     let e = c.args.explored.now in
     let n = c.loop-number.number in
-    let edges = edges_in g.L.LabelSet.letters in
     let none = pair_of 0 0 in
     let below : n < length e.pairs = subst (λ (l : List Pair). n < length l) c.pairs-pairs.ensures c.loop-number-test.true in
     let so_far = map (product_moves_at a t e) (range_with_len 0 n) in
-    let added = map (edge_of g.L.LabelSet.letters) c.in_ok-edges_from.field-0.items in
+    let added = map (edge_of g.L.LabelSet.letters) c.add_edges_from.new.edges.items in
     let one : added ≡ written_edges (product_moves_at a t e n) =
-    c.in_ok-edges_from.ensures ∙ ap (λ l. written_edges (numbered (joint_moves a t (get_or l n none)) c.targets-targets.result.now)) c.pairs-pairs.ensures
-    ∙ ap (λ l. written_edges (numbered (joint_moves a t (get_or e.pairs n none)) l)) c.targets-targets.ensures ∙ ap written_edges (sym (product_moves_of a t e n below none)) in
-    ap edges c.in_ok-push.ensures.items ∙ map_push (λ v. map (edge_of g.L.LabelSet.letters) v.items) c.loop-number.edges.items _
-    ∙ ap (λ l. l ++ added ∷ []) c.loop-number.invariant ∙ ap (λ m. map written_edges so_far ++ m ∷ []) one ∙ sym (map_push written_edges so_far (product_moves_at a t e n))
-    ∙ ap (map written_edges) (sym (map-range_with_len_more (product_moves_at a t e) 0 n n (omega arith)))
+    c.in_ok-add_edges_from.ensures ∙ ap (λ l. written_edges (numbered (joint_moves a t (get_or l n none)) c.targets-targets.result.now)) c.pairs-pairs.ensures
+    ∙ ap (λ l. written_edges (numbered (joint_moves a t (get_or e.pairs n none)) l)) c.targets-targets.ensures ∙ ap written_edges (sym (product_moves_of a t e n below none)) in (
+      c.in_ok-push.ensures.taken,
+      c.in_ok-push.ensures.list ∙ ap (λ (l : List (List Edge)). l ++ added ∷ []) c.loop-number.invariant.1 ∙ ap (λ m. map written_edges so_far ++ m ∷ []) one
+          ∙ sym (map_push written_edges so_far (product_moves_at a t e n)) ∙ ap (map written_edges) (sym (map-range_with_len_more (product_moves_at a t e) 0 n n (omega arith))),
+    )

@@ -5,7 +5,6 @@ use Rattle.rela_pairs.specs.Reachable.{Reachable, MoreThan}
 use Rattle.rela_pairs.specs.declared.pair.Pair.{Pair}
 use Rattle.rela_nfa.specs.Automaton.{Automaton, states}
 use Rattle.rela_nfa.specs.Meeting.{pair_of}
-use Rattle.rela_nfa.specs.Stored.{moves_in as edges_in}
 use Rattle.rela_trans.specs.Composition.{next_pairs, final_both}
 use Rattle.rela_trans.specs.ImageMoves.{source_of, product_of}
 use Rattle.rela_trans.specs.Images.{IsWritten}
@@ -42,8 +41,8 @@ image_edges-requires-clause-pairs g c =
     image_states a t c.start.ensures.automaton c.start-2.ensures.machine c.in_ok-explored.explored.pairs
     (λ x. subst (λ s. Contains c.in_ok-explored.explored.pairs x ↔ Reachable (next_pairs (source_of a) t) s x) e (c.in_ok-explored.ensures.reachable x))
 
-pub from_parts-requires-clause-automaton : goal.from_parts-requires-clause-automaton
-from_parts-requires-clause-automaton g c =
+pub from_lists-requires-clause-automaton : goal.from_lists-requires-clause-automaton
+from_lists-requires-clause-automaton g c =
     let a = c.args.a.now in
     let t = c.args.transducer.now in
     let x = c.in_ok-explored.explored in
@@ -51,13 +50,13 @@ from_parts-requires-clause-automaton g c =
     let r : Automaton = record {
       letters = c.letters.result;
       start = 0;
-      finals = c.deref.result.now;
-      edges = edges_in g.L.LabelSet.letters c.in_ok-edges.edges.items;
+      finals = c.in_ok-finals.finals.items;
+      edges = c.in_ok-edges.edges;
     } in
     let written : IsWritten (product_of (source_of a) t x) r = record {
       letters = c.letters.ensures.letters;
       start = refl;
-      finals = c.deref.ensures.value ∙ c.in_ok-finals.ensures ∙ ap (λ (l : List Pair). map (final_both (source_of a) t) l) c.pairs.ensures;
+      finals = c.in_ok-finals.ensures ∙ ap (λ (l : List Pair). map (final_both (source_of a) t) l) c.pairs.ensures;
       edges = c.in_ok-edges.ensures;
     } in
     let first = c.in_ok-explored.ensures.first ∙ ap Some e in
@@ -71,12 +70,12 @@ returns-clause-pairs g c =
     let t = c.args.transducer.now in
     let x = c.in_ok-explored.explored in
     let e = start_is a t c.start.result c.start-2.result c.start.ensures.start c.start-2.ensures.start in
-    let r = c.in_ok-image.image in
+    let r = c.from_lists.result in
     let written : IsWritten (product_of (source_of a) t x) r = record {
-      letters = c.in_ok-image.ensures.letters ∙ c.letters.ensures.letters;
-      start = c.in_ok-image.ensures.start;
-      finals = c.in_ok-image.ensures.finals ∙ c.deref.ensures.value ∙ c.in_ok-finals.ensures ∙ ap (λ (l : List Pair). map (final_both (source_of a) t) l) c.pairs.ensures;
-      edges = c.in_ok-image.ensures.edges ∙ c.in_ok-edges.ensures;
+      letters = c.from_lists.ensures.letters ∙ c.letters.ensures.letters;
+      start = c.from_lists.ensures.start;
+      finals = c.from_lists.ensures.finals ∙ c.in_ok-finals.ensures ∙ ap (λ (l : List Pair). map (final_both (source_of a) t) l) c.pairs.ensures;
+      edges = c.from_lists.ensures.edges ∙ c.in_ok-edges.ensures;
     } in
     let first = c.in_ok-explored.ensures.first ∙ ap Some e in
     let each : (y : Pair) → Contains x.pairs y ↔ Reachable (next_pairs (source_of a) t) (pair_of a.start t.start) y =
@@ -89,12 +88,12 @@ returns-clause-language g c =
     let t = c.args.transducer.now in
     let x = c.in_ok-explored.explored in
     let e = start_is a t c.start.result c.start-2.result c.start.ensures.start c.start-2.ensures.start in
-    let r = c.in_ok-image.image in
+    let r = c.from_lists.result in
     let written : IsWritten (product_of (source_of a) t x) r = record {
-      letters = c.in_ok-image.ensures.letters ∙ c.letters.ensures.letters;
-      start = c.in_ok-image.ensures.start;
-      finals = c.in_ok-image.ensures.finals ∙ c.deref.ensures.value ∙ c.in_ok-finals.ensures ∙ ap (λ (l : List Pair). map (final_both (source_of a) t) l) c.pairs.ensures;
-      edges = c.in_ok-image.ensures.edges ∙ c.in_ok-edges.ensures;
+      letters = c.from_lists.ensures.letters ∙ c.letters.ensures.letters;
+      start = c.from_lists.ensures.start;
+      finals = c.from_lists.ensures.finals ∙ c.in_ok-finals.ensures ∙ ap (λ (l : List Pair). map (final_both (source_of a) t) l) c.pairs.ensures;
+      edges = c.from_lists.ensures.edges ∙ c.in_ok-edges.ensures;
     } in
     let first = c.in_ok-explored.ensures.first ∙ ap Some e in
     let each : (y : Pair) → Contains x.pairs y ↔ Reachable (next_pairs (source_of a) t) (pair_of a.start t.start) y =

@@ -1,33 +1,35 @@
 use Rattle.std.proofs.Common.{false, map, length, ap, subst, sym, get_or, ◌∙◌, arith, ◌≡◌, ◌↔◌, IsTrue}
 use Rattle.std.proofs.lemmas.List.{get_or_default}
-use Rattle.rela_nfa.specs.Stored.{move_of, moves_in}
+use Rattle.rela_nfa.specs.Stored.{move_of}
 use Rattle.rela_graph.specs.Walk.{IsCyclic}
-use Rattle.rela_graph.proofs.Unrolling.{lists_more, first_list, one_list, all_lists}
+use Rattle.rela_graph.proofs.Unrolling.{first_list, one_list, all_lists}
 use Rattle.rela_graph.proofs.graph.Graph.edge_lists.Goals as goal
 
 pub loop-n-init : goal.loop-n-init
 loop-n-init g c =
-    let letters = g.L.LabelSet.letters in
-    let list = c.in_ok-edges_to_starts.field-0 in
-    first_list c.args.self.now c.args.letters.now (moves_in letters c.in_ok-edges.edges.items) (moves_in letters c.push.new.self.items) (map (move_of letters) list.items)
-    (lists_more letters c.in_ok-edges.edges.items c.push.new.self.items list c.in_ok-push.ensures.items) (ap (moves_in letters) c.in_ok-edges.ensures.items) c.in_ok-edges_to_starts.ensures
+    let moves = map (move_of g.L.LabelSet.letters) in (
+      c.in_ok-push.ensures.taken,
+      first_list c.args.self.now c.args.letters.now c.in_ok-edges.edges c.push.new.self (moves c.add_edges_to_starts.new.edges.items) c.in_ok-push.ensures.list c.in_ok-edges.ensures
+          c.in_ok-add_edges_to_starts.ensures,
+    )
 
 pub loop-n-preserved : goal.loop-n-preserved
 loop-n-preserved g c =
-    let letters = g.L.LabelSet.letters in
-    let list = c.in_ok-edges_of_node.field-0 in
-    one_list c.args.self.now c.args.letters.now (moves_in letters c.loop-n.edges.items) (moves_in letters c.push-in-loop-n.new.self.items) (map (move_of letters) list.items) c.loop-n.n
-    c.loop-n.invariant (lists_more letters c.loop-n.edges.items c.push-in-loop-n.new.self.items list c.in_ok-push-2.ensures.items) c.in_ok-edges_of_node.ensures
+    let moves = map (move_of g.L.LabelSet.letters) in (
+      c.in_ok-push-2.ensures.taken,
+      one_list c.args.self.now c.args.letters.now c.loop-n.edges c.push-in-loop-n.new.self (moves c.add_edges_of_node.new.edges.items) c.loop-n.n c.loop-n.invariant.1
+          c.in_ok-push-2.ensures.list c.in_ok-add_edges_of_node.ensures,
+    )
 
 pub returns : goal.returns
 returns g c =
-    let letters = g.L.LabelSet.letters in
-    all_lists c.args.self.now c.args.letters.now (moves_in letters c.loop-n.edges.items) (moves_in letters c.push-2.new.self.items) (map (move_of letters) c.new.result.items) c.loop-n.n
-    (omega (arith, c.loop-n.auto.n-end, c.loop-n-test.false, ap length c.nodes-count.ensures.nodes)) c.loop-n.invariant
-    (lists_more letters c.loop-n.edges.items c.push-2.new.self.items c.new.result c.in_ok-push-3.ensures.items) (ap (map (move_of letters)) c.new.ensures.items)
+    let moves = map (move_of g.L.LabelSet.letters) in
+    all_lists c.args.self.now c.args.letters.now c.loop-n.edges c.push-2.new.self (moves c.loop-n.leaving.items) c.loop-n.n
+    (omega (arith, c.loop-n.auto.n-end, c.loop-n-test.false, ap length c.nodes-count.ensures.nodes)) c.loop-n.invariant.1 c.in_ok-push-3.ensures.list
+    (ap moves c.loop-n.invariant.0)
 
-pub edges_of_node-requires-clause-cyclic : goal.edges_of_node-requires-clause-cyclic
-edges_of_node-requires-clause-cyclic g c =
+pub add_edges_of_node-requires-clause-cyclic : goal.add_edges_of_node-requires-clause-cyclic
+add_edges_of_node-requires-clause-cyclic g c =
     let flags = c.in_ok-cyclic.cyclic.items in
     let n = c.loop-n.n in
     let told : c.index.result.now ≡ get_or flags n false =

@@ -2,12 +2,12 @@ use Rattle.std.proofs.Common.{length, map, ap, ◌∙◌, arith}
 use Rattle.std.proofs.lemmas.List.{get_or_default}
 use Rattle.rela_nfa.specs.Stored.{move_of}
 use Rattle.rela_graph.proofs.Unrolling.{begin_none, begin_more, begin_all}
-use Rattle.rela_graph.proofs.graph.Graph.edges_to_starts.Goals as goal
+use Rattle.rela_graph.proofs.graph.Graph.add_edges_to_starts.Goals as goal
 
 pub loop-n-init : goal.loop-n-init
 loop-n-init g c =
     let moves = map (move_of g.L.LabelSet.letters) in
-    begin_none c.args.self.now c.args.letters.now c.requires.letters (moves c.new-edges.result.items) (ap moves c.new-edges.ensures.items)
+    begin_none c.args.self.now c.args.letters.now c.requires.letters (moves c.args.edges.now.items) (ap moves c.requires.empty)
 
 pub loop-n-preserved : goal.loop-n-preserved
 loop-n-preserved g c =

@@ -9,7 +9,7 @@ use Rattle.rela_trans.specs.ImageMoves.{alone_labels, read_labels}
 use Rattle.rela_trans.specs.Machine.{IsSized, moves_of}
 use Rattle.rela_trans.specs.Stored.{kind_of}
 use Rattle.rela_trans.proofs.WrittenEdges.{edges_made}
-use Rattle.rela_trans.proofs.image_edges.edges_from.Goals as goal
+use Rattle.rela_trans.proofs.image_edges.add_edges_from.Goals as goal
 
 pub add_read-requires : goal.add_read-requires
 add_read-requires g c =

@@ -5,7 +5,7 @@ use Rattle.rela_nfa.specs.Directing.{extended, silent_labels}
 use Rattle.rela_nfa.specs.Stored.{move_of as edge_of}
 use Rattle.rela_trans.specs.ImageMoves.{alone_labels, read_labels}
 use Rattle.rela_trans.specs.Machine.{moves_of}
-use Rattle.rela_trans.proofs.image_edges.edges_from.Given as goal
+use Rattle.rela_trans.proofs.image_edges.add_edges_from.Given as goal
 
 abbrev pub invariant-loop-edge : goal.invariant-loop-edge
 invariant-loop-edge g l =
