@@ -63,16 +63,6 @@ AreLetters edges set = (k : ℕ) → (has set k ≡ true) ↔ ((q : ℕ) × HasE
 pub letters_none : (set : List Bool) → ((k : ℕ) → has set k ≡ false) → AreLetters [] set
 letters_none set empty k = (λ h. absurd (false≢true (sym (empty k) ∙ h)), λ (q, c). absurd (Contains-nil _ c))
 
--- no letter is taken away for no edges
-pub cut_by_none : (letters : List Bool) (singles : List LetterEdge) → AreLetters singles letters → length singles ≡ 0 → (set : List Bool) (k : ℕ) → has set k ≡ (has set k && not (has letters k))
-cut_by_none letters singles known none set k =
-    both (has set k) (has letters k) (λ h. let (q, here) = (known k).0 h in omega (arith, here.1, none))
-  where
-    both : (x y : Bool) → (y ≡ true → ⊥) → x ≡ (x && not y)
-    both true true f = absurd (f refl)
-    both true false f = refl
-    both false y f = refl
-
 pub letters_more : (edges : List LetterEdge) (i : ℕ) (d : LetterEdge) (set set' : List Bool) → i < length edges → AreLetters (take i edges) set
     → has set' (get_or edges i d).letter ≡ true → ((k : ℕ) → k ≢ (get_or edges i d).letter → has set' k ≡ has set k) → AreLetters (take (i + 1) edges) set'
 letters_more edges i d set set' below before added others =

@@ -9,7 +9,7 @@ use Rattle.rela_nfa.specs.Automaton.{Automaton, Move, IsMove}
 use Rattle.rela_subset.specs.Deterministic.{takes}
 use Rattle.rela_subset.specs.Expansion.{HasGrown, IsAlike, IsExpanded, IsPutIn}
 use Rattle.rela_subset.specs.Sets.{Lists, NextFrom}
-use Rattle.rela_subset.proofs.Blocks.{after, before_or_here, in_rest, not_before, still}
+use Rattle.rela_subset.proofs.TakenAway.{after, before_or_here, in_rest, not_before, still}
 use Rattle.rela_subset.proofs.Bundling.{digit, put_count, put_labelled, put_target, put_target_old}
 use Rattle.rela_subset.proofs.Growing.{GrowsBy, comes_new, comes_old, grows_by, grows_new, no_letters}
 use Rattle.rela_subset.proofs.Narrowing.{next_alike}

@@ -1,5 +1,4 @@
 pub mod Ascending
-pub mod Blocks
 pub mod Bundling
 pub mod ByLetter
 pub mod Closing
@@ -20,8 +19,10 @@ pub mod Searching
 pub mod SetsFound
 pub mod SetsSpread
 pub mod SortingOut
+pub mod Splitting
 pub mod Stamps
 pub mod Standing
+pub mod TakenAway
 pub mod Targets
 pub mod Views
 pub mod Words

@@ -1,5 +1,5 @@
 -- The edges out of the states of a set, sorted out: letters that are alike, and what follows by a letter.
-use Rattle.std.proofs.Common.{Bor, ◌≡◌, ℕ, ◌+◌, ◌<◌, ◌≤◌, ◌↔◌, ◌&&◌, not, Bool, true, false, List, [], ◌∷◌, ◌++◌, length, get_or, map, take, Some, refl, sym, ap, ◌∙◌, subst, inl, inr, arith}
+use Rattle.std.proofs.Common.{Bor, ◌≡◌, ℕ, ◌+◌, ◌<◌, ◌≤◌, ◌↔◌, ◌&&◌, not, Bool, true, false, List, [], ◌∷◌, ◌++◌, length, get_or, map, take, Option, Some, IfSome, refl, sym, ap, ◌∙◌, subst, inl, inr, arith}
 use Rattle.std.specs.List.{All, Contains}
 use Rattle.std.specs.Option.{ForSome, option_map}
 use Rattle.std.specs.List.Sorted.{IsNonDecreasingBy}
@@ -19,6 +19,7 @@ use Rattle.rela_subset.specs.Deterministic.{takes}
 use Rattle.rela_subset.specs.Expansion.{AreTakenAlike, IsAlike}
 use Rattle.rela_subset.specs.Outgoing.{AreHeld, AreSortedOut, HasEnd, IsAlone, moves_from, Sorted}
 use Rattle.rela_subset.specs.Sets.{Lists, NextFrom, SilentlyFrom, StepFrom}
+use Rattle.rela_subset.specs.Splitting.{Splitting}
 use Rattle.rela_subset.specs.declared.letter_edge.LetterEdge.{LetterEdge}
 use Rattle.rela_subset.proofs.ByLetter.{AreLetters}
 use Rattle.rela_subset.proofs.Following.{lists_same, next_from}
@@ -51,52 +52,14 @@ module _ (a : Automaton) (ok : IsAutomaton a) (set : List ℕ) (below : All (λ 
       let (label, alone, among) = sorted.single edge.letter edge.to c in
       subst (λ n. edge.letter < n) ((moves_are _ among).sized label refl) (has_below label edge.letter ((alone edge.letter).1 refl)))
 
-  pub held : (letters : List Bool) → length letters ≡ a.letters → AreLetters singles letters → IsNonDecreasingBy (λ edge. edge.letter) singles → AreHeld a letters singles others
-  held letters size known rising = record {
+  pub held : IsNonDecreasingBy (λ edge. edge.letter) singles → AreHeld a singles others
+  held rising = record {
     automaton = ok;
-    size = size;
-    known = known;
     rising = rising;
+    below = singles_below;
     lead = all_among (λ edge. edge.to < states a) singles (λ edge c. let (label, alone, among) = sorted.single edge.letter edge.to c in (moves_are _ among).leads);
     moves = all_among (IsMove a.letters (states a)) others (λ move c. moves_are move (sorted.other move c));
   }
-
--- the letter of an edge by it alone
-pub alike_alone : (a : Automaton) (set : List ℕ) (rest block : List Bool) (j q : ℕ) (singles : List LetterEdge) (others : List Move) → has rest j ≡ true → IsAlone block j → HasEnd singles j q
-    → AreSortedOut (moves_from a set) singles others → IsAlike a set rest j block
-alike_alone a set rest block j q singles others among alone here sorted k = (
-  λ h. let same = (alone k).0 h in
-      subst (λ n. (has rest n ≡ true) × All (λ p. AreTakenAlike (moves_of a p) j n) set) (sym same) (among, λ i d below l e inside. refl),
-  λ (in_rest, all). (alone k).1 (single_alike (moves_from a set) singles others sorted j k q here ((all_flat (λ move. takes k move ≡ takes j move) (moves_of a) set).1 all)),
-)
-
--- any other letter
-pub alike_others : (a : Automaton) (set : List ℕ) (rest near narrow block letters : List Bool) (j : ℕ) (singles : List LetterEdge) (others : List Move)
-    → ((k : ℕ) → has near k ≡ true → has rest k ≡ true) → ((k : ℕ) → has rest k ≡ true → AreTakenAlike others j k → has near k ≡ true)
-    → ((k : ℕ) → (has narrow k ≡ true) ↔ ((has near k ≡ true) × AreTakenAlike others j k)) → ((k : ℕ) → has block k ≡ (has narrow k && not (has letters k)))
-    → AreLetters singles letters → has letters j ≡ false → AreSortedOut (moves_from a set) singles others → IsAlike a set rest j block
-alike_others a set rest near narrow block letters j singles others within reaches narrowed cut known out sorted k =
-    let none : (q : ℕ) → HasEnd singles j q → ⊥ = λ q here. false≢true (sym out ∙ (known j).1 (q, here)) in
-    let by_others = others_alike (moves_from a set) singles others sorted j k none in
-    let flat = all_flat (λ move. takes k move ≡ takes j move) (moves_of a) set in (
-      λ h.
-          let (in_narrow, apart) = parts (has narrow k) (has letters k) (sym (cut k) ∙ h) in
-          let (in_near, alike) = (narrowed k).0 in_narrow in
-          (within k in_near, flat.0 (by_others.1 (alike, λ q here. false≢true (sym apart ∙ (known k).1 (q, here))))),
-      λ (in_rest, all).
-          let (alike, apart) = by_others.0 (flat.1 all) in
-          cut k ∙ both (has narrow k) (has letters k) ((narrowed k).1 (reaches k in_rest alike, alike)) (λ h. let (q, here) = (known k).0 h in apart q here),
-    )
-  where
-    parts : (x y : Bool) → (x && not y) ≡ true → (x ≡ true) × (y ≡ false)
-    parts true true e = absurd (false≢true e)
-    parts true false e = (refl, refl)
-    parts false y e = absurd (false≢true e)
-
-    both : (x y : Bool) → x ≡ true → (y ≡ true → ⊥) → (x && not y) ≡ true
-    both true true e f = absurd (f refl)
-    both true false e f = refl
-    both false y e f = absurd (false≢true e)
 
 -- the edges by the letter lead to states of the automaton
 pub run_leads : (states letter : ℕ) (singles run : List LetterEdge) → All (λ edge. edge.to < states) singles → ((q : ℕ) → HasEnd singles letter q ↔ ((k : ℕ) × HasEnd run k q))
@@ -134,6 +97,15 @@ module _ {L : Type 0} (letters : L → List Bool) (others read : List (Bor (Edge
   pub ends_below : (count : ℕ) → states ≡ count → All (λ edge. edge.now.to < count) read
   ends_below count same i edge below = subst (λ m. (get_or read i edge).now.to < m) same (move_read i edge below).leads
 
+pub sorted_same : (moves : List Move) (singles singles' : List LetterEdge) (others others' : List Move) → singles' ≡ singles → others' ≡ others
+    → AreSortedOut moves singles others → AreSortedOut moves singles' others'
+sorted_same moves singles singles' others others' same_singles same_others sorted =
+    subst (λ es. AreSortedOut moves es others') (sym same_singles) (subst (λ ms. AreSortedOut moves singles ms) (sym same_others) sorted)
+
+-- what is said of a value that is there
+pub some_is : {X : Type 0} {o : Option X} {x : X} → o ≡ Some x → (P : X → Type 0) → IfSome o P → P x
+some_is is P holds = subst (λ v. IfSome v P) is holds
+
 -- the same of the edges as they are held
 module _ (a : Automaton) (out : Sorted) (set given : List ℕ) (same : out.automaton ≡ a) (is : given ≡ set) (sorted : AreSortedOut (moves_from a given) out.singles out.others) where
   sorted_held : AreSortedOut (moves_from out.automaton set) out.singles out.others
@@ -141,9 +113,11 @@ module _ (a : Automaton) (out : Sorted) (set given : List ℕ) (same : out.autom
       subst (λ s. AreSortedOut (moves_from out.automaton s) out.singles out.others) is
       (subst (λ b. AreSortedOut (moves_from b given) out.singles out.others) (sym same) sorted)
 
-  pub alike_of : (rest block : List Bool) (j : ℕ)
-      → ((s : List ℕ) → AreSortedOut (moves_from out.automaton s) out.singles out.others → IsAlike out.automaton s rest j block) → IsAlike a set rest j block
-  alike_of rest block j alike = subst (λ b. IsAlike b set rest j block) same (alike set sorted_held)
+  -- as they are taken in blocks
+  pub sorted_in : (in_blocks : Splitting) → in_blocks.singles ≡ out.singles → in_blocks.others ≡ out.others → AreSortedOut (moves_from a set) in_blocks.singles in_blocks.others
+  sorted_in in_blocks same_singles same_others =
+      subst (λ s. AreSortedOut (moves_from a s) in_blocks.singles in_blocks.others) is
+      (sorted_same (moves_from a given) out.singles in_blocks.singles out.others in_blocks.others same_singles same_others sorted)
 
   pub next_of : (letter : ℕ) (next : List ℕ)
       → ((s : List ℕ) → AreSortedOut (moves_from out.automaton s) out.singles out.others → Lists (NextFrom out.automaton s letter) next) → Lists (NextFrom a set letter) next

@@ -9,7 +9,7 @@ use Rattle.rela_subset.specs.declared.arrival.Arrival.{Arrival}
 use Rattle.rela_subset.specs.Expansion.{IsAlike}
 use Rattle.rela_subset.specs.Searching.{HasArrived, IsSpread, arrivals_from}
 use Rattle.rela_subset.specs.Sets.{Lists, NextFrom}
-use Rattle.rela_subset.proofs.Blocks.{after, before_or_here, not_before, still}
+use Rattle.rela_subset.proofs.TakenAway.{after, before_or_here, not_before, still}
 use Rattle.rela_subset.proofs.Growing.{GrowsBy, comes_new, comes_old, grows_new, grows_old, no_letters}
 use Rattle.rela_subset.proofs.Narrowing.{next_alike}
 

@@ -3,5 +3,6 @@ pub mod Expansion
 pub mod Outgoing
 pub mod Searching
 pub mod Sets
+pub mod Splitting
 pub mod Stored
 pub mod Subsets

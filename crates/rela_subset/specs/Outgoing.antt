@@ -34,11 +34,10 @@ pub record Sorted : Type 0 where
   pub singles : List LetterEdge
   pub others : List Move
 
--- edges of the automaton, those by one letter in ascending order of it, and the letters that these have
-pub record AreHeld (a : Automaton) (letters : List Bool) (singles : List LetterEdge) (others : List Move) : Type 0 where
+-- edges of the automaton, those by one letter in ascending order of it
+pub record AreHeld (a : Automaton) (singles : List LetterEdge) (others : List Move) : Type 0 where
   pub automaton : IsAutomaton a
-  pub size : length letters ≡ a.letters
-  pub known : (k : ℕ) → (has letters k ≡ true) ↔ ((q : ℕ) × HasEnd singles k q)
   pub rising : IsNonDecreasingBy (λ edge. edge.letter) singles
+  pub below : All (λ edge. edge.letter < a.letters) singles
   pub lead : All (λ edge. edge.to < states a) singles
   pub moves : All (IsMove a.letters (states a)) others

@@ -16,8 +16,8 @@ use std::alloc::Global;
 
 /// The edges out of the set of this number, one for each set that follows it by a letter of `over`.
 /// Those sets are numbered. The letters are split by the labels of the edges out of the states of the
-/// set, and taken in blocks, that of the least letter first: a block costs a set operation for each of
-/// these edges that has more than one letter.
+/// set, and taken in blocks, that of the least letter first: a block of more letters costs a set
+/// operation for each of these edges that has more than one letter.
 pub(crate) fn expand<L: LabelSet>(
     alloc: Global,
     a: &Nfa<L>,
@@ -41,13 +41,11 @@ pub(crate) fn expand<L: LabelSet>(
 {
     let outgoing = Outgoing::new(alloc, a, sets.get(number))?;
     let mut bundle = Bundle::new(alloc);
-    let mut rest = over.copy(alloc)?;
-    while let Some(letter) = rest.least() {
-        let block = outgoing.alike(alloc, &rest, letter)?;
-        rest = rest.minus(alloc, &block)?;
-        let next = outgoing.following(alloc, letter, visited)?;
+    let mut blocks = outgoing.blocks(alloc, over)?;
+    while let Some(block) = blocks.next(alloc)? {
+        let next = outgoing.following(alloc, block.letter, visited)?;
         let to = sets.number(next, limit)?;
-        bundle.put(alloc, block, to)?;
+        bundle.put(alloc, block.letters, to)?;
     }
     Ok(bundle.into_edges())
 }

@@ -1,9 +1,10 @@
 //! Edges by one letter alone.
-ghost use Rattle.std.specs.Prelude.{◌≡◌, ℕ, ◌<◌, ◌≤◌, ◌↔◌, true, IfOk, IfNone, IfSome, length};
+ghost use Rattle.std.specs.Prelude.{◌≡◌, ◌≢◌, ℕ, ◌<◌, ◌≤◌, ◌↔◌, ◌∷◌, List, Bool, true, IfOk, IfNone, IfSome, length};
 ghost use Rattle.std.specs.List.{All};
 ghost use Rattle.std.specs.List.Sorted.{IsNonDecreasingBy, IsPartitionPoint, IsPermutation};
 ghost use Rattle.rela_labels.specs.Letters.{has};
 ghost use Rattle.rela_subset.specs.Outgoing.{HasEnd, IsAlone};
+ghost use Rattle.rela_subset.specs.Splitting.{letters_left};
 
 use rela_labels::LabelSet;
 use std::alloc::{AllocError, Global};
@@ -69,6 +70,43 @@ fn place_after(edges: &[LetterEdge], letter: u32) -> usize
     ensures within { result ≤ length edges.now }
 {
     edges.partition_point(|edge| edge.letter <= letter)
+}
+
+/// The edges from the first on whose letter is in the set.
+pub(crate) fn from_letter_in<'a, L: LabelSet>(edges: &'a [LetterEdge], set: &L) -> &'a [LetterEdge]
+    requires { IsNonDecreasingBy (λ edge. edge.letter) edges.now }
+    ensures rising { IsNonDecreasingBy (λ edge. edge.letter) result.now }
+    ensures among { (k q : ℕ) → HasEnd result.now k q → HasEnd edges.now k q }
+    ensures first { (edge : LetterEdge) (later : List LetterEdge) → result.now ≡ edge ∷ later → has (L.letters set.now) edge.letter ≡ true }
+    ensures left { (rest : List Bool) → letters_left (L.letters set.now) result.now rest ≡ letters_left (L.letters set.now) edges.now rest }
+{
+    let mut coming = edges;
+    while let Some((first, later)) = coming.split_first() {
+        if set.contains(first.letter) {
+            return coming;
+        }
+        coming = later;
+    }
+    coming
+}
+
+/// The edges behind those by this letter, which come first.
+pub(crate) fn past_letter(edges: &[LetterEdge], letter: u32) -> &[LetterEdge]
+    requires rising { IsNonDecreasingBy (λ edge. edge.letter) edges.now }
+    requires first { All (λ edge. letter ≤ edge.letter) edges.now }
+    ensures rising { IsNonDecreasingBy (λ edge. edge.letter) result.now }
+    ensures among { (k q : ℕ) → HasEnd result.now k q → HasEnd edges.now k q }
+    ensures past { All (λ edge. letter < edge.letter) result.now }
+    ensures left { (over rest : List Bool) (k : ℕ) → k ≢ letter → has (letters_left over result.now rest) k ≡ has (letters_left over edges.now rest) k }
+{
+    let mut coming = edges;
+    while let Some((first, later)) = coming.split_first() {
+        if first.letter != letter {
+            return coming;
+        }
+        coming = later;
+    }
+    coming
 }
 
 /// The set of this letter alone.

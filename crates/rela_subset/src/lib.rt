@@ -4,6 +4,7 @@
 
 mod alike;
 mod arrival;
+mod blocks;
 mod bundle;
 mod closure;
 mod construction;

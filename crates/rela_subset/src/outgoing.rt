@@ -1,18 +1,16 @@
 //! The edges out of a set of states, sorted out once for all letters.
-ghost use Rattle.std.specs.Prelude.{◌≡◌, ℕ, ◌<◌, ◌++◌, ◌∷◌, List, [], true, IfOk, Some, length, map};
+ghost use Rattle.std.specs.Prelude.{◌≡◌, ℕ, ◌<◌, ◌++◌, ◌∷◌, List, [], IfOk, Some, length, map};
 ghost use Rattle.std.specs.List.{All};
-ghost use Rattle.rela_labels.specs.Letters.{has};
 ghost use Rattle.rela_nfa.specs.Automaton.{IsAutomaton, Move, states};
 ghost use Rattle.rela_nfa.specs.Runs.{StepIn};
 ghost use Rattle.rela_nfa.specs.StateSet.{Adds};
 ghost use Rattle.rela_nfa.specs.Stored.{move_of};
-ghost use Rattle.rela_subset.specs.Expansion.{IsAlike};
 ghost use Rattle.rela_subset.specs.Outgoing.{AreSortedOut, HasEnd, moves_from};
 ghost use Rattle.rela_subset.specs.Sets.{Lists, NextFrom};
 
-use crate::alike::{narrowed, near};
+use crate::blocks::Blocks;
 use crate::closure::{close, insert_end};
-use crate::letter_edge::{LetterEdge, alone, edges_by, letters_of, only_letter, sorted_by_letter};
+use crate::letter_edge::{LetterEdge, edges_by, only_letter, sorted_by_letter};
 use crate::visited::Visited;
 use rela_labels::LabelSet;
 use rela_nfa::{Edge, Nfa};
@@ -27,8 +25,6 @@ pub(crate) struct Outgoing<'a, L: LabelSet> {
     a: &'a Nfa<L>,
     // the edges by one letter, in ascending order of it
     singles: Vec<LetterEdge>,
-    // the letters that these have
-    letters: L,
     others: Vec<&'a Edge<L>>,
 }
 
@@ -45,7 +41,7 @@ impl<'a, L: LabelSet> Model for Outgoing<'a, L> {
       others = map (λ edge. move_of L.letters edge.now) out.others.items;
     } };
 
-    ghost invariant = { λ out. AreHeld out.a.now (L.letters out.letters) out.singles.items (map (λ edge. move_of L.letters edge.now) out.others.items) };
+    ghost invariant = { λ out. AreHeld out.a.now out.singles.items (map (λ edge. move_of L.letters edge.now) out.others.items) };
 }
 
 impl<'a, L: LabelSet> Outgoing<'a, L> {
@@ -66,33 +62,21 @@ impl<'a, L: LabelSet> Outgoing<'a, L> {
             sort_out(alloc, a.edges(*q), &mut singles, &mut others)?;
         }
         let singles = sorted_by_letter(singles);
-        let letters = letters_of(alloc, a.letters(), &singles)?;
-        Ok(Outgoing {
-            a,
-            singles,
-            letters,
-            others,
-        })
+        Ok(Outgoing { a, singles, others })
     }
 
-    /// The letters of the rest by which the same edges may be taken as by this letter of it. It looks
-    /// at each edge by more than one letter.
-    pub(crate) fn alike(&self, alloc: Global, rest: &L, letter: u32) -> Result<L, AllocError>
-        requires letters { length (L.letters rest.now) ≡ self.now.automaton.letters }
-        requires among { has (L.letters rest.now) letter ≡ true }
-        ensures size { IfOk result (λ block. length (L.letters block) ≡ length (L.letters rest.now)) }
-        ensures alike { IfOk result (λ block. (set : List ℕ) → AreSortedOut (moves_from self.now.automaton set) self.now.singles self.now.others
-            → IsAlike self.now.automaton set (L.letters rest.now) letter (L.letters block)) }
+    /// The letters of the set in blocks, by each of which the same of these edges may be taken.
+    pub(crate) fn blocks<'b>(
+        &'b self,
+        alloc: Global,
+        over: &'b L,
+    ) -> Result<Blocks<'b, L>, AllocError>
+        requires letters { length (L.letters over.now) ≡ self.now.automaton.letters }
+        ensures singles { IfOk result (λ blocks. blocks.singles ≡ self.now.singles) }
+        ensures others { IfOk result (λ blocks. blocks.others ≡ self.now.others) }
+        ensures left { IfOk result (λ blocks. blocks.left ≡ L.letters over.now) }
     {
-        if self.letters.contains(letter) {
-            return alone(alloc, rest.size(), letter);
-        }
-        let near = near(alloc, &self.others, rest, letter)?;
-        let block = narrowed(alloc, near, &self.others, letter)?;
-        if self.singles.is_empty() {
-            return Ok(block);
-        }
-        block.minus(alloc, &self.letters)
+        Blocks::new(alloc, over, &self.singles, &self.others)
     }
 
     /// The states that follow by the letter, with those that silent edges then lead to, in ascending

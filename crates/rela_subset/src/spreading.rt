@@ -37,17 +37,15 @@ pub(crate) fn spread<L: LabelSet>(
     ensures memory { IfErr result (λ e. e ≢ BuildError.Limit) }
 {
     let outgoing = Outgoing::new(alloc, a, sets.get(number))?;
-    let mut rest = over.copy(alloc)?;
-    while let Some(letter) = rest.least() {
+    let mut blocks = outgoing.blocks(alloc, over)?;
+    while let Some(block) = blocks.next(alloc)? {
         if sets.len() > limit {
             return Ok(());
         }
-        let block = outgoing.alike(alloc, &rest, letter)?;
-        rest = rest.minus(alloc, &block)?;
-        let next = outgoing.following(alloc, letter, visited)?;
+        let next = outgoing.following(alloc, block.letter, visited)?;
         let arrival = Arrival {
             from: number,
-            letter,
+            letter: block.letter,
         };
         arrive(sets, arrivals, next, arrival)?;
     }

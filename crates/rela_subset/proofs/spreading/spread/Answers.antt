@@ -1,49 +1,70 @@
-use Rattle.std.proofs.Common.{[], get_or, length, refl, sym, ap, ◌∙◌}
+use Rattle.std.proofs.Common.{◌≡◌, ℕ, ◌<◌, ◌&&◌, not, true, false, List, [], get_or, refl, sym, ◌∙◌}
 use Rattle.std.proofs.lemmas.List.{append-nil}
-use Rattle.rela_subset.proofs.Blocks.{itself}
+use Rattle.rela_labels.specs.Letters.{has}
+use Rattle.rela_nfa.specs.Automaton.{Automaton}
+use Rattle.rela_subset.specs.Expansion.{IsAlike}
+use Rattle.rela_subset.specs.Outgoing.{AreSortedOut, moves_from}
+use Rattle.rela_subset.specs.declared.blocks.Block.{Block}
 use Rattle.rela_subset.proofs.Fewer.{fewer_left}
-use Rattle.rela_subset.proofs.OutOfSets.{alike_of, next_of}
+use Rattle.rela_subset.proofs.OutOfSets.{next_of, some_is, sorted_in, sorted_same}
 use Rattle.rela_subset.proofs.SetsSpread.{spread_more, spread_none}
+use Rattle.rela_subset.proofs.TakenAway.{itself}
 use Rattle.rela_subset.proofs.spreading.spread.Goals as goal
 
-pub loop-letter-init : goal.loop-letter-init
-loop-letter-init g c = record {
+pub loop-blocks-init : goal.loop-blocks-init
+loop-blocks-init g c = record {
   spreads = record {
     letters = [];
     arrived = sym (append-nil c.args.arrivals.now.items);
     spread =
-        spread_none c.args.a.now (g.L.LabelSet.letters c.args.over.now) (g.L.LabelSet.letters c.in_ok-rest.rest) (get_or c.args.sets.now c.args.number []) c.args.sets.now
-        c.in_ok-rest.ensures.same;
+        spread_none c.args.a.now (g.L.LabelSet.letters c.args.over.now) c.in_ok-blocks.blocks.left (get_or c.args.sets.now c.args.number []) c.args.sets.now
+        c.in_ok-blocks.ensures.left;
   };
   count = refl;
-  size = ap length c.in_ok-rest.ensures.same;
+  sorted =
+      sorted_in c.args.a.now c.in_ok-outgoing.outgoing (get_or c.args.sets.now c.args.number []) c.get.result.now c.in_ok-outgoing.ensures.automaton c.get.ensures
+      c.in_ok-outgoing.ensures.sorted c.in_ok-blocks.blocks c.in_ok-blocks.ensures.singles c.in_ok-blocks.ensures.others;
 }
 
-pub loop-letter-smaller : goal.loop-letter-smaller
-loop-letter-smaller g c =
+pub loop-blocks-smaller : goal.loop-blocks-smaller
+loop-blocks-smaller g c =
     let letters = g.L.LabelSet.letters in
     let set = get_or c.args.sets.now c.args.number [] in
-    fewer_left (letters c.loop-letter.rest) (letters c.in_ok-block.block) (letters c.in_ok-rest-2.rest) c.in-Some.letter
-    c.in_ok-rest-2.ensures.size c.in_ok-rest-2.ensures.first_only c.in-Some.ensures.member
-    (itself c.args.a.now (letters c.loop-letter.rest) (letters c.in_ok-block.block) set c.in-Some.letter c.in-Some.ensures.member
-    (alike_of c.args.a.now c.in_ok-outgoing.outgoing set c.get.result.now c.in_ok-outgoing.ensures.automaton c.get.ensures c.in_ok-outgoing.ensures.sorted
-    (letters c.loop-letter.rest) (letters c.in_ok-block.block) c.in-Some.letter c.in_ok-block.ensures.alike))
+    let rest = c.loop-blocks.blocks.left in
+    let left = c.next.new.self.left in
+    let block = letters c.in-Some.block.letters in
+    let letter = c.in-Some.block.letter in
+    let member = some_is c.in-Some.is (λ (b : Block g.row.L.Denot). has rest b.letter ≡ true) c.in_ok-block.ensures.member in
+    let taken = some_is c.in-Some.is (λ (b : Block g.row.L.Denot). (k : ℕ) → has left k ≡ (has rest k && not (has (letters b.letters) k))) c.in_ok-block.ensures.taken in
+    let alike =
+    some_is c.in-Some.is (λ (b : Block g.row.L.Denot). (a : Automaton) (states : List ℕ) → AreSortedOut (moves_from a states) c.loop-blocks.blocks.singles c.loop-blocks.blocks.others
+    → IsAlike a states rest b.letter (letters b.letters)) c.in_ok-block.ensures.alike c.args.a.now set c.loop-blocks.invariant.sorted in
+    fewer_left rest block left letter c.in_ok-block.ensures.size taken member (itself c.args.a.now rest block set letter member alike)
 
-pub loop-letter-preserved : goal.loop-letter-preserved
-loop-letter-preserved g c =
+pub loop-blocks-preserved : goal.loop-blocks-preserved
+loop-blocks-preserved g c =
     let letters = g.L.LabelSet.letters in
     let set = get_or c.args.sets.now c.args.number [] in
+    let rest = c.loop-blocks.blocks.left in
+    let left = c.next.new.self.left in
+    let block = letters c.in-Some.block.letters in
+    let letter = c.in-Some.block.letter in
+    let member = some_is c.in-Some.is (λ (b : Block g.row.L.Denot). has rest b.letter ≡ true) c.in_ok-block.ensures.member in
+    let taken = some_is c.in-Some.is (λ (b : Block g.row.L.Denot). (k : ℕ) → has left k ≡ (has rest k && not (has (letters b.letters) k))) c.in_ok-block.ensures.taken in
+    let alike =
+    some_is c.in-Some.is (λ (b : Block g.row.L.Denot). (a : Automaton) (states : List ℕ) → AreSortedOut (moves_from a states) c.loop-blocks.blocks.singles c.loop-blocks.blocks.others
+    → IsAlike a states rest b.letter (letters b.letters)) c.in_ok-block.ensures.alike c.args.a.now set c.loop-blocks.invariant.sorted in
+    let least = some_is c.in-Some.is (λ (b : Block g.row.L.Denot). (k : ℕ) → k < b.letter → has rest k ≡ false) c.in_ok-block.ensures.least in
+    let follows =
+    next_of c.args.a.now c.in_ok-outgoing.outgoing set c.get.result.now c.in_ok-outgoing.ensures.automaton c.get.ensures c.in_ok-outgoing.ensures.sorted
+    letter c.in_ok-next.next.items c.in_ok-next.ensures.following in
     record {
       spreads =
-          spread_more c.args.a.now (letters c.args.over.now) (letters c.loop-letter.rest) (letters c.in_ok-rest-2.rest) (letters c.in_ok-block.block)
-          set c.args.sets.now c.loop-letter.sets c.arrive.new.sets c.in-Some.letter c.in_ok-next.next.items
-          c.in-Some.ensures.member c.in-Some.ensures.least
-          (alike_of c.args.a.now c.in_ok-outgoing.outgoing set c.get.result.now c.in_ok-outgoing.ensures.automaton c.get.ensures c.in_ok-outgoing.ensures.sorted
-          (letters c.loop-letter.rest) (letters c.in_ok-block.block) c.in-Some.letter c.in_ok-block.ensures.alike)
-          c.in_ok-rest-2.ensures.first_only
-          (next_of c.args.a.now c.in_ok-outgoing.outgoing set c.get.result.now c.in_ok-outgoing.ensures.automaton c.get.ensures c.in_ok-outgoing.ensures.sorted
-          c.in-Some.letter c.in_ok-next.next.items c.in_ok-next.ensures.following)
-          c.args.number c.args.arrivals.now.items c.loop-letter.arrivals.items c.arrive.new.arrivals.items c.loop-letter.invariant.spreads c.in_ok-arrive.ensures.arrived;
-      count = c.in_ok-next.ensures.count ∙ c.loop-letter.invariant.count;
-      size = c.in_ok-rest-2.ensures.size ∙ c.loop-letter.invariant.size;
+          spread_more c.args.a.now (letters c.args.over.now) rest left block set c.args.sets.now c.loop-blocks.sets c.arrive.new.sets letter c.in_ok-next.next.items
+          member least alike taken follows
+          c.args.number c.args.arrivals.now.items c.loop-blocks.arrivals.items c.arrive.new.arrivals.items c.loop-blocks.invariant.spreads c.in_ok-arrive.ensures.arrived;
+      count = c.in_ok-next.ensures.count ∙ c.loop-blocks.invariant.count;
+      sorted =
+          sorted_same (moves_from c.args.a.now set) c.loop-blocks.blocks.singles c.next.new.self.singles c.loop-blocks.blocks.others c.next.new.self.others
+          c.in_ok-block.ensures.singles c.in_ok-block.ensures.others c.loop-blocks.invariant.sorted;
     }

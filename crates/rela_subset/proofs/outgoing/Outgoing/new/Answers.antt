@@ -1,9 +1,7 @@
-use Rattle.std.proofs.Common.{◌<◌, ◌∙◌, map, subst, sym}
-use Rattle.std.specs.List.{All}
+use Rattle.std.proofs.Common.{map}
 use Rattle.rela_nfa.specs.Stored.{move_of}
 use Rattle.rela_subset.specs.Outgoing.{moves_from}
-use Rattle.rela_subset.proofs.ByLetter.{AreLetters}
-use Rattle.rela_subset.proofs.OutOfSets.{held, singles_below, sorted_all, sorted_more}
+use Rattle.rela_subset.proofs.OutOfSets.{held, sorted_all, sorted_more}
 use Rattle.rela_subset.proofs.SortingOut.{sorted_permuted}
 use Rattle.rela_subset.proofs.outgoing.Outgoing.new.Goals as goal
 
@@ -13,25 +11,13 @@ loop-q-preserved g c =
     (map (λ edge. move_of g.L.LabelSet.letters edge.now) c.sort_out.new.others.items) c.loop-q-test.true c.edges.ensures.moves
     (c.in_ok-sort_out.ensures _ c.loop-q.invariant)
 
-pub letters_of-requires-clause-below : goal.letters_of-requires-clause-below
-letters_of-requires-clause-below g c =
-    let others = map (λ edge. move_of g.L.LabelSet.letters edge.now) c.loop-q.others.items in
-    let singles = c.sorted_by_letter-singles.result.items in
-    subst (All (λ edge. edge.letter < c.letters.result)) (sym c.deref.ensures.value)
-    (subst (λ n. All (λ edge. edge.letter < n) singles) (sym c.letters.ensures.letters)
-    (singles_below c.args.a.now c.requires.automaton c.args.set.now c.requires.states singles others
-    (sorted_permuted (moves_from c.args.a.now c.args.set.now) c.loop-q.singles.items singles others c.sorted_by_letter-singles.ensures.same
-    (sorted_all c.args.a.now c.args.set.now c.loop-q.q-index c.loop-q.singles.items others c.loop-q-test.false c.loop-q.invariant))))
-
 pub invariant_of-result : goal.invariant_of-result
 invariant_of-result g c =
     let others = map (λ edge. move_of g.L.LabelSet.letters edge.now) c.loop-q.others.items in
     let singles = c.sorted_by_letter-singles.result.items in
-    let letters = g.L.LabelSet.letters c.in_ok-letters.letters in
     held c.args.a.now c.requires.automaton c.args.set.now c.requires.states singles others
     (sorted_permuted (moves_from c.args.a.now c.args.set.now) c.loop-q.singles.items singles others c.sorted_by_letter-singles.ensures.same
     (sorted_all c.args.a.now c.args.set.now c.loop-q.q-index c.loop-q.singles.items others c.loop-q-test.false c.loop-q.invariant))
-    letters (c.in_ok-letters.ensures.size ∙ c.letters.ensures.letters) (subst (λ es. AreLetters es letters) c.deref.ensures.value c.in_ok-letters.ensures.letters)
     c.sorted_by_letter-singles.ensures.rising
 
 pub returns-clause-sorted : goal.returns-clause-sorted
