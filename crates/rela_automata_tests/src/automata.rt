@@ -18,6 +18,14 @@ fn letters_joined(rt: HostRuntime) -> Result<(), Fail> {
     let repeated = a.star(alloc)?;
     assert!(rt; repeated.accepts(alloc, &[])?);
     assert!(rt; repeated.accepts(alloc, &[0, 0])?);
+    Ok(())
+}
+
+#[test]
+fn words_that_both_accept(rt: HostRuntime) -> Result<(), Fail> {
+    let alloc = rt.alloc();
+    let a = class(alloc, &[0])?;
+    let repeated = a.star(alloc)?;
     let both = repeated.meet(alloc, &a, 100)?;
     assert!(rt; both.accepts(alloc, &[0])?);
     assert!(rt; !both.accepts(alloc, &[])?);

@@ -10,6 +10,7 @@ use rela_labels::{Partition, WideSet};
 use rela_names::{Alphabet, Level, Name, Symbol};
 use rela_nfa::Nfa;
 use std::alloc::Global;
+use std::process::Abort;
 use std::test::Fail;
 
 // Group core (0) has the devices r2 and r3, group edge (1) has r1 and r4. Each device has the interface
@@ -139,6 +140,22 @@ fn reads(alloc: Global, graph: &Graph, alphabet: &Alphabet, word: &[Symbol]) -> 
     Ok(nfa.accepts(alloc, word)?)
 }
 
+/// Says of each word whether it is a path of the graph, where the alphabet has each node's symbol.
+fn has_paths(
+    rt: &impl Abort,
+    alloc: Global,
+    graph: &Graph,
+    level: Level,
+    alphabet: &Alphabet,
+    words: &[(&[Symbol], bool)],
+) -> Result<(), Fail> {
+    for (word, wanted) in words {
+        let found = is_path(alloc, graph, level, alphabet, word)?;
+        assert_eq!(rt; found, *wanted, "{word:?}");
+    }
+    Ok(())
+}
+
 #[test]
 fn a_path(rt: HostRuntime) -> Result<(), Fail> {
     let alloc = rt.alloc();
@@ -149,95 +166,127 @@ fn a_path(rt: HostRuntime) -> Result<(), Fail> {
         &[(0, 1), (1, 2), (2, 3), (0, 1)],
         3,
     )?;
-    assert!(rt; is_path(alloc, &p2, Level::Device, &devices, &[0, 1, 3])?);
-    assert!(rt; !is_path(alloc, &p2, Level::Device, &devices, &[0, 1, 3, 3])?);
-    assert!(rt; !is_path(alloc, &p2, Level::Device, &devices, &[])?);
+    let words: [(&[Symbol], bool); 3] = [(&[0, 1, 3], true), (&[0, 1, 3, 3], false), (&[], false)];
+    has_paths(&rt, alloc, &p2, Level::Device, &devices, &words)?;
     assert!(rt; !p2.on_cycle(alloc, 3)?);
     assert!(rt; p2.has_edge(0, 1));
     assert!(rt; !p2.has_edge(1, 0));
     assert!(rt; !p2.has_edge(9, 9));
     assert!(rt; p2.is_start(0) && p2.is_delivered(3) && !p2.is_dropped(3));
-    let x1 = graph(alloc, &[R1, R2], &[], 1)?;
-    assert!(rt; is_path(alloc, &x1, Level::Device, &devices, &[0, DROP])?);
-    assert!(rt; !is_path(alloc, &x1, Level::Device, &devices, &[0])?);
     Ok(())
 }
 
 #[test]
-fn cycles(rt: HostRuntime) -> Result<(), Fail> {
+fn a_path_that_drops(rt: HostRuntime) -> Result<(), Fail> {
     let alloc = rt.alloc();
-    let devices = devices(alloc)?;
+    let x1 = graph(alloc, &[R1, R2], &[], 1)?;
+    let words: [(&[Symbol], bool); 2] = [(&[0, DROP], true), (&[0], false)];
+    has_paths(&rt, alloc, &x1, Level::Device, &devices(alloc)?, &words)
+}
+
+#[test]
+fn a_cycle_apart(rt: HostRuntime) -> Result<(), Fail> {
+    let alloc = rt.alloc();
     let c1 = graph(
         alloc,
         &[R1, R2, R4, R4_OUT, R3, R2],
         &[(0, 1), (1, 2), (2, 3), (0, 4), (4, 5), (5, 4)],
         3,
     )?;
-    assert!(rt; is_path(alloc, &c1, Level::Device, &devices, &[0, 1, 3])?);
-    assert!(rt; is_path(alloc, &c1, Level::Device, &devices, &[0, 2, LOOP])?);
-    assert!(rt; is_path(alloc, &c1, Level::Device, &devices, &[0, 2, 1, LOOP])?);
-    assert!(rt; !is_path(alloc, &c1, Level::Device, &devices, &[0, 1, LOOP])?);
+    let words: [(&[Symbol], bool); 4] = [
+        (&[0, 1, 3], true),
+        (&[0, 2, LOOP], true),
+        (&[0, 2, 1, LOOP], true),
+        (&[0, 1, LOOP], false),
+    ];
+    has_paths(&rt, alloc, &c1, Level::Device, &devices(alloc)?, &words)
+}
+
+#[test]
+fn a_cycle_that_delivers(rt: HostRuntime) -> Result<(), Fail> {
+    let alloc = rt.alloc();
     let c2 = graph(
         alloc,
         &[R1, R2, R4, R4_OUT],
         &[(0, 1), (1, 2), (2, 3), (3, 2)],
         3,
     )?;
-    assert!(rt; is_path(alloc, &c2, Level::Device, &devices, &[0, 1, 3])?);
-    assert!(rt; is_path(alloc, &c2, Level::Device, &devices, &[0, 1, 3, LOOP])?);
+    let words: [(&[Symbol], bool); 2] = [(&[0, 1, 3], true), (&[0, 1, 3, LOOP], true)];
+    has_paths(&rt, alloc, &c2, Level::Device, &devices(alloc)?, &words)?;
     assert!(rt; c2.on_cycle(alloc, 3)?);
     Ok(())
 }
 
 #[test]
-fn a_way_round_and_a_level(rt: HostRuntime) -> Result<(), Fail> {
+fn a_way_round(rt: HostRuntime) -> Result<(), Fail> {
     let alloc = rt.alloc();
-    let devices = devices(alloc)?;
     let y1 = graph(
         alloc,
         &[R1, R2, R3, R4],
         &[(0, 1), (1, 2), (2, 1), (2, 3)],
         3,
     )?;
-    assert!(rt; is_path(alloc, &y1, Level::Device, &devices, &[0, 1, 2, 1, 2, 3])?);
-    assert!(rt;
-        is_path(
-            alloc,
-            &y1,
-            Level::Device,
-            &devices,
-            &[0, 1, 2, 1, 2, 1, LOOP]
-        )?
-    );
-    assert!(rt; !is_path(alloc, &y1, Level::Device, &devices, &[0, 1, 3])?);
+    let words: [(&[Symbol], bool); 3] = [
+        (&[0, 1, 2, 1, 2, 3], true),
+        (&[0, 1, 2, 1, 2, 1, LOOP], true),
+        (&[0, 1, 3], false),
+    ];
+    has_paths(&rt, alloc, &y1, Level::Device, &devices(alloc)?, &words)?;
     assert!(rt; y1.on_cycle(alloc, 1)? && y1.on_cycle(alloc, 2)?);
     assert!(rt; !y1.on_cycle(alloc, 3)?);
-    let groups = groups(alloc)?;
+    Ok(())
+}
+
+#[test]
+fn a_path_of_groups(rt: HostRuntime) -> Result<(), Fail> {
+    let alloc = rt.alloc();
     let g = graph(
         alloc,
         &[R1, R2, R3, R4, R4_OUT],
         &[(0, 1), (1, 2), (2, 3), (3, 4)],
         4,
     )?;
-    assert!(rt; is_path(alloc, &g, Level::Group, &groups, &[1, 0, 1])?);
-    assert!(rt; !is_path(alloc, &g, Level::Group, &groups, &[1, 0, 0, 1])?);
+    let words: [(&[Symbol], bool); 2] = [(&[1, 0, 1], true), (&[1, 0, 0, 1], false)];
+    has_paths(&rt, alloc, &g, Level::Group, &groups(alloc)?, &words)
+}
+
+/// Says of each word whether the automaton of the graph's devices accepts it.
+fn accepts(
+    rt: &impl Abort,
+    alloc: Global,
+    graph: &Graph,
+    words: &[(&[Symbol], bool)],
+) -> Result<(), Fail> {
+    let devices = devices(alloc)?;
+    for (word, wanted) in words {
+        let found = reads(alloc, graph, &devices, word)?;
+        assert_eq!(rt; found, *wanted, "{word:?}");
+    }
     Ok(())
 }
 
 #[test]
 fn automata(rt: HostRuntime) -> Result<(), Fail> {
     let alloc = rt.alloc();
-    let devices = devices(alloc)?;
     let nodes = [R1, R2, R4, R4_OUT];
     let p2 = graph(alloc, &nodes, &[(0, 1), (1, 2), (2, 3)], 3)?;
-    assert!(rt; reads(alloc, &p2, &devices, &[0, 1, 3])?);
-    assert!(rt; !reads(alloc, &p2, &devices, &[0, 1])?);
-    assert!(rt; !reads(alloc, &p2, &devices, &[0, 1, 3, LOOP])?);
+    let words: [(&[Symbol], bool); 3] = [
+        (&[0, 1, 3], true),
+        (&[0, 1], false),
+        (&[0, 1, 3, LOOP], false),
+    ];
+    accepts(&rt, alloc, &p2, &words)?;
     let c2 = graph(alloc, &nodes, &[(0, 1), (1, 2), (2, 3), (3, 2)], 3)?;
-    assert!(rt; reads(alloc, &c2, &devices, &[0, 1, 3, LOOP])?);
-    assert!(rt; !reads(alloc, &c2, &devices, &[0, 1, 3, DROP])?);
+    let words: [(&[Symbol], bool); 2] = [(&[0, 1, 3, LOOP], true), (&[0, 1, 3, DROP], false)];
+    accepts(&rt, alloc, &c2, &words)
+}
+
+#[test]
+fn automata_of_no_start_and_of_a_drop(rt: HostRuntime) -> Result<(), Fail> {
+    let alloc = rt.alloc();
     let x1 = graph(alloc, &[R1, R2], &[], 1)?;
-    assert!(rt; reads(alloc, &x1, &devices, &[0, DROP])?);
+    let words: [(&[Symbol], bool); 1] = [(&[0, DROP], true)];
+    accepts(&rt, alloc, &x1, &words)?;
     let no_start = Graph::new(
         alloc,
         Vec::from_slice(alloc, &[R1, R4])?,
@@ -246,6 +295,6 @@ fn automata(rt: HostRuntime) -> Result<(), Fail> {
         &[1],
         &[],
     )?;
-    assert!(rt; !reads(alloc, &no_start, &devices, &[0, 3])?);
-    Ok(())
+    let words: [(&[Symbol], bool); 1] = [(&[0, 3], false)];
+    accepts(&rt, alloc, &no_start, &words)
 }

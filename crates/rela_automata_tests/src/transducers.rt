@@ -60,6 +60,15 @@ fn pairs_of_letters(rt: HostRuntime) -> Result<(), Fail> {
     assert!(rt; !turned.relates(alloc, &[0], &[0])?);
     assert!(rt; !turned.relates(alloc, &[3], &[1])?);
     assert!(rt; turned.inverse(alloc)?.relates(alloc, &[1], &[0])?);
+    Ok(())
+}
+
+#[test]
+fn pairs_of_words(rt: HostRuntime) -> Result<(), Fail> {
+    let alloc = rt.alloc();
+    let a = letter(alloc, 3, 0)?;
+    let b = letter(alloc, 3, 1)?;
+    let turned: Table = Transducer::product(alloc, &a, &b)?;
     let repeated = turned.star(alloc)?;
     assert!(rt; repeated.relates(alloc, &[0, 0], &[1, 1])?);
     assert!(rt; repeated.relates(alloc, &[], &[])?);
@@ -83,6 +92,15 @@ fn letters_in_the_middle(rt: HostRuntime) -> Result<(), Fail> {
     assert!(rt; by_b.relates(alloc, &[0], &[1])?);
     let by_a = turned.compose(alloc, &Transducer::identity(alloc, &a)?, 100)?;
     assert!(rt; !by_a.relates(alloc, &[0], &[1])?);
+    Ok(())
+}
+
+#[test]
+fn images(rt: HostRuntime) -> Result<(), Fail> {
+    let alloc = rt.alloc();
+    let a = letter(alloc, 3, 0)?;
+    let b = letter(alloc, 3, 1)?;
+    let turned: Table = Transducer::product(alloc, &a, &b)?;
     let written = image(alloc, &a, &turned, 100)?;
     assert!(rt; written.accepts(alloc, &[1])?);
     assert!(rt; !written.accepts(alloc, &[0])?);

@@ -1,7 +1,5 @@
 //! The location file of a small network.
 
-ghost use Rattle.std.specs.Prelude.{◌≤◌, length};
-
 use crate::network::network;
 use rela_json::LoadError;
 use rela_locations::{By, Locations, MemberError};
@@ -32,31 +30,21 @@ fn lifts_an_interface(rt: HostRuntime) -> Result<(), Fail> {
 
 #[test]
 fn gives_the_members(rt: HostRuntime) -> Result<(), Fail> {
-    let alloc = rt.alloc();
-    assert_eq!(rt;
-        members(alloc, Level::Interface, By::Interface, b"r4:0")?.as_slice(),
-        [3].as_slice()
-    );
-    assert_eq!(rt;
-        members(alloc, Level::Interface, By::Device, b"r4")?.as_slice(),
-        [3, 4].as_slice()
-    );
-    assert_eq!(rt;
-        members(alloc, Level::Interface, By::Group, b"edge")?.as_slice(),
-        [0, 3, 4].as_slice()
-    );
-    assert_eq!(rt;
-        members(alloc, Level::Device, By::Group, b"edge")?.as_slice(),
-        [0, 3].as_slice()
-    );
-    assert_eq!(rt;
-        members(alloc, Level::Device, By::Tag, b"border")?.as_slice(),
-        [0].as_slice()
-    );
-    assert_eq!(rt;
-        members(alloc, Level::Interface, By::Tag, b"border")?.as_slice(),
-        [0].as_slice()
-    );
+    for (level, by, name, symbols) in [
+        (
+            Level::Interface,
+            By::Interface,
+            b"r4:0".as_slice(),
+            [3].as_slice(),
+        ),
+        (Level::Interface, By::Device, b"r4", &[3, 4]),
+        (Level::Interface, By::Group, b"edge", &[0, 3, 4]),
+        (Level::Device, By::Group, b"edge", &[0, 3]),
+        (Level::Device, By::Tag, b"border", &[0]),
+        (Level::Interface, By::Tag, b"border", &[0]),
+    ] {
+        assert_eq!(rt; members(rt.alloc(), level, by, name)?.as_slice(), symbols);
+    }
     Ok(())
 }
 
@@ -80,28 +68,19 @@ fn finds_what_is_there(rt: HostRuntime) -> Result<(), Fail> {
     Ok(())
 }
 
-fn refusal(alloc: Global, bytes: &[u8]) -> Option<LoadError>
-    requires { length bytes.now ≤ 33554432 }
-{
-    Locations::decode(alloc, bytes).err()
-}
-
 #[test]
-fn refuses_the_first_fault(rt: HostRuntime) -> Result<(), Fail> {
-    assert_eq!(rt;
-        refusal(rt.alloc(), b"[]"),
-        Some(LoadError::WrongShape { rule: 1, row: 0 })
-    );
-    assert_eq!(rt;
-        refusal(rt.alloc(), b"{\"version\":2}"),
-        Some(LoadError::BadVersion)
-    );
-    assert_eq!(rt; refusal(rt.alloc(), b"{"), Some(LoadError::NotJson));
-    let twice =
-        b"{\"version\":1,\"groups\":[{\"name\":\"core\",\"devices\":[]},{\"name\":\"core\",\"devices\":[]}]}";
-    assert_eq!(rt;
-        refusal(rt.alloc(), twice),
-        Some(LoadError::RepeatedEntry { row: 1 })
-    );
-    Ok(())
+fn refuses_the_first_fault(rt: HostRuntime) {
+    for (text, error) in [
+        (b"[]".as_slice(), LoadError::WrongShape { rule: 1, row: 0 }),
+        (b"{\"version\":2}", LoadError::BadVersion),
+        (b"{", LoadError::NotJson),
+        (
+            b"{\"version\":1,\"groups\":[{\"name\":\"core\",\"devices\":[]},{\"name\":\"core\",\"devices\":[]}]}",
+            LoadError::RepeatedEntry { row: 1 },
+        ),
+    ] {
+        assert!(rt; text.len() <= 1_000);
+        let found = Locations::decode(rt.alloc(), text).err();
+        assert_eq!(rt; found, Some(error), "{text:?}");
+    }
 }

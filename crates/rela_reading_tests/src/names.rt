@@ -30,22 +30,18 @@ fn takes_names(rt: HostRuntime) -> Result<(), Fail> {
 
 #[test]
 fn refuses_what_is_no_name(rt: HostRuntime) {
-    let alloc = rt.alloc();
-    assert_eq!(rt; Name::from_bytes(alloc, b"").err(), Some(NameError::Bad));
-    assert_eq!(rt;
-        Name::from_bytes(alloc, &[b'a'; 65]).err(),
-        Some(NameError::Bad)
-    );
-    assert_eq!(rt; Name::from_bytes(alloc, b"r 1").err(), Some(NameError::Bad));
-    assert_eq!(rt; Name::location(alloc, b"r#1").err(), Some(NameError::Bad));
-    assert_eq!(rt;
-        Name::location(alloc, b"drop").err(),
-        Some(NameError::Reserved)
-    );
-    assert_eq!(rt;
-        Name::location(alloc, b"loop").err(),
-        Some(NameError::Reserved)
-    );
+    for text in [b"".as_slice(), &[b'a'; 65], b"r 1", b"r#1"] {
+        let found = Name::from_bytes(rt.alloc(), text).err();
+        assert_eq!(rt; found, Some(NameError::Bad), "{text:?}");
+    }
+    for (text, error) in [
+        (b"r#1".as_slice(), NameError::Bad),
+        (b"drop", NameError::Reserved),
+        (b"loop", NameError::Reserved),
+    ] {
+        let found = Name::location(rt.alloc(), text).err();
+        assert_eq!(rt; found, Some(error), "{text:?}");
+    }
 }
 
 #[test]
@@ -84,19 +80,14 @@ fn numbers_symbols(rt: HostRuntime) -> Result<(), Fail> {
 fn writes_words(rt: HostRuntime) -> Result<(), Fail> {
     let alloc = rt.alloc();
     let alphabet = two_routers(alloc)?;
-    assert_eq!(rt; alphabet.text_of(alloc, &[])?.as_slice(), b"()".as_slice());
-    assert_eq!(rt;
-        alphabet.text_of(alloc, &[0, 4, 1])?.as_slice(),
-        b"r1 #1 r4".as_slice()
-    );
-    assert_eq!(rt;
-        alphabet.text_of(alloc, &[1, 2])?.as_slice(),
-        b"r4 drop".as_slice()
-    );
-    assert_eq!(rt;
-        alphabet.text_of(alloc, &[3, 20003])?.as_slice(),
-        b"loop #20000".as_slice()
-    );
+    for (word, text) in [
+        ([].as_slice(), b"()".as_slice()),
+        (&[0, 4, 1], b"r1 #1 r4"),
+        (&[1, 2], b"r4 drop"),
+        (&[3, 20003], b"loop #20000"),
+    ] {
+        assert_eq!(rt; alphabet.text_of(alloc, word)?.as_slice(), text);
+    }
     Ok(())
 }
 

@@ -22,13 +22,6 @@ fn decoded(alloc: Global, bytes: &[u8]) -> Result<Snapshot, Fail>
     Ok(Snapshot::decode(alloc, bytes, &locations)?)
 }
 
-fn refusal(alloc: Global, bytes: &[u8]) -> Result<Option<LoadError>, Fail>
-    requires { length bytes.now ≤ 33554432 }
-{
-    let locations = network(alloc)?;
-    Ok(Snapshot::decode(alloc, bytes, &locations).err())
-}
-
 fn assert_reads(rt: &impl Abort, snapshot: &Snapshot) {
     assert_eq!(rt; snapshot.flows(), 1);
     let class = snapshot.class(0);
@@ -61,44 +54,35 @@ fn reads_named_nodes(rt: HostRuntime) -> Result<(), Fail> {
 
 #[test]
 fn refuses_the_first_fault(rt: HostRuntime) -> Result<(), Fail> {
-    let alloc = rt.alloc();
-    assert_eq!(rt; refusal(alloc, b"{")?, Some(LoadError::NotJson));
-    assert_eq!(rt;
-        refusal(alloc, b"{\"version\":3}")?,
-        Some(LoadError::BadVersion)
-    );
-    assert_eq!(rt;
-        refusal(alloc, b"{\"version\":1,\"flows\":[7]}")?,
-        Some(LoadError::WrongShape { rule: 24, row: 0 })
-    );
-    assert_eq!(rt;
-        refusal(
-            alloc,
-            b"{\"version\":2,\"flows\":[{\"name\":\"f\",\"dst\":\"::/0\",\"src\":\"10.0.0.0/8\"}]}"
-        )?,
-        Some(LoadError::BadPrefix { row: 0 })
-    );
-    assert_eq!(rt;
-        refusal(
-            alloc,
-            b"{\"version\":1,\"flows\":[{\"name\":\"f\",\"dst\":\"10.0.0.0/8\",\"nodes\":[\"r9:0\"]}]}"
-        )?,
-        Some(LoadError::UnknownLocation { row: 0 })
-    );
-    assert_eq!(rt;
-        refusal(
-            alloc,
-            b"{\"version\":1,\"flows\":[{\"name\":\"f\",\"dst\":\"10.0.0.0/8\",\"nodes\":[\"r1:0\"],\"edges\":[[0,1]]}]}"
-        )?,
-        Some(LoadError::BadIndex { row: 0 })
-    );
-    assert_eq!(rt;
-        refusal(
-            alloc,
-            b"{\"version\":2,\"flows\":[{\"name\":\"f\",\"dst\":\"::/0\",\"nodes\":[{\"id\":\"a\",\"at\":\"r1:0\"}],\"edges\":[[\"a\",\"z\"]]}]}"
-        )?,
-        Some(LoadError::UnknownNode { row: 0 })
-    );
+    let locations = network(rt.alloc())?;
+    for (text, error) in [
+        (b"{".as_slice(), LoadError::NotJson),
+        (b"{\"version\":3}", LoadError::BadVersion),
+        (
+            b"{\"version\":1,\"flows\":[7]}",
+            LoadError::WrongShape { rule: 24, row: 0 },
+        ),
+        (
+            b"{\"version\":2,\"flows\":[{\"name\":\"f\",\"dst\":\"::/0\",\"src\":\"10.0.0.0/8\"}]}",
+            LoadError::BadPrefix { row: 0 },
+        ),
+        (
+            b"{\"version\":1,\"flows\":[{\"name\":\"f\",\"dst\":\"10.0.0.0/8\",\"nodes\":[\"r9:0\"]}]}",
+            LoadError::UnknownLocation { row: 0 },
+        ),
+        (
+            b"{\"version\":1,\"flows\":[{\"name\":\"f\",\"dst\":\"10.0.0.0/8\",\"nodes\":[\"r1:0\"],\"edges\":[[0,1]]}]}",
+            LoadError::BadIndex { row: 0 },
+        ),
+        (
+            b"{\"version\":2,\"flows\":[{\"name\":\"f\",\"dst\":\"::/0\",\"nodes\":[{\"id\":\"a\",\"at\":\"r1:0\"}],\"edges\":[[\"a\",\"z\"]]}]}",
+            LoadError::UnknownNode { row: 0 },
+        ),
+    ] {
+        assert!(rt; text.len() <= 1_000);
+        let found = Snapshot::decode(rt.alloc(), text, &locations).err();
+        assert_eq!(rt; found, Some(error), "{text:?}");
+    }
     Ok(())
 }
 

@@ -87,18 +87,20 @@ fn comments_of_any_bytes(rt: HostRuntime) -> Result<(), Fail> {
 }
 
 #[test]
-fn the_first_fault(rt: HostRuntime) -> Result<(), Fail> {
-    let alloc = rt.alloc();
-    assert_eq!(rt; fault(&rt, alloc, b"a \"b"), Some(2));
-    assert_eq!(rt; fault(&rt, alloc, b"a \"\""), Some(2));
-    assert_eq!(rt; fault(&rt, alloc, b"\"b c\""), Some(0));
-    assert_eq!(rt; fault(&rt, alloc, b"ab $"), Some(3));
-    assert_eq!(rt; fault(&rt, alloc, b"ab $ c @"), Some(3));
-    assert_eq!(rt; fault(&rt, alloc, b"a@b"), Some(1));
-    assert_eq!(rt; fault(&rt, alloc, b"# \xc3\n \xc3"), Some(5));
-    assert_eq!(rt; fault(&rt, alloc, b"a\x0b"), Some(1));
-    assert_eq!(rt; fault(&rt, alloc, b"path p = .;"), None);
-    Ok(())
+fn the_first_fault(rt: HostRuntime) {
+    for (text, at) in [
+        (b"a \"b".as_slice(), Some(2)),
+        (b"a \"\"", Some(2)),
+        (b"\"b c\"", Some(0)),
+        (b"ab $", Some(3)),
+        (b"ab $ c @", Some(3)),
+        (b"a@b", Some(1)),
+        (b"# \xc3\n \xc3", Some(5)),
+        (b"a\x0b", Some(1)),
+        (b"path p = .;", None),
+    ] {
+        assert_eq!(rt; fault(&rt, rt.alloc(), text), at, "{text:?}");
+    }
 }
 
 /// Bytes before and behind a name of so many bytes.
@@ -119,29 +121,15 @@ fn around_name(
 #[test]
 fn names_of_64_bytes_and_more(rt: HostRuntime) -> Result<(), Fail> {
     let alloc = rt.alloc();
-    assert_eq!(rt;
-        fault(&rt, alloc, &around_name(alloc, b"; ", 64, b"")?),
-        None
-    );
-    assert_eq!(rt;
-        fault(&rt, alloc, &around_name(alloc, b"; ", 65, b"")?),
-        Some(2)
-    );
-    assert_eq!(rt;
-        fault(&rt, alloc, &around_name(alloc, b" $", 64, b"")?),
-        None
-    );
-    assert_eq!(rt;
-        fault(&rt, alloc, &around_name(alloc, b" $", 65, b"")?),
-        Some(1)
-    );
-    assert_eq!(rt;
-        fault(&rt, alloc, &around_name(alloc, b"\"", 64, b"\"")?),
-        None
-    );
-    assert_eq!(rt;
-        fault(&rt, alloc, &around_name(alloc, b"\"", 65, b"\"")?),
-        Some(0)
-    );
+    for (before, after, at) in [
+        (b"; ".as_slice(), b"".as_slice(), 2),
+        (b" $", b"", 1),
+        (b"\"", b"\"", 0),
+    ] {
+        let longest = around_name(alloc, before, 64, after)?;
+        assert_eq!(rt; fault(&rt, alloc, longest.as_slice()), None);
+        let longer = around_name(alloc, before, 65, after)?;
+        assert_eq!(rt; fault(&rt, alloc, longer.as_slice()), Some(at));
+    }
     Ok(())
 }

@@ -26,7 +26,7 @@ fn becomes(rt: &impl Abort, alloc: Global, text: &[u8], wanted: &[u8]) -> Result
 /// Says that the text is refused so.
 fn refused(rt: &impl Abort, alloc: Global, text: &[u8], fault: SpecError) {
     let found = canonical(rt, alloc, text).err();
-    assert_eq!(rt; found, Some(fault));
+    assert_eq!(rt; found, Some(fault), "{text:?}");
 }
 
 #[test]
@@ -73,36 +73,30 @@ fn canonical_checks(rt: HostRuntime) -> Result<(), Fail> {
 }
 
 #[test]
-fn refusals(rt: HostRuntime) -> Result<(), Fail> {
-    let alloc = rt.alloc();
-    refused(
-        &rt,
-        alloc,
-        b"check c1 : { .* : preserve ;",
-        SpecError::Syntax { at: 27 },
-    );
-    refused(&rt, alloc, b"check c", SpecError::Syntax { at: 7 });
-    refused(
-        &rt,
-        alloc,
-        b"check c for dst in 10.0.0.0/33 : $s;",
-        SpecError::Syntax { at: 19 },
-    );
-    refused(&rt, alloc, b"path p = a{1}*;", SpecError::Syntax { at: 13 });
-    refused(
-        &rt,
-        alloc,
-        b"check c1 : { .{65} : preserve };",
-        SpecError::BadNumber { at: 15 },
-    );
-    refused(
-        &rt,
-        alloc,
-        b"path p = a{00};path q = a{65};",
-        SpecError::BadNumber { at: 11 },
-    );
-    refused(&rt, alloc, b"path p = a{65}", SpecError::Syntax { at: 14 });
-    Ok(())
+fn refusals(rt: HostRuntime) {
+    for (text, fault) in [
+        (
+            b"check c1 : { .* : preserve ;".as_slice(),
+            SpecError::Syntax { at: 27 },
+        ),
+        (b"check c", SpecError::Syntax { at: 7 }),
+        (
+            b"check c for dst in 10.0.0.0/33 : $s;",
+            SpecError::Syntax { at: 19 },
+        ),
+        (b"path p = a{1}*;", SpecError::Syntax { at: 13 }),
+        (
+            b"check c1 : { .{65} : preserve };",
+            SpecError::BadNumber { at: 15 },
+        ),
+        (
+            b"path p = a{00};path q = a{65};",
+            SpecError::BadNumber { at: 11 },
+        ),
+        (b"path p = a{65}", SpecError::Syntax { at: 14 }),
+    ] {
+        refused(&rt, rt.alloc(), text, fault);
+    }
 }
 
 /// A text that opens this many brackets.
