@@ -1,9 +1,8 @@
 -- The edges out of the states of a set, sorted out: letters that are alike, and what follows by a letter.
-use Rattle.std.proofs.Common.{Bor, ◌≡◌, ℕ, ◌+◌, ◌<◌, ◌≤◌, ◌↔◌, ◌&&◌, not, Bool, true, false, List, [], ◌∷◌, ◌++◌, length, get_or, map, take, Option, Some, IfSome, refl, sym, ap, ◌∙◌, subst, inl, inr, arith}
+use Rattle.std.proofs.Common.{Bor, ◌≡◌, ℕ, ◌+◌, ◌<◌, ◌≤◌, ◌↔◌, Bool, List, [], ◌∷◌, ◌++◌, length, get_or, map, take, Option, Some, IfSome, refl, sym, ap, ◌∙◌, subst, inl, inr, arith}
 use Rattle.std.specs.List.{All, Contains}
 use Rattle.std.specs.Option.{ForSome, option_map}
 use Rattle.std.specs.List.Sorted.{IsNonDecreasingBy}
-use Rattle.std.proofs.lemmas.Bool.{false≢true}
 use Rattle.std.proofs.lemmas.List.{append-nil, get_or-map, length-map, take_all, take_more}
 use Rattle.std.proofs.lemmas.List.Concat.{flat_map-append}
 use Rattle.std.proofs.lemmas.List.Elements.{All-contains}
@@ -15,15 +14,12 @@ use Rattle.rela_nfa.specs.StateSet.{Adds}
 use Rattle.rela_nfa.specs.Stored.{move_of}
 use Rattle.rela_nfa.specs.declared.edge.Edge.{Edge}
 use Rattle.rela_nfa.proofs.Growing.{adds_all, adds_both}
-use Rattle.rela_subset.specs.Deterministic.{takes}
-use Rattle.rela_subset.specs.Expansion.{AreTakenAlike, IsAlike}
-use Rattle.rela_subset.specs.Outgoing.{AreHeld, AreSortedOut, HasEnd, IsAlone, moves_from, Sorted}
+use Rattle.rela_subset.specs.Outgoing.{AreHeld, AreSortedOut, HasEnd, moves_from, Sorted}
 use Rattle.rela_subset.specs.Sets.{Lists, NextFrom, SilentlyFrom, StepFrom}
 use Rattle.rela_subset.specs.Splitting.{Splitting}
 use Rattle.rela_subset.specs.declared.letter_edge.LetterEdge.{LetterEdge}
-use Rattle.rela_subset.proofs.ByLetter.{AreLetters}
 use Rattle.rela_subset.proofs.Following.{lists_same, next_from}
-use Rattle.rela_subset.proofs.SortingOut.{all_among, all_flat, contains_flat, others_alike, single_alike, step_flat, step_sorted}
+use Rattle.rela_subset.proofs.SortingOut.{all_among, contains_flat, step_flat, step_sorted}
 
 pub moves_more : (a : Automaton) (set : List ℕ) (i : ℕ) → i < length set → moves_from a (take (i + 1) set) ≡ moves_from a (take i set) ++ moves_of a (get_or set i 0)
 moves_more a set i below =

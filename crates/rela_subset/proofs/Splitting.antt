@@ -1,6 +1,6 @@
 -- The letters that are left of a set, and the edges to come that have some of them by themselves.
-use Rattle.std.proofs.Common.{◌≡◌, ◌≢◌, ℕ, suc, ◌+◌, ◌<◌, ◌≤◌, ◌⊎◌, ◌↔◌, ◌&&◌, not, Bool, true, false, cond, List, [], ◌∷◌, length, set, get_or, Option, None, Some, refl, sym, ap, ◌∙◌, subst, inl, inr, arith, IfSome, MatchOption}
-use Rattle.std.specs.List.{All, Contains}
+use Rattle.std.proofs.Common.{◌≡◌, ◌≢◌, ℕ, ◌<◌, ◌≤◌, ◌⊎◌, ◌↔◌, ◌&&◌, not, Bool, true, false, cond, List, [], ◌∷◌, length, set, get_or, Option, None, Some, refl, sym, ap, ◌∙◌, subst, inl, inr, arith, IfSome, MatchOption}
+use Rattle.std.specs.List.{All}
 use Rattle.std.specs.List.Sorted.{IsNonDecreasingBy}
 use Rattle.std.proofs.lemmas.Bool.{cases_Bool, cases_eq, cases_lt, false≢true}
 use Rattle.std.proofs.lemmas.List.{get_or-set_other, get_or-set_same, get_or_default, length-set, same_lists}
@@ -12,7 +12,7 @@ use Rattle.rela_nfa.specs.Automaton.{Automaton, Move, moves_of}
 use Rattle.rela_subset.specs.Deterministic.{takes}
 use Rattle.rela_subset.specs.Expansion.{AreTakenAlike, IsAlike}
 use Rattle.rela_subset.specs.Outgoing.{AreSortedOut, HasEnd, IsAlone, moves_from}
-use Rattle.rela_subset.specs.Splitting.{AreSplit, IsLeastOf, letters_left}
+use Rattle.rela_subset.specs.Splitting.{IsLeastOf, letters_left}
 use Rattle.rela_subset.specs.declared.letter_edge.LetterEdge.{LetterEdge}
 use Rattle.rela_subset.proofs.SortingOut.{all_among, all_flat, others_alike, single_alike}
 use Rattle.rela_subset.proofs.Targets.{Contains-cons_cases, Contains-head, Contains-nil, Contains-tail}

@@ -1,5 +1,4 @@
-use Rattle.std.proofs.Common.{◌≡◌, List, Bool, length, arith}
-use Rattle.rela_subset.specs.declared.letter_edge.LetterEdge.{LetterEdge}
+use Rattle.std.proofs.Common.{arith}
 use Rattle.std.proofs.lemmas.Result.{IfOk-weaker}
 use Rattle.rela_subset.proofs.Splitting.{without_letters, without_none}
 use Rattle.rela_subset.proofs.blocks.without.Goals as goal

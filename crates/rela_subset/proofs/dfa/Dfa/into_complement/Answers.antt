@@ -1,5 +1,4 @@
 use Rattle.std.proofs.Common.{map, not, ap, subst, ◌∙◌}
-use Rattle.rela_nfa.specs.Stored.{moves_in}
 use Rattle.rela_subset.specs.Deterministic.{IsDeterministic}
 use Rattle.rela_subset.proofs.Words.{opposite_accepts}
 use Rattle.rela_subset.proofs.dfa.Dfa.into_complement.Goals as goal

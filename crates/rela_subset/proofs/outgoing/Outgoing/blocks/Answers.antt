@@ -1,7 +1,6 @@
-use Rattle.std.proofs.Common.{◌≡◌, ◌<◌, List, Bor, length, ap, sym, subst, ◌∙◌}
+use Rattle.std.proofs.Common.{◌<◌, List, length, ap, sym, subst, ◌∙◌}
 use Rattle.std.specs.List.{All}
 use Rattle.std.specs.List.Sorted.{IsNonDecreasingBy}
-use Rattle.std.specs.Option.{ForSome}
 use Rattle.rela_nfa.specs.Automaton.{states}
 use Rattle.rela_subset.specs.Outgoing.{Sorted}
 use Rattle.rela_subset.specs.declared.letter_edge.LetterEdge.{LetterEdge}
