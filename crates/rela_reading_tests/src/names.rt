@@ -80,14 +80,19 @@ fn numbers_symbols(rt: HostRuntime) -> Result<(), Fail> {
 fn writes_words(rt: HostRuntime) -> Result<(), Fail> {
     let alloc = rt.alloc();
     let alphabet = two_routers(alloc)?;
-    for (word, text) in [
-        ([].as_slice(), b"()".as_slice()),
-        (&[0, 4, 1], b"r1 #1 r4"),
-        (&[1, 2], b"r4 drop"),
-        (&[3, 20003], b"loop #20000"),
-    ] {
-        assert_eq!(rt; alphabet.text_of(alloc, word)?.as_slice(), text);
-    }
+    assert_eq!(rt; alphabet.text_of(alloc, &[])?.as_slice(), b"()".as_slice());
+    assert_eq!(rt;
+        alphabet.text_of(alloc, &[0, 4, 1])?.as_slice(),
+        b"r1 #1 r4".as_slice()
+    );
+    assert_eq!(rt;
+        alphabet.text_of(alloc, &[1, 2])?.as_slice(),
+        b"r4 drop".as_slice()
+    );
+    assert_eq!(rt;
+        alphabet.text_of(alloc, &[3, 20003])?.as_slice(),
+        b"loop #20000".as_slice()
+    );
     Ok(())
 }
 

@@ -12,7 +12,7 @@ use Rattle.rela_compare.proofs.Differences.{AreJoined, first_differs, none_diffe
 use Rattle.rela_compare.proofs.Results.{both_err, both_some, none_along}
 use Rattle.rela_compare.proofs.difference.first_difference.Goals as goal
 
-module _ (g : Rattle.rela_compare.proofs.difference.first_difference.Given.Over) (c : goal.After-drop-both-inside-3 g) where
+module _ (g : Rattle.rela_compare.proofs.difference.first_difference.Given.Over) (c : goal.After-drop-both-inside-4 g) where
   abbrev split : ℕ
   split = c.states.result - c.states-2.result
 
