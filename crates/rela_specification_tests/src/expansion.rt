@@ -87,22 +87,27 @@ fn refuses_what_is_too_large(rt: HostRuntime) -> Result<(), Fail> {
     )
 }
 
-#[test]
-fn numbers_classes_and_markers(rt: HostRuntime) -> Result<(), Fail> {
-    let alloc = rt.alloc();
-    let text = b"level device; path e = r1; check atmost c1 : { ($e | .)* : any(r1) };";
-    let check = check_of(&rt, alloc, text)?;
+/// Any of the first class for the words of the first two.
+fn any_of_the_first(alloc: Global) -> Result<Core, AllocError> {
     let either = Expr::Alt(
         Boxed::new(alloc, Expr::Class(0))?,
         Boxed::new(alloc, Expr::Class(1))?,
     );
-    let body = Core::Unit {
+    Ok(Core::Unit {
         zone: Expr::Star(Boxed::new(alloc, either)?),
         modifier: Change::AnyOf {
             path: Expr::Class(0),
             marker: 1,
         },
-    };
+    })
+}
+
+#[test]
+fn numbers_classes_and_markers(rt: HostRuntime) -> Result<(), Fail> {
+    let alloc = rt.alloc();
+    let text = b"level device; path e = r1; check atmost c1 : { ($e | .)* : any(r1) };";
+    let check = check_of(&rt, alloc, text)?;
+    let body = any_of_the_first(alloc)?;
     assert_eq!(rt; *check.body(), body);
     assert_eq!(rt; check.classes().len(), 2);
     assert_eq!(rt; check.level(), Level::Device);

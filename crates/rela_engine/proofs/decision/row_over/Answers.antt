@@ -1,11 +1,11 @@
-use Rattle.std.proofs.Common.{length, refl, subst}
+use Rattle.std.proofs.Common.{length, refl, subst, sym}
 use Rattle.std.proofs.lemmas.Result.{IfOk-weaker}
 use Rattle.rela_graph.specs.Paths.{Paths}
 use Rattle.rela_report.specs.declared.rows.Side.{Side}
 use Rattle.rela_trans.specs.Runs.{Relates}
 use Rattle.rela_engine.specs.Reading.{read_by}
 use Rattle.rela_engine.specs.RowOf.{RowOf}
-use Rattle.rela_engine.specs.Seen.{TellsOf}
+use Rattle.rela_engine.specs.Seen.{NodesStandAlone, TellsOf}
 use Rattle.rela_engine.proofs.Placed.{placed}
 use Rattle.rela_engine.proofs.Rows.{sides_of, compliant_row, before_row, after_row, letters_below, some_source}
 use Rattle.rela_engine.proofs.decision.row_over.Goals as goal
@@ -79,3 +79,9 @@ see-requires-clause-placed g c =
 pub see-requires-2-clause-placed : goal.see-requires-2-clause-placed
 see-requires-2-clause-placed g c =
     placed c.args.alphabet.now c.args.compiled.now.check.level c.level-level.result (length c.args.alphabet.now) c.args.pair.now.after c.level-level.ensures refl c.requires.located.1
+
+pub see-requires-clause-alone : goal.see-requires-clause-alone
+see-requires-clause-alone g c = subst (λ level. NodesStandAlone c.args.blocks.now level c.args.pair.now.before.nodes) (sym c.level-level.ensures) c.requires.blocks.before
+
+pub see-requires-2-clause-alone : goal.see-requires-2-clause-alone
+see-requires-2-clause-alone g c = subst (λ level. NodesStandAlone c.args.blocks.now level c.args.pair.now.after.nodes) (sym c.level-level.ensures) c.requires.blocks.after
