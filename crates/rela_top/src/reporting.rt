@@ -1,10 +1,11 @@
 //! From the four files to the report.
 
-ghost use Rattle.std.specs.Prelude.{◌≡◌, ◌≢◌, ◌≤◌, Err, IsTrue, IfOk, IfErr, OnOk};
+ghost use Rattle.std.specs.Prelude.{◌≡◌, ◌≢◌, ◌≤◌, Ok, Err, IsTrue, IfOk, IfErr, OnOk};
 ghost use Rattle.rela_top.specs.Commands.{command_of};
 ghost use Rattle.rela_top.specs.Reading.{max_file_bytes, HoldsFiles, HaltsBy};
 ghost use Rattle.rela_top.specs.Answer.{TellsRows, TellsCheck};
 ghost use Rattle.rela_top.specs.Checked.{Checked};
+ghost use Rattle.rela_top.specs.Inputs.{Gives, ReadsNetwork};
 ghost use Rattle.rela_top.specs.declared.refusal.Refusal.{Refusal};
 ghost use Rattle.rela_top.specs.Rows.{AreChecksAt};
 
@@ -15,6 +16,7 @@ use crate::refusal::Input;
 use crate::rows::rows_of;
 use crate::words::Command;
 use rela_io::Files;
+use rela_locations::Locations;
 use rela_names::Alphabet;
 use rela_report::{status, text};
 use rela_snapshot::{FlowPair, pair};
@@ -35,13 +37,34 @@ pub fn report<F: Files>(alloc: Global, files: &mut F, command: &Command<'_>) -> 
         result ≢ Err Halt.ReadFault }
 {
     let locations = load_locations(alloc, files, command)?;
-    let before = load_snapshot(alloc, files, command, Input::Before, &locations)?;
-    let after = load_snapshot(alloc, files, command, Input::After, &locations)?;
+    report_over(alloc, files, command, &locations)
+}
+
+// The same over the locations that were read first.
+fn report_over<F: Files>(
+    alloc: Global,
+    files: &mut F,
+    command: &Command<'_>,
+    locations: &Locations,
+) -> Result<Answer, Halt>
+    requires { Gives (F.holds files.old) (command_of command.now) Input.Locations ReadsNetwork (Ok locations.now) }
+    ensures reports { IfOk result (λ answer. TellsCheck (F.holds files.old) (command_of command.now) answer.text.items answer.status) }
+    ensures refused { IfErr result (λ halt. (refusal : Refusal) → halt ≡ Halt.Refused refusal →
+        Checked (F.holds files.old) (command_of command.now) (Err refusal)) }
+    ensures ok_given { OnOk result (F.given files.new ≤ max_file_bytes) }
+    ensures ok_keeps_count { OnOk result (F.faults files.new ≡ F.faults files.old) }
+    ensures halts { IfErr result (HaltsBy (F.holds files.old) (command_of command.now)
+        (F.faults files.old) (F.faults files.new) (F.given files.new)) }
+    ensures steady_is_no_fault { IsTrue (F.steady files.old) → HoldsFiles (F.holds files.old) (command_of command.now) →
+        result ≢ Err Halt.ReadFault }
+{
+    let before = load_snapshot(alloc, files, command, Input::Before, locations)?;
+    let after = load_snapshot(alloc, files, command, Input::After, locations)?;
     let pairs = match pair(alloc, before, after) {
         Ok(pairs) => pairs,
         Err(error) => return Err(pair_halt(error)),
     };
-    let asked = load_spec(alloc, files, command, &locations)?;
+    let asked = load_spec(alloc, files, command, locations)?;
     Ok(report_on(
         alloc,
         &pairs,
