@@ -1,6 +1,8 @@
-//! Tests of reports, of the verdict on a check for a flow, and of whole runs, by public calls alone.
+//! Tests of reports, of compiled checks, and of whole runs, by public calls alone.
 #![tactic(auto)]
 
+#[cfg(test)]
+mod compiled;
 #[cfg(test)]
 mod network;
 #[cfg(test)]
@@ -9,5 +11,3 @@ mod reports;
 mod rows;
 #[cfg(test)]
 mod runs;
-#[cfg(test)]
-mod verdicts;
