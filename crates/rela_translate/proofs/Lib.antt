@@ -5,7 +5,6 @@ pub mod Claims
 pub mod Equals
 pub mod Meanings
 pub mod Verdicts
-pub mod Sample
 pub mod Membership
 pub mod ListWords
 pub mod Letters
