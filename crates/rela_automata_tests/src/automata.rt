@@ -11,10 +11,14 @@ fn union_has(alloc: Global, letters: &[u32]) -> Result<bool, AllocError> {
     either.accepts(alloc, letters)
 }
 
+/// Letter 0 and then letter 1: by the one from state 0 to 1, silently on to 2, and by the other to 3.
+fn one_and_another(alloc: Global) -> Result<Table, AllocError> {
+    class(alloc, &[0])?.concat(alloc, &class(alloc, &[1])?)
+}
+
 /// Whether letter 0 and then letter 1 is the word.
 fn concat_has(alloc: Global, letters: &[u32]) -> Result<bool, AllocError> {
-    let both = class(alloc, &[0])?.concat(alloc, &class(alloc, &[1])?)?;
-    both.accepts(alloc, letters)
+    one_and_another(alloc)?.accepts(alloc, letters)
 }
 
 /// Whether the word is one of letter 0 alone.
@@ -84,17 +88,20 @@ fn one_word(rt: HostRuntime) -> Result<(), Fail> {
     Ok(())
 }
 
+/// Whether some edge leads from the one state to the other.
+fn leads_to(table: &Table, q: usize, to: usize) -> bool {
+    q < table.states() && table.edges(q).iter().any(|edge| edge.to == to)
+}
+
 #[test]
 fn detours_left_out(rt: HostRuntime) -> Result<(), Fail> {
     let alloc = rt.alloc();
-    let short = shortened(alloc)?;
+    let both = one_and_another(alloc)?;
+    assert!(rt; leads_to(&both, 0, 1));
+    let short = both.shortened(alloc)?;
+    assert!(rt; leads_to(&short, 0, 2));
+    assert!(rt; !leads_to(&short, 0, 1));
     assert!(rt; short.accepts(alloc, &[0, 1])?);
     assert!(rt; !short.accepts(alloc, &[0])?);
     Ok(())
-}
-
-/// The words of letter 0 and then letter 1, by an automaton that has no silent detours.
-fn shortened(alloc: Global) -> Result<Table, AllocError> {
-    let both = class(alloc, &[0])?.concat(alloc, &class(alloc, &[1])?)?;
-    both.shortened(alloc)
 }
