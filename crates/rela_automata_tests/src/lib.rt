@@ -1,4 +1,4 @@
-//! Tests of sets of letters, pairs of states, graphs, automata and transducers, by public calls alone.
+//! Tests of automata and transducers, of how they are compared, and of first words, by public calls alone.
 #![tactic(auto)]
 
 #[cfg(test)]
@@ -6,15 +6,7 @@ mod automata;
 #[cfg(test)]
 mod comparison;
 #[cfg(test)]
-mod graphs;
-#[cfg(test)]
-mod labels;
-#[cfg(test)]
 mod minimal;
-#[cfg(test)]
-mod outlines;
-#[cfg(test)]
-mod pairs;
 #[cfg(test)]
 mod subsets;
 #[cfg(test)]

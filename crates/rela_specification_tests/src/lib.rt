@@ -1,16 +1,7 @@
-//! Tests of the text of specifications, their trees, and the checks and terms that come of them, by public
-//! calls alone.
+//! Tests of the tokens of specifications, their trees and their canonical texts, by public calls alone.
 #![tactic(auto)]
 
 #[cfg(test)]
 mod cutting;
 #[cfg(test)]
-mod expansion;
-#[cfg(test)]
-mod network;
-#[cfg(test)]
-mod terms;
-#[cfg(test)]
 mod texts;
-#[cfg(test)]
-mod translation;
