@@ -1,7 +1,7 @@
 use Rattle.std.proofs.Common.{◌≤◌, length}
 use Rattle.std.specs.List.{All}
 use Rattle.rela_graph.specs.Topology.{JoinsNodes}
-use Rattle.rela_automata_tests.proofs.graphs.links.Given as goal
+use Rattle.rela_graph_tests.proofs.graphs.links.Given as goal
 
 -- the edges so far
 abbrev pub invariant-loop-a : goal.invariant-loop-a

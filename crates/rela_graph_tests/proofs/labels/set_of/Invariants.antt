@@ -1,5 +1,5 @@
 use Rattle.std.proofs.Common.{◌≡◌, length}
-use Rattle.rela_automata_tests.proofs.labels.set_of.Given as goal
+use Rattle.rela_graph_tests.proofs.labels.set_of.Given as goal
 
 abbrev pub invariant-loop-letter : goal.invariant-loop-letter
 invariant-loop-letter g l = length (g.L.LabelSet.letters l.set) ≡ l.size

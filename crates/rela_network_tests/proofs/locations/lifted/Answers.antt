@@ -1,6 +1,6 @@
 use Rattle.std.proofs.Common.{◌≡◌, Some, slice_get, length, refl, ap, sym, ◌∙◌}
 use Rattle.std.proofs.lemmas.Option.{slice_get_within}
-use Rattle.rela_reading_tests.proofs.locations.lifted.Goals as goal
+use Rattle.rela_network_tests.proofs.locations.lifted.Goals as goal
 
 pub lift-requires : goal.lift-requires
 lift-requires c =
