@@ -11,4 +11,7 @@ pub mod TermsFollow
 pub mod Subterms
 pub mod Licences
 pub mod Inclusions
-pub mod FixedTerms
+pub mod FixedForms
+pub mod CarriedSets
+pub mod CarriedPairs
+pub mod ScenesAlike

@@ -5,3 +5,4 @@ pub mod Following
 pub mod Limit
 pub mod Size
 pub mod Fixed
+pub mod Agreement
