@@ -15,3 +15,5 @@ pub mod FixedForms
 pub mod CarriedSets
 pub mod CarriedPairs
 pub mod ScenesAlike
+pub mod LicencesCarry
+pub mod ComplementForms

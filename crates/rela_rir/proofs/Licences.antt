@@ -73,8 +73,8 @@ counted m paths k x forced =
 
 inside : (m : Scene) → PathsFollow m → (k : ℕ) (x : PathTerm) → ForcedInside m k x → ReachedInside m k x
 inside m paths k x =
-    weaken (λ t. LayerIsForced m k (out-PathTerm t)) (λ t. LayerIsCounted (out-PathTerm t) × Reached m t k)
-    (λ r. ⊥) (λ r. LayerIsCountedR (out-RelTerm r) × ReachedR m r k) (counted m paths k) (λ r never. absurd never) x
+    weaken (Unit {0}) (λ t. LayerIsForced m k (out-PathTerm t)) (λ t. LayerIsCounted (out-PathTerm t) × Reached m t k)
+    (λ r. ⊥) (λ r. LayerIsCountedR (out-RelTerm r) × ReachedR m r k) (λ t _. counted m paths k t) (λ r _ never. absurd never) x (inr tt)
 
 pub forced_is_licensed : (m : Scene) → PathsFollow m → (last : Option (List ℕ)) (x y : PathTerm) (limit : ℕ) → Forced m x y limit → Licensed m last x y limit
 forced_is_licensed m paths last x y limit (inl before) = inl (inside m paths (limit + 1) x before)

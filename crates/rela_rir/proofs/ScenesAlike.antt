@@ -125,7 +125,7 @@ turned_paths m n same = record {
 pub turned_setting : (m n : Setting) → Alike m n → Alike n m
 turned_setting m n alike = record { classes = sym alike.classes; path_symbols = sym alike.path_symbols }
 
-turned : {A : Type 0} (m n : Scene) → A ⊎ SamePaths m n → A ⊎ SamePaths n m
+pub turned : {A : Type 0} (m n : Scene) → A ⊎ SamePaths m n → A ⊎ SamePaths n m
 turned m n (inl a) = inl a
 turned m n (inr same) = inr (turned_paths m n same)
 

@@ -6,3 +6,4 @@ pub mod Limit
 pub mod Size
 pub mod Fixed
 pub mod Agreement
+pub mod Complements

@@ -3,6 +3,7 @@
 //! reader of it passes through.
 #![tactic(auto)]
 
+mod agreement_laws;
 mod assertion;
 mod copy_term;
 mod laws;
@@ -12,6 +13,7 @@ mod set;
 mod size;
 mod term;
 
+pub use agreement_laws::{licences_carry_over, scenes_alike};
 pub use assertion::Assertion;
 pub use laws::{
     Reading, fixed_terms_mean_the_same, path_terms_mean, rel_terms_mean, sizes_of_path_terms,
