@@ -17,3 +17,4 @@ pub mod CarriedPairs
 pub mod ScenesAlike
 pub mod LicencesCarry
 pub mod ComplementForms
+pub mod InsideForms

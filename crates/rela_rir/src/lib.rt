@@ -6,6 +6,7 @@
 mod agreement_laws;
 mod assertion;
 mod copy_term;
+mod inside_laws;
 mod laws;
 mod limit_laws;
 mod made;
@@ -15,6 +16,10 @@ mod term;
 
 pub use agreement_laws::{licences_carry_over, scenes_alike};
 pub use assertion::Assertion;
+pub use inside_laws::{
+    complemented_parts_of_path_terms, complemented_parts_of_rel_terms, complements_inside,
+    reached_inside_path_terms, reached_inside_rel_terms,
+};
 pub use laws::{
     Reading, fixed_terms_mean_the_same, path_terms_mean, rel_terms_mean, sizes_of_path_terms,
     sizes_of_rel_terms, star_unfolds, terms_are_no_deeper_than_large,
