@@ -10,6 +10,7 @@ mod inside_laws;
 mod laws;
 mod limit_laws;
 mod made;
+mod place_laws;
 mod set;
 mod size;
 mod term;
@@ -25,6 +26,9 @@ pub use laws::{
     sizes_of_rel_terms, star_unfolds, terms_are_no_deeper_than_large,
 };
 pub use limit_laws::{Staging, forced_is_licensed, places_tell_what_follows};
+pub use place_laws::{
+    places_apart_in_path_terms, places_apart_in_rel_terms, places_of_path_terms, places_of_rel_terms,
+};
 pub use set::SymbolSet;
 pub use size::{depth, nodes};
 pub use term::{PathTerm, RelTerm};
