@@ -18,3 +18,5 @@ pub mod ScenesAlike
 pub mod LicencesCarry
 pub mod ComplementForms
 pub mod InsideForms
+pub mod Tables
+pub mod JointTables

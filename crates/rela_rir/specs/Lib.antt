@@ -7,3 +7,4 @@ pub mod Size
 pub mod Fixed
 pub mod Agreement
 pub mod Complements
+pub mod Tables
