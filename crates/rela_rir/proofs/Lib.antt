@@ -20,3 +20,4 @@ pub mod ComplementForms
 pub mod InsideForms
 pub mod Tables
 pub mod JointTables
+pub mod ReachedPlaces

@@ -2,6 +2,7 @@
 -- which words, or pairs of words, reach each of its states.
 use Rattle.std.specs.Prelude.{◌≡◌, ◌≢◌, ℕ, ◌<◌, ◌↔◌, List, length, Option, Some, All, AllPairs}
 use Rattle.rela_rir.specs.Places.{Place, Tells, Scene, At, AtR, Apart, ApartR, JustOne}
+use Rattle.rela_rir.specs.Limit.{IsCheckWord}
 use Rattle.rela_rir.specs.declared.term.PathTerm.{PathTerm}
 use Rattle.rela_rir.specs.declared.term.RelTerm.{RelTerm}
 
@@ -37,6 +38,26 @@ pub record IsPlaced (m : Scene) (x : PathTerm) (reach : ℕ → List ℕ → Typ
 pub record IsPlacedR (m : Scene) (r : RelTerm) (reach : ℕ → List ℕ → List ℕ → Type 0) : Type 0 where
   pub table : Place → Option ℕ
   pub is_table : IsTable (OnPairs reach) (OnPairs (AtR m r)) (ApartR m r) table
+
+-- some word of path symbols and markers reaches the state
+abbrev pub IsStateReached : {Q : Type 0} → Scene → (Q → List ℕ → Type 0) → Q → Type 0
+IsStateReached m reach q = (w : List ℕ) × IsCheckWord m w × reach q w
+
+-- some pair of such words reaches the state
+abbrev pub IsStateReachedR : {Q : Type 0} → Scene → (Q → List ℕ → List ℕ → Type 0) → Q → Type 0
+IsStateReachedR m reach q = (u v : List ℕ) × IsCheckWord m u × IsCheckWord m v × reach q u v
+
+-- one word reaches both states of a pair
+abbrev pub ReachTogether : (ℕ → List ℕ → Type 0) → (ℕ → List ℕ → Type 0) → ℕ × ℕ → List ℕ → Type 0
+ReachTogether first second q w = first q.0 w × second q.1 w
+
+-- some source reaches the first state of a pair, and from it the word is written to the second
+abbrev pub ReachFromSource : (ℕ → List ℕ → Type 0) → (ℕ → List ℕ → List ℕ → Type 0) → ℕ × ℕ → List ℕ → Type 0
+ReachFromSource first second q v = (source : List ℕ) × first q.0 source × second q.1 source v
+
+-- some word in the middle is written to the first state of a pair, and read to the second
+abbrev pub ReachByMiddle : (ℕ → List ℕ → List ℕ → Type 0) → (ℕ → List ℕ → List ℕ → Type 0) → ℕ × ℕ → List ℕ → List ℕ → Type 0
+ReachByMiddle first second q u v = (middle : List ℕ) × first q.0 u middle × second q.1 middle v
 
 -- k states, no two of which are equal, and each has P
 pub record ManyStates {Q : Type 0} (P : Q → Type 0) (k : ℕ) : Type 0 where

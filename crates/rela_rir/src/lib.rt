@@ -13,6 +13,7 @@ mod made;
 mod place_laws;
 mod set;
 mod size;
+mod table_laws;
 mod term;
 
 pub use agreement_laws::{licences_carry_over, scenes_alike};
@@ -31,4 +32,8 @@ pub use place_laws::{
 };
 pub use set::SymbolSet;
 pub use size::{depth, nodes};
+pub use table_laws::{
+    PairReaching, Reaching, reached_pairs_are_places, reached_states_are_places,
+    states_reached_alike, tables_carry_over, told_words_are_places,
+};
 pub use term::{PathTerm, RelTerm};
