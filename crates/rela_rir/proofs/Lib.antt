@@ -21,3 +21,4 @@ pub mod InsideForms
 pub mod Tables
 pub mod JointTables
 pub mod ReachedPlaces
+pub mod FormTables

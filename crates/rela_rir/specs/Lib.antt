@@ -8,3 +8,4 @@ pub mod Fixed
 pub mod Agreement
 pub mod Complements
 pub mod Tables
+pub mod Built
