@@ -14,7 +14,7 @@ mapped : (f : ℕ → ℕ) (o : Option ℕ) (q : ℕ) → option_map f o ≡ Som
 mapped f None q entry = absurd (let never : ⊥ = cc in never)
 mapped f (Some k) q entry = (k, refl, cc)
 
-below_or_after : (q n : ℕ) → (q < n) ⊎ ((k : ℕ) × (q ≡ n + k))
+pub below_or_after : (q n : ℕ) → (q < n) ⊎ ((k : ℕ) × (q ≡ n + k))
 below_or_after q zero = inr (q, omega arith)
 below_or_after zero (suc n) = inl (omega arith)
 below_or_after (suc q) (suc n) = elim (below_or_after q n) [ | inl below ↦ inl (omega (arith, below)) | inr after ↦ inr (after.0, (let same : q ≡ n + after.0 = after.1 in omega arith)) ]

@@ -46,6 +46,15 @@ differ_in_one x y differ = elim (same_or_not x.0 y.0) [
   | inr first ↦ inl first
 ]
 
+pub pair_or_not : (x y : ℕ × ℕ) → (x ≡ y) ⊎ (x ≡ y → ⊥)
+pair_or_not x y = elim (same_or_not x.0 y.0) [
+  | inl first ↦ elim (same_or_not x.1 y.1) [
+    | inl second ↦ inl (same_pair x.0 x.1 y.0 y.1 first second)
+    | inr differ ↦ inr (λ same. differ (ap (λ (z : ℕ × ℕ). z.1) same))
+  ]
+  | inr differ ↦ inr (λ same. differ (ap (λ (z : ℕ × ℕ). z.0) same))
+]
+
 -- Places of two terms go together where what reaches them is linked.
 module _ {I J K : Type 0} {a : ℕ → I → Type 0} {x : Place → I → Type 0} {tx : Tells} {t : Place → Option ℕ} {b : ℕ → J → Type 0} {y : Place → J → Type 0} {ty : Tells} {u : Place → Option ℕ}
     (first : IsTable a x tx t) (second : IsTable b y ty u) (link : K → I → J → Type 0) where

@@ -22,3 +22,6 @@ pub mod Tables
 pub mod JointTables
 pub mod ReachedPlaces
 pub mod FormTables
+pub mod LeafTables
+pub mod NumberedTables
+pub mod BuiltTerms

@@ -5,6 +5,7 @@
 
 mod agreement_laws;
 mod assertion;
+mod built_laws;
 mod copy_term;
 mod inside_laws;
 mod laws;
@@ -18,6 +19,7 @@ mod term;
 
 pub use agreement_laws::{licences_carry_over, scenes_alike};
 pub use assertion::Assertion;
+pub use built_laws::{built_path_terms_are_placed, built_rel_terms_are_placed};
 pub use inside_laws::{
     complemented_parts_of_path_terms, complemented_parts_of_rel_terms, complements_inside,
     reached_inside_path_terms, reached_inside_rel_terms,
