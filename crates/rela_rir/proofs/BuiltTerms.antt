@@ -1,9 +1,9 @@
 -- The states of what is built of the machines of a term's parts stand for the places of the term, form by form.
-use Rattle.std.proofs.Common.{◌≡◌, ◌∙◌, ℕ, List, [], ◌++◌, refl, sym, ap, subst}
+use Rattle.std.proofs.Common.{◌≡◌, ℕ, List, [], ◌++◌, refl, subst}
 use Rattle.std.specs.Prelude.{◌↔◌, Option}
 use Rattle.rela_rir.specs.Words.{WordSet, Relation, Concatenation, Star, PairConcatenation, PairStar}
 use Rattle.rela_rir.specs.Meaning.{In, InR, IsInClass}
-use Rattle.rela_rir.specs.Places.{Place, Begin, Left, Right, Inner, Scene, Places, PairPlaces, Tells, At, AtR, Apart, ApartR, EmptyPlaces, LetterPlaces, UnionPlaces, ConcatPlaces, StarPlaces, MeetPlaces, ComplementPlaces, PathSetPlaces, ImagePlaces, IdentityPlaces, ProductPlaces, PairUnionPlaces, PairConcatPlaces, PairStarPlaces, ComposePlaces, PartsApart, SeenApart, NoParts}
+use Rattle.rela_rir.specs.Places.{Place, Begin, Left, Right, Inner, Scene, Places, PairPlaces, Tells, At, AtR, Apart, ApartR, UnionPlaces, ConcatPlaces, StarPlaces, ProductPlaces, PairUnionPlaces, PairConcatPlaces, PairStarPlaces}
 use Rattle.rela_rir.specs.Tables.{IsTable, OnPairs, IsPlaced, IsPlacedR, ReachTogether, ReachFromSource, ReachByMiddle}
 use Rattle.rela_rir.specs.Built.{IsEmptyPair, OneState, LetterStates, SideBySide, UnionStates, StarStates, NumberedPairs, PathStates, ComplementStates}
 use Rattle.rela_rir.proofs.PlaceForms as forms

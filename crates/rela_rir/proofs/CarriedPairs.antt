@@ -1,7 +1,7 @@
 -- The same for each form of relation term.
-use Rattle.std.proofs.Common.{◌≡◌, ℕ, ◌⊎◌, List, []}
+use Rattle.std.proofs.Common.{◌≡◌, ◌⊎◌}
 use Rattle.rela_rir.specs.Words.{WordSet, Relation, PairConcatenation, PairStar, Composition}
-use Rattle.rela_rir.specs.Places.{Place, Begin, Left, Right, Inner, Both, Places, PairPlaces, Tells, IdentityPlaces, ProductPlaces, PairUnionPlaces, PairConcatPlaces, PairStarPlaces, ComposePlaces, PartsApart, NoParts}
+use Rattle.rela_rir.specs.Places.{Place, Left, Right, Inner, Both, Places, PairPlaces, Tells, IdentityPlaces, ProductPlaces, PairUnionPlaces, PairConcatPlaces, PairStarPlaces, ComposePlaces, PartsApart, NoParts}
 use Rattle.rela_rir.proofs.Inclusions as within
 use Rattle.rela_rir.proofs.Inclusions.{Within, WithinR}
 use Rattle.rela_rir.proofs.CarriedSets.{Carried, CarriedR, parts_apart, no_parts}

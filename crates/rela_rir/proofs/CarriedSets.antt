@@ -1,10 +1,10 @@
 -- How the words, the places and what tells places apart are carried over from one scene to another by each
 -- form of path term, where they are at its parts.
-use Rattle.std.proofs.Common.{◌≡◌, ℕ, ◌⊎◌, inl, inr, List, [], ◌∷◌, subst, sym}
-use Rattle.std.specs.Prelude.{◌↔◌, slice_get, Option, Some}
+use Rattle.std.proofs.Common.{◌≡◌, ℕ, ◌⊎◌, inl, inr, List, [], ◌∷◌, subst}
+use Rattle.std.specs.Prelude.{slice_get, Some}
 use Rattle.rela_rir.specs.Words.{WordSet, Relation, Concatenation, Star, ImageOf}
 use Rattle.rela_rir.specs.Meaning.{Setting, IsInClass, HasSymbol, IsPathWord}
-use Rattle.rela_rir.specs.Places.{Place, Start, End, Begin, Left, Right, Inner, Both, Seen, Node, Arrivals, Places, PairPlaces, Tells, JustOne, LetterPlaces, UnionPlaces, ConcatPlaces, StarPlaces, MeetPlaces, ComplementPlaces, PathSetPlaces, ImagePlaces, PartsApart, SeenApart, NoParts}
+use Rattle.rela_rir.specs.Places.{Place, Start, End, Left, Right, Inner, Both, Seen, Node, Arrivals, Places, PairPlaces, Tells, JustOne, LetterPlaces, UnionPlaces, ConcatPlaces, StarPlaces, MeetPlaces, ComplementPlaces, PathSetPlaces, ImagePlaces, PartsApart, SeenApart, NoParts}
 use Rattle.rela_rir.specs.Fixed.{Alike}
 use Rattle.rela_rir.specs.Agreement.{SameWords, SameArrivals}
 use Rattle.rela_rir.specs.declared.set.SymbolSet.{SymbolSet}

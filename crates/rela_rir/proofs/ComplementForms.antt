@@ -1,6 +1,6 @@
 -- The complemented parts of each form of term, as equations; and what holds of some complement holds of some part
 -- among them.
-use Rattle.std.proofs.Common.{◌≡◌, ◌∙◌, ◌⊎◌, ℕ, inl, inr, List, [], ◌∷◌, ◌++◌, refl, sym, ap, subst, arith}
+use Rattle.std.proofs.Common.{◌≡◌, ◌⊎◌, inl, inr, List, [], ◌∷◌, ◌++◌, refl, sym, ap, subst, arith}
 use Rattle.std.specs.Prelude.{◌↔◌}
 use Rattle.std.specs.List.{Contains}
 use Rattle.std.proofs.lemmas.List.Elements.{Contains-append_left, Contains-append_right, Contains-append_cases, Contains-push, Contains-push_cases}
@@ -74,10 +74,10 @@ module _ (D : PathTerm → Type 0) where
   no_part some = absurd (omega (arith, some.1.1))
 
   leaf : (⊥ ⊎ ⊥) ↔ SomePart D []
-  leaf = ((λ never. elim never [ | inl bad ↦ absurd bad | inr bad ↦ absurd bad ]), λ some. absurd (no_part some))
+  leaf = ((λ never. elim never [ inl bad ↦ absurd bad | inr bad ↦ absurd bad ]), λ some. absurd (no_part some))
 
   only : {A : Type 0} (xs : List PathTerm) → A ↔ SomePart D xs → (⊥ ⊎ A) ↔ SomePart D xs
-  only xs a = ((λ has. elim has [ | inl never ↦ absurd never | inr some ↦ a.0 some ]), λ some. inr (a.1 some))
+  only xs a = ((λ has. elim has [ inl never ↦ absurd never | inr some ↦ a.0 some ]), λ some. inr (a.1 some))
 
   joined : {A B : Type 0} (xs ys : List PathTerm) → A ↔ SomePart D xs → B ↔ SomePart D ys → (⊥ ⊎ (A ⊎ B)) ↔ SomePart D (xs ++ ys)
   joined {A} {B} xs ys a b = (there, back) where

@@ -1,8 +1,8 @@
 -- The tables of machines that are built of others, from the tables of those.
-use Rattle.std.proofs.Common.{◌≡◌, ◌≢◌, ◌∙◌, ℕ, zero, suc, ◌+◌, ◌<◌, ◌⊎◌, inl, inr, List, refl, sym, ap, subst, arith}
+use Rattle.std.proofs.Common.{◌≡◌, ◌≢◌, ◌∙◌, ℕ, zero, suc, ◌+◌, ◌<◌, ◌⊎◌, inl, inr, refl, sym, ap, subst, arith}
 use Rattle.std.specs.Prelude.{◌↔◌, Option, Some, None}
 use Rattle.std.specs.Option.{option_map}
-use Rattle.rela_rir.specs.Places.{Place, Start, End, Begin, Left, Right, Inner, Tells, PartsApart, NoParts}
+use Rattle.rela_rir.specs.Places.{Place, Begin, Left, Right, Inner, Tells, PartsApart, NoParts}
 use Rattle.rela_rir.specs.Tables.{StandsAt, IsTable}
 use Rattle.rela_rir.specs.Built.{SideBySide, UnionStates, StarStates}
 
@@ -17,7 +17,7 @@ mapped f (Some k) q entry = (k, refl, cc)
 pub below_or_after : (q n : ℕ) → (q < n) ⊎ ((k : ℕ) × (q ≡ n + k))
 below_or_after q zero = inr (q, omega arith)
 below_or_after zero (suc n) = inl (omega arith)
-below_or_after (suc q) (suc n) = elim (below_or_after q n) [ | inl below ↦ inl (omega (arith, below)) | inr after ↦ inr (after.0, (let same : q ≡ n + after.0 = after.1 in omega arith)) ]
+below_or_after (suc q) (suc n) = elim (below_or_after q n) [ inl below ↦ inl (omega (arith, below)) | inr after ↦ inr (after.0, (let same : q ≡ n + after.0 = after.1 in omega arith)) ]
 
 -- what is reached through a link from what the states of the part, or its places, are reached by
 module _ {I J : Type 0} {reach : ℕ → J → Type 0} {at : Place → J → Type 0} {tells : Tells} {table : Place → Option ℕ} (link : I → J → Type 0) (is : IsTable reach at tells table) where

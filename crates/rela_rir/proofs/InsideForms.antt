@@ -1,5 +1,5 @@
 -- Which counted terms are in a term, and which complements force an open answer, by the form of the term.
-use Rattle.std.proofs.Common.{◌≡◌, ◌∙◌, ◌⊎◌, ℕ, inl, inr, refl, sym, ap, subst}
+use Rattle.std.proofs.Common.{◌≡◌, ◌∙◌, ◌⊎◌, ℕ, inl, inr, sym, ap, subst}
 use Rattle.std.specs.Prelude.{◌↔◌}
 use Rattle.std.specs.List.{Contains}
 use Rattle.rela_rir.specs.Places.{Scene}
@@ -15,13 +15,13 @@ use Rattle.rela_rir.specs.declared.term.PathTerm.TheViews.{roll-PathTerm, roll-R
 
 -- what is told by cases, of which one never holds
 other_case : {A B : Type 0} → (A → ⊥) → (A ⊎ B) ↔ B
-other_case none = ((λ has. elim has [ | inl a ↦ absurd (none a) | inr b ↦ b ]), λ b. inr b)
+other_case none = ((λ has. elim has [ inl a ↦ absurd (none a) | inr b ↦ b ]), λ b. inr b)
 
 -- what is told by cases, of which one needs a fact that holds
 with_fact : {A B C : Type 0} → A → ((A × B) ⊎ C) ↔ (B ⊎ C)
 with_fact fact = (
-  (λ has. elim has [ | inl both ↦ inl both.1 | inr c ↦ inr c ]),
-  λ has. elim has [ | inl b ↦ inl (fact, b) | inr c ↦ inr c ],
+  (λ has. elim has [ inl both ↦ inl both.1 | inr c ↦ inr c ]),
+  λ has. elim has [ inl b ↦ inl (fact, b) | inr c ↦ inr c ],
 )
 
 told_as : {A B C : Type 0} → A ≡ B → B ↔ C → A ↔ C

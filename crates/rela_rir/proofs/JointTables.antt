@@ -1,7 +1,6 @@
 -- Tables of terms whose places are pairs of places: meets, images and compositions.
 use Rattle.std.proofs.Common.{◌≡◌, ◌≢◌, ◌∙◌, ℕ, zero, suc, ◌⊎◌, inl, inr, List, refl, ap, subst, arith}
 use Rattle.std.specs.Prelude.{◌↔◌, Option, Some, None}
-use Rattle.rela_rir.specs.Words.{ImageOf, Composition}
 use Rattle.rela_rir.specs.Places.{Place, Both, Places, PairPlaces, Tells, MeetPlaces, ImagePlaces, ComposePlaces, PartsApart}
 use Rattle.rela_rir.specs.Tables.{StandsAt, IsTable, OnPairs}
 use Rattle.rela_rir.proofs.Tables.{table_of_same}
@@ -35,7 +34,7 @@ same_or_not : (m n : ℕ) → (m ≡ n) ⊎ (m ≢ n)
 same_or_not zero zero = inl refl
 same_or_not zero (suc n) = inr (λ same. omega (arith, same))
 same_or_not (suc m) zero = inr (λ same. omega (arith, same))
-same_or_not (suc m) (suc n) = elim (same_or_not m n) [ | inl same ↦ inl (ap suc same) | inr differ ↦ inr (λ same. differ (omega (arith, same))) ]
+same_or_not (suc m) (suc n) = elim (same_or_not m n) [ inl same ↦ inl (ap suc same) | inr differ ↦ inr (λ same. differ (omega (arith, same))) ]
 
 same_pair : (a b c d : ℕ) → a ≡ c → b ≡ d → pair a b ≡ pair c d
 same_pair a b c d first second = ap (λ (e : ℕ). pair e b) first ∙ ap (λ (e : ℕ). pair c e) second

@@ -1,10 +1,9 @@
 -- The tables of machines that are built of no others, and of complements.
 use Rattle.std.proofs.Common.{◌≡◌, ◌≢◌, ◌∙◌, ℕ, zero, suc, ◌+◌, ◌<◌, ◌⊎◌, inl, inr, List, [], ◌∷◌, refl, sym, ap, subst, arith}
 use Rattle.std.specs.Prelude.{◌↔◌, Option, Some, None}
-use Rattle.std.specs.List.{All}
 use Rattle.std.proofs.lemmas.List.Elements.{All-nil, All-cons, All-head, All-tail}
 use Rattle.rela_rir.specs.Meaning.{IsPathWord}
-use Rattle.rela_rir.specs.Places.{Place, Start, End, Begin, Seen, Node, Places, Arrivals, Tells, JustOne, Agree, EmptyPlaces, LetterPlaces, ComplementPlaces, PathSetPlaces, PartsApart, SeenApart, NoParts}
+use Rattle.rela_rir.specs.Places.{Place, Start, End, Begin, Seen, Node, Places, Arrivals, Tells, Agree, EmptyPlaces, LetterPlaces, ComplementPlaces, PathSetPlaces, PartsApart, SeenApart, NoParts}
 use Rattle.rela_rir.specs.Tables.{StandsAt, IsTable}
 use Rattle.rela_rir.specs.Built.{OneState, LetterStates, PathStates, ComplementStates}
 use Rattle.rela_rir.proofs.Tables.{told_by_place}
@@ -69,7 +68,7 @@ letter_states member r states = record { reached = λ q w. (there q w, λ stands
   apart _ _ k l one two differ = absurd (let never : ⊥ = cc in never)
 
 pub below_or_not : (k n : ℕ) → (k < n) ⊎ (k < n → ⊥)
-below_or_not k n = elim (below_or_after k n) [ | inl below ↦ inl below | inr after ↦ inr (λ below. (let is : k ≡ n + after.0 = after.1 in omega (arith, below))) ]
+below_or_not k n = elim (below_or_after k n) [ inl below ↦ inl below | inr after ↦ inr (λ below. (let is : k ≡ n + after.0 = after.1 in omega (arith, below))) ]
 
 abbrev pub path_table : ℕ → Place → Option ℕ
 path_table n Begin = Some 0

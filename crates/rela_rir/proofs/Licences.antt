@@ -8,7 +8,7 @@ use Rattle.rela_rir.specs.Words.{WordSet}
 use Rattle.rela_rir.specs.Meaning.{In, IsPathWord}
 use Rattle.rela_rir.specs.Places.{Place, Seen, Places, Scene, At, Apart, JustOne}
 use Rattle.rela_rir.specs.Following.{Follows, PathsFollow}
-use Rattle.rela_rir.specs.Limit.{IsCheckWord, IsReached, Reached, ReachedR, LayerIsCounted, LayerIsCountedR, ReachedInside, ToldByContinuing, AreTold, LayerIsForced, ForcedInside, Licensed, Forced}
+use Rattle.rela_rir.specs.Limit.{IsCheckWord, IsReached, Reached, ReachedR, LayerIsCounted, LayerIsCountedR, ReachedInside, AreTold, LayerIsForced, ForcedInside, Licensed, Forced}
 use Rattle.rela_rir.proofs.PlaceForms.{at_roll, apart_roll}
 use Rattle.rela_rir.proofs.TermsFollow.{terms_follow}
 use Rattle.rela_rir.proofs.Subterms.{weaken}

@@ -1,10 +1,10 @@
 -- What licenses an open answer in a scene, or forces it, does so in each scene that agrees on what the terms name.
-use Rattle.std.proofs.Common.{◌≡◌, ℕ, ◌+◌, ◌<◌, ◌⊎◌, inl, inr, List, ◌++◌, subst, sym}
-use Rattle.std.specs.Prelude.{Option, Some, None}
+use Rattle.std.proofs.Common.{ℕ, ◌+◌, ◌<◌, ◌⊎◌, inl, inr, List, ◌++◌, subst, sym}
+use Rattle.std.specs.Prelude.{Option}
 use Rattle.std.specs.List.{All, AllPairs}
 use Rattle.std.proofs.lemmas.List.Elements.{All-weaker}
-use Rattle.rela_rir.specs.Meaning.{In, IsPathWord}
-use Rattle.rela_rir.specs.Places.{Place, Scene, At, AtR, Apart, ApartR, JustOne}
+use Rattle.rela_rir.specs.Meaning.{IsPathWord}
+use Rattle.rela_rir.specs.Places.{Scene, Apart, ApartR, JustOne}
 use Rattle.rela_rir.specs.Fixed.{IsFixed, IsFixedR}
 use Rattle.rela_rir.specs.Agreement.{SamePaths, SameSymbols, AgreeOn, AgreeOnR}
 use Rattle.rela_rir.specs.Limit.{IsCheckWord, IsReached, IsReachedR, Reached, ReachedR, ToldByPlace, ReachedPair, LayerIsCounted, LayerIsCountedR, ReachedInside, ReachedInsideR, ToldByContinuing, AreTold, LayerIsForced, ForcedInside, ForcedInsideR, Licensed, Forced}

@@ -1,12 +1,11 @@
 -- As many places are reached as states that stand for them.
-use Rattle.std.proofs.Common.{◌≡◌, ◌∙◌, ℕ, ◌⊎◌, inl, inr, List, subst, sym}
-use Rattle.std.specs.Prelude.{◌↔◌, Option, Some, None}
+use Rattle.std.proofs.Common.{◌∙◌, ℕ, ◌⊎◌, inl, inr, List, subst}
+use Rattle.std.specs.Prelude.{◌↔◌, Option}
 use Rattle.std.specs.Option.{ForSome}
-use Rattle.std.specs.List.{All, AllPairs}
 use Rattle.std.proofs.lemmas.List.Elements.{All-weaker}
 use Rattle.rela_names.specs.Shortlex.{IsBefore}
 use Rattle.rela_rir.specs.Meaning.{IsPathWord}
-use Rattle.rela_rir.specs.Places.{Place, Scene, Tells, At, AtR, Apart, ApartR}
+use Rattle.rela_rir.specs.Places.{Place, Scene, At, AtR, Apart, ApartR}
 use Rattle.rela_rir.specs.Limit.{IsCheckWord, IsReachedR, Reached, ReachedR, ToldByPlace, ReachedPair}
 use Rattle.rela_rir.specs.Tables.{IsTable, IsExact, OnPairs, IsPlaced, IsPlacedR, IsStateReached, IsStateReachedR, ReachTogether, ReachFromSource, ReachByMiddle, ManyStates, ToldByState, ManyWords}
 use Rattle.rela_rir.specs.Agreement.{AgreeOn, AgreeOnR}

@@ -5,7 +5,7 @@ use Rattle.rela_rir.specs.Words.{WordSet, Relation}
 use Rattle.rela_rir.specs.Meaning.{Setting, In, InR, LayerIn, LayerInR, IsInClass}
 use Rattle.rela_rir.specs.Places.{Scene, Arrivals, Places, PairPlaces, Tells, At, AtR, Apart, ApartR, LayerAt, LayerAtR, LayerApart, LayerApartR}
 use Rattle.rela_rir.specs.Fixed.{Alike, IsFixed, IsFixedR, LayerIsFixed, LayerIsFixedR}
-use Rattle.rela_rir.specs.Agreement.{SameWords, SameArrivals, SamePaths, SameSymbols, AgreeOn, AgreeOnR}
+use Rattle.rela_rir.specs.Agreement.{SameWords, SameArrivals, SamePaths}
 use Rattle.rela_rir.proofs.MeaningForms.{in_roll, in_roll_r}
 use Rattle.rela_rir.proofs.PlaceForms.{at_roll, at_roll_r, apart_roll, apart_roll_r}
 use Rattle.rela_rir.proofs.FixedForms.{fixed_roll, fixed_roll_r}

@@ -1,11 +1,11 @@
 -- From states to the places that they stand for.
-use Rattle.std.proofs.Common.{◌≡◌, ◌≢◌, ◌∙◌, ℕ, zero, suc, ◌+◌, ◌<◌, ◌⊎◌, inl, inr, List, [], ◌∷◌, length, refl, sym, ap, subst, arith}
-use Rattle.std.specs.Prelude.{◌↔◌, Option, Some, None}
+use Rattle.std.proofs.Common.{◌≡◌, ◌≢◌, ℕ, suc, inl, inr, List, [], ◌∷◌, length, refl, ap, arith}
+use Rattle.std.specs.Prelude.{◌↔◌, Option, Some}
 use Rattle.std.specs.List.{All, AllPairs}
 use Rattle.std.proofs.lemmas.List.Elements.{All-nil, All-cons, All-head, All-tail}
 use Rattle.std.proofs.lemmas.List.Kept.{AllPairs-cons}
 use Rattle.rela_rir.specs.Places.{Place, Tells, JustOne}
-use Rattle.rela_rir.specs.Tables.{StandsAt, IsTable, IsExact}
+use Rattle.rela_rir.specs.Tables.{IsTable, IsExact}
 
 module _ {Q I : Type 0} {reach : Q → I → Type 0} {at : Place → I → Type 0} {tells : Tells} {table : Place → Option Q} (is : IsTable reach at tells table) where
   -- where a state is reached by just one of two, so is a place

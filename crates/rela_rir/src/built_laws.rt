@@ -12,7 +12,13 @@ use crate::term::{PathTerm, RelTerm};
 
 /// Path terms: S, T and U tell how the states of the machines of the parts are reached, and R how those of
 /// what is built of them are.
-pub fn built_path_terms_are_placed<M: Staging, S: Reaching, T: Reaching, U: PairReaching, R: Reaching>()
+pub fn built_path_terms_are_placed<
+    M: Staging,
+    S: Reaching,
+    T: Reaching,
+    U: PairReaching,
+    R: Reaching,
+>()
     ensures none { OneState R.reach → IsPlaced M.scene PathTerm.None R.reach }
     ensures empty { OneState R.reach → IsPlaced M.scene PathTerm.Empty R.reach }
     ensures class { (entry : ℕ) → LetterStates (IsInClass M.scene.setting entry) R.reach →
@@ -42,7 +48,14 @@ pub fn built_path_terms_are_placed<M: Staging, S: Reaching, T: Reaching, U: Pair
 
 /// Relation terms: S, T, U and V tell how the states of the machines of the parts are reached, and R how
 /// those of what is built of them are.
-pub fn built_rel_terms_are_placed<M: Staging, S: Reaching, T: Reaching, U: PairReaching, V: PairReaching, R: PairReaching>()
+pub fn built_rel_terms_are_placed<
+    M: Staging,
+    S: Reaching,
+    T: Reaching,
+    U: PairReaching,
+    V: PairReaching,
+    R: PairReaching,
+>()
     ensures identity { (x : PathTerm) → IsPlaced M.scene x S.reach →
         ((q : ℕ) (u v : List ℕ) → R.reach_pair q u v ↔ ((u ≡ v) × S.reach q u)) →
         IsPlacedR M.scene (RelTerm.Identity x) R.reach_pair }

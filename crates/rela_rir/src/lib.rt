@@ -30,7 +30,8 @@ pub use laws::{
 };
 pub use limit_laws::{Staging, forced_is_licensed, places_tell_what_follows};
 pub use place_laws::{
-    places_apart_in_path_terms, places_apart_in_rel_terms, places_of_path_terms, places_of_rel_terms,
+    places_apart_in_path_terms, places_apart_in_rel_terms, places_of_path_terms,
+    places_of_rel_terms,
 };
 pub use set::SymbolSet;
 pub use size::{depth, nodes};

@@ -48,7 +48,13 @@ pub fn tables_carry_over<M: Staging, N: Staging, S: Reaching, T: PairReaching>()
 {}
 
 /// States that are reached by the same words, or pairs of words, stand for the same places.
-pub fn states_reached_alike<M: Staging, S: Reaching, T: Reaching, U: PairReaching, V: PairReaching>()
+pub fn states_reached_alike<
+    M: Staging,
+    S: Reaching,
+    T: Reaching,
+    U: PairReaching,
+    V: PairReaching,
+>()
     ensures placed { ((q : ℕ) (w : List ℕ) → S.reach q w ↔ T.reach q w) → (x : PathTerm) →
         IsPlaced M.scene x S.reach → IsPlaced M.scene x T.reach }
     ensures placed_pairs { ((q : ℕ) (u v : List ℕ) → U.reach_pair q u v ↔ V.reach_pair q u v) → (r : RelTerm) →
@@ -66,7 +72,13 @@ pub fn reached_states_are_places<M: Staging, S: Reaching, T: PairReaching>()
 
 /// A meet, an image or a composition has as many reached places as there are pairs of states of its parts
 /// that are reached by one word, from one source or by one word in the middle.
-pub fn reached_pairs_are_places<M: Staging, S: Reaching, T: Reaching, U: PairReaching, V: PairReaching>()
+pub fn reached_pairs_are_places<
+    M: Staging,
+    S: Reaching,
+    T: Reaching,
+    U: PairReaching,
+    V: PairReaching,
+>()
     ensures meet { (x y : PathTerm) → IsPlaced M.scene x S.reach → IsPlaced M.scene y T.reach → (k : ℕ) →
         ManyStates (IsStateReached M.scene (ReachTogether S.reach T.reach)) k →
         Reached M.scene (PathTerm.Meet x y) k }
