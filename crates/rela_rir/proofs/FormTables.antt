@@ -4,13 +4,13 @@ use Rattle.std.specs.Prelude.{◌↔◌, Option, Some, None}
 use Rattle.std.specs.Option.{option_map}
 use Rattle.rela_rir.specs.Places.{Place, Begin, Left, Right, Inner, Tells, PartsApart, NoParts}
 use Rattle.rela_rir.specs.Tables.{StandsAt, IsTable}
-use Rattle.rela_rir.specs.Built.{SideBySide, UnionStates, StarStates}
+use Rattle.rela_rir.specs.Built.{SideBySide, StarStates}
 
 pub same : {A : Type 0} → A ↔ A
 same = ((λ a. a), λ a. a)
 
 -- what a mapped entry comes from
-mapped : (f : ℕ → ℕ) (o : Option ℕ) (q : ℕ) → option_map f o ≡ Some q → (k : ℕ) × (o ≡ Some k) × (f k ≡ q)
+pub mapped : (f : ℕ → ℕ) (o : Option ℕ) (q : ℕ) → option_map f o ≡ Some q → (k : ℕ) × (o ≡ Some k) × (f k ≡ q)
 mapped f None q entry = absurd (let never : ⊥ = cc in never)
 mapped f (Some k) q entry = (k, refl, cc)
 
@@ -141,18 +141,3 @@ module _ {I : Type 0} {start : I → Type 0} {a r : ℕ → I → Type 0} {at : 
 
   pub with_start : IsTable r (BegunAt start at) (PartsApart tx ty) (begun t)
   with_start = record { reached = λ q i. (begun_there q i, λ stands. begun_back q i stands.place stands.entry stands.reached); apart = begun_apart }
-
--- a start, and the two parts side by side after it
-pub union : {I : Type 0} {start : I → Type 0} {n : ℕ} {a b r : ℕ → I → Type 0} {x y : Place → I → Type 0} {tx ty : Tells} {t u : Place → Option ℕ} →
-    IsTable a x tx t → IsTable b y ty u → UnionStates start n a b r → IsTable r (BegunAt start (SideAt x y)) (PartsApart tx ty) (begun (beside n t u))
-union {I} {start} {n} {a} {b} {r} first second states =
-    with_start (side_by_side first second (record {
-      count = states.count;
-      first = λ q i below. states.first q i below;
-      second = λ q i. subst (λ k. r k i ↔ b q i) (let regrouped : 1 + n + q ≡ 1 + (n + q) = omega arith in regrouped) (states.second q i);
-    })) (λ i never. never) (record { begin = states.begin; copies = λ q i. same })
-
--- a start, and the part's copies after it
-pub star : {I : Type 0} {start : I → Type 0} {a r : ℕ → I → Type 0} {x : Place → I → Type 0} {tx : Tells} {t : Place → Option ℕ} →
-    IsTable a x tx t → StarStates start a r → IsTable r (BegunAt start (InnerAt x)) (PartsApart tx NoParts) (begun (inner t))
-star first states = with_start (within first) (λ i never. never) states

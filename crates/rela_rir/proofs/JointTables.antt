@@ -18,13 +18,13 @@ joint t u _ = None
 abbrev pair : ℕ → ℕ → ℕ × ℕ
 pair a b = (a, b)
 
-both_some : (a b : Option ℕ) (q r : ℕ) → a ≡ Some q → b ≡ Some r → both a b ≡ Some (q, r)
+pub both_some : (a b : Option ℕ) (q r : ℕ) → a ≡ Some q → b ≡ Some r → both a b ≡ Some (q, r)
 both_some (Some a) (Some b) q r one two = (let first : a ≡ q = cc in let second : b ≡ r = cc in cc)
 both_some (Some a) None q r one two = absurd (let never : ⊥ = cc in never)
 both_some None (Some b) q r one two = absurd (let never : ⊥ = cc in never)
 both_some None None q r one two = absurd (let never : ⊥ = cc in never)
 
-both_entries : (a b : Option ℕ) (x : ℕ × ℕ) → both a b ≡ Some x → (a ≡ Some x.0) × (b ≡ Some x.1)
+pub both_entries : (a b : Option ℕ) (x : ℕ × ℕ) → both a b ≡ Some x → (a ≡ Some x.0) × (b ≡ Some x.1)
 both_entries (Some a) (Some b) x entry = (let is : pair a b ≡ x = cc in (ap (λ (y : ℕ × ℕ). Some y.0) is, ap (λ (y : ℕ × ℕ). Some y.1) is))
 both_entries (Some a) None x entry = absurd (let never : ⊥ = cc in never)
 both_entries None (Some b) x entry = absurd (let never : ⊥ = cc in never)
@@ -107,57 +107,58 @@ module _ {I J K : Type 0} {a : ℕ → I → Type 0} {x : Place → I → Type 0
   joint_table = record { reached = λ q k. (there q k, λ stands. back q k stands.place stands.entry stands.reached); apart = apart }
 
 -- one word reaches both
-abbrev One : List ℕ → List ℕ → List ℕ → Type 0
+abbrev pub One : List ℕ → List ℕ → List ℕ → Type 0
 One w left right = (left ≡ w) × (right ≡ w)
 
 -- what reaches the first is the source of what reaches the second
-abbrev Source : List ℕ → List ℕ → List ℕ × List ℕ → Type 0
+abbrev pub Source : List ℕ → List ℕ → List ℕ × List ℕ → Type 0
 Source v left right = right ≡ (left, v)
 
 -- what the first writes the second reads
-abbrev Through : List ℕ × List ℕ → List ℕ × List ℕ → List ℕ × List ℕ → Type 0
+abbrev pub Through : List ℕ × List ℕ → List ℕ × List ℕ → List ℕ × List ℕ → Type 0
 Through pair left right = (left ≡ (pair.0, left.1)) × (right ≡ (left.1, pair.1))
 
-pub meet : {a b : ℕ → List ℕ → Type 0} {x y : Places} {tx ty : Tells} {t u : Place → Option ℕ} → IsTable a x tx t → IsTable b y ty u →
-    IsTable (λ (q : ℕ × ℕ) w. a q.0 w × b q.1 w) (MeetPlaces x y) (PartsApart tx ty) (joint t u)
-meet {a} {b} {x} {y} {tx} {ty} {t} {u} first second = table_of_same states places (λ p r told. told) (joint_table first second One) where
-  states : (q : ℕ × ℕ) (w : List ℕ) → Together first second One q w ↔ (a q.0 w × b q.1 w)
-  states q w = ((λ has. (rw has.linked.0 at has.in_left, rw has.linked.1 at has.in_right)), λ has. record { left = w; right = w; linked = (refl, refl); in_left = has.0; in_right = has.1 })
+module _ {a b : ℕ → List ℕ → Type 0} {x y : Places} {tx ty : Tells} {t u : Place → Option ℕ} (first : IsTable a x tx t) (second : IsTable b y ty u) where
+  pub meet_states : (q : ℕ × ℕ) (w : List ℕ) → Together first second One q w ↔ (a q.0 w × b q.1 w)
+  meet_states q w = ((λ has. (rw has.linked.0 at has.in_left, rw has.linked.1 at has.in_right)), λ has. record { left = w; right = w; linked = (refl, refl); in_left = has.0; in_right = has.1 })
 
-  places : (p : Place) (w : List ℕ) → JointPlaces first second One p w ↔ MeetPlaces x y p w
-  places (Both p r) w = ((λ has. (rw has.linked.0 at has.in_left, rw has.linked.1 at has.in_right)), λ has. record { left = w; right = w; linked = (refl, refl); in_left = has.0; in_right = has.1 })
-  places _ w = ((λ never. never), λ never. never)
+  pub meet_places : (p : Place) (w : List ℕ) → JointPlaces first second One p w ↔ MeetPlaces x y p w
+  meet_places (Both p r) w = ((λ has. (rw has.linked.0 at has.in_left, rw has.linked.1 at has.in_right)), λ has. record { left = w; right = w; linked = (refl, refl); in_left = has.0; in_right = has.1 })
+  meet_places _ w = ((λ never. never), λ never. never)
 
-pub image : {a : ℕ → List ℕ → Type 0} {x : Places} {tx ty : Tells} {t u : Place → Option ℕ} (b : ℕ → List ℕ → List ℕ → Type 0) (y : PairPlaces) →
-    IsTable a x tx t → IsTable (OnPairs b) (OnPairs y) ty u →
-    IsTable (λ (q : ℕ × ℕ) v. (source : List ℕ) × a q.0 source × b q.1 source v) (ImagePlaces x y) (PartsApart tx ty) (joint t u)
-image {a} {x} {tx} {ty} {t} {u} b y first second = table_of_same states places (λ p r told. told) (joint_table first second Source) where
-  states : (q : ℕ × ℕ) (v : List ℕ) → Together first second Source q v ↔ ((source : List ℕ) × a q.0 source × b q.1 source v)
-  states q v = ((λ has. (has.left, has.in_left, rw has.linked at has.in_right)), λ has. record { left = has.0; right = (has.0, v); linked = refl; in_left = has.1; in_right = has.2 })
+  pub meet : IsTable (λ (q : ℕ × ℕ) w. a q.0 w × b q.1 w) (MeetPlaces x y) (PartsApart tx ty) (joint t u)
+  meet = table_of_same meet_states meet_places (λ p r told. told) (joint_table first second One)
 
-  places : (p : Place) (v : List ℕ) → JointPlaces first second Source p v ↔ ImagePlaces x y p v
-  places (Both p r) v = ((λ has. record { source = has.left; in_set = has.in_left; related = rw has.linked at has.in_right }), λ has. record { left = has.source; right = (has.source, v); linked = refl; in_left = has.in_set; in_right = has.related })
-  places _ v = ((λ never. never), λ never. never)
+module _ {a : ℕ → List ℕ → Type 0} {x : Places} {tx ty : Tells} {t u : Place → Option ℕ} (b : ℕ → List ℕ → List ℕ → Type 0) (y : PairPlaces) (first : IsTable a x tx t) (second : IsTable (OnPairs b) (OnPairs y) ty u) where
+  pub image_states : (q : ℕ × ℕ) (v : List ℕ) → Together first second Source q v ↔ ((source : List ℕ) × a q.0 source × b q.1 source v)
+  image_states q v = ((λ has. (has.left, has.in_left, rw has.linked at has.in_right)), λ has. record { left = has.0; right = (has.0, v); linked = refl; in_left = has.1; in_right = has.2 })
 
-pub composed : {tx ty : Tells} {t u : Place → Option ℕ} (a b : ℕ → List ℕ → List ℕ → Type 0) (x y : PairPlaces) →
-    IsTable (OnPairs a) (OnPairs x) tx t → IsTable (OnPairs b) (OnPairs y) ty u →
-    IsTable (λ (q : ℕ × ℕ) (pair : List ℕ × List ℕ). (middle : List ℕ) × a q.0 pair.0 middle × b q.1 middle pair.1) (OnPairs (ComposePlaces x y)) (PartsApart tx ty) (joint t u)
-composed {tx} {ty} {t} {u} a b x y first second = table_of_same states places (λ p r told. told) (joint_table first second Through) where
-  front : (R : List ℕ → List ℕ → Type 0) (left pair : List ℕ × List ℕ) → left ≡ (pair.0, left.1) → R left.0 left.1 → R pair.0 left.1
-  front R left pair same has = subst (λ (u : List ℕ). R u left.1) (ap (λ (z : List ℕ × List ℕ). z.0) same) has
+  pub image_places : (p : Place) (v : List ℕ) → JointPlaces first second Source p v ↔ ImagePlaces x y p v
+  image_places (Both p r) v = ((λ has. record { source = has.left; in_set = has.in_left; related = rw has.linked at has.in_right }), λ has. record { left = has.source; right = (has.source, v); linked = refl; in_left = has.in_set; in_right = has.related })
+  image_places _ v = ((λ never. never), λ never. never)
 
-  rest : (R : List ℕ → List ℕ → Type 0) (right : List ℕ × List ℕ) (middle v : List ℕ) → right ≡ (middle, v) → R right.0 right.1 → R middle v
-  rest R right middle v same has = subst (λ (z : List ℕ × List ℕ). R z.0 z.1) same has
+  pub image : IsTable (λ (q : ℕ × ℕ) v. (source : List ℕ) × a q.0 source × b q.1 source v) (ImagePlaces x y) (PartsApart tx ty) (joint t u)
+  image = table_of_same image_states image_places (λ p r told. told) (joint_table first second Source)
 
-  states : (q : ℕ × ℕ) (pair : List ℕ × List ℕ) → Together first second Through q pair ↔ ((middle : List ℕ) × a q.0 pair.0 middle × b q.1 middle pair.1)
-  states q pair = (
+front : (R : List ℕ → List ℕ → Type 0) (left pair : List ℕ × List ℕ) → left ≡ (pair.0, left.1) → R left.0 left.1 → R pair.0 left.1
+front R left pair same has = subst (λ (u : List ℕ). R u left.1) (ap (λ (z : List ℕ × List ℕ). z.0) same) has
+
+rest : (R : List ℕ → List ℕ → Type 0) (right : List ℕ × List ℕ) (middle v : List ℕ) → right ≡ (middle, v) → R right.0 right.1 → R middle v
+rest R right middle v same has = subst (λ (z : List ℕ × List ℕ). R z.0 z.1) same has
+
+module _ {tx ty : Tells} {t u : Place → Option ℕ} (a b : ℕ → List ℕ → List ℕ → Type 0) (x y : PairPlaces) (first : IsTable (OnPairs a) (OnPairs x) tx t) (second : IsTable (OnPairs b) (OnPairs y) ty u) where
+  pub composed_states : (q : ℕ × ℕ) (pair : List ℕ × List ℕ) → Together first second Through q pair ↔ ((middle : List ℕ) × a q.0 pair.0 middle × b q.1 middle pair.1)
+  composed_states q pair = (
     (λ has. (has.left.1, front (a q.0) has.left pair has.linked.0 has.in_left, rest (b q.1) has.right has.left.1 pair.1 has.linked.1 has.in_right)),
     λ has. record { left = (pair.0, has.0); right = (has.0, pair.1); linked = (refl, refl); in_left = has.1; in_right = has.2 },
   )
 
-  places : (p : Place) (pair : List ℕ × List ℕ) → JointPlaces first second Through p pair ↔ ComposePlaces x y p pair.0 pair.1
-  places (Both p r) pair = (
+  pub composed_places : (p : Place) (pair : List ℕ × List ℕ) → JointPlaces first second Through p pair ↔ ComposePlaces x y p pair.0 pair.1
+  composed_places (Both p r) pair = (
     (λ has. record { middle = has.left.1; first = front (x p) has.left pair has.linked.0 has.in_left; second = rest (y r) has.right has.left.1 pair.1 has.linked.1 has.in_right }),
     λ has. record { left = (pair.0, has.middle); right = (has.middle, pair.1); linked = (refl, refl); in_left = has.first; in_right = has.second },
   )
-  places _ pair = ((λ never. never), λ never. never)
+  composed_places _ pair = ((λ never. never), λ never. never)
+
+  pub composed : IsTable (λ (q : ℕ × ℕ) (pair : List ℕ × List ℕ). (middle : List ℕ) × a q.0 pair.0 middle × b q.1 middle pair.1) (OnPairs (ComposePlaces x y)) (PartsApart tx ty) (joint t u)
+  composed = table_of_same composed_states composed_places (λ p r told. told) (joint_table first second Through)

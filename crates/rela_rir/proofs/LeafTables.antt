@@ -14,11 +14,11 @@ abbrev pub given : {P : Type 0} → P ⊎ (P → ⊥) → ℕ → Option ℕ
 given (inl is) q = Some q
 given (inr fails) q = None
 
-given_if : {P : Type 0} (decided : P ⊎ (P → ⊥)) (q : ℕ) → P → given decided q ≡ Some q
+pub given_if : {P : Type 0} (decided : P ⊎ (P → ⊥)) (q : ℕ) → P → given decided q ≡ Some q
 given_if (inl is) q holds = refl
 given_if (inr fails) q holds = absurd (fails holds)
 
-from_given : {P : Type 0} (decided : P ⊎ (P → ⊥)) (q k : ℕ) → given decided q ≡ Some k → P × (q ≡ k)
+pub from_given : {P : Type 0} (decided : P ⊎ (P → ⊥)) (q k : ℕ) → given decided q ≡ Some k → P × (q ≡ k)
 from_given (inl is) q k entry = (is, cc)
 from_given (inr fails) q k entry = absurd (let never : ⊥ = cc in never)
 
@@ -128,6 +128,13 @@ abbrev pub seen_table : ℕ → (List ℕ → ℕ) → Place → Option ℕ
 seen_table n after (Seen z) = given (path_or_not n z) (after z)
 seen_table n after _ = None
 
+-- words that reach the same places reach the same states
+pub same_states : {x : Places} {tx : Tells} {t : Place → Option ℕ} {a : ℕ → List ℕ → Type 0} → IsTable a x tx t → (z w : List ℕ) → Agree x z w → (q : ℕ) → a q z ↔ a q w
+same_states {x} {tx} {t} {a} is z w agree q = (
+  (λ has. (let stands = (is.reached q z).0 has in (is.reached q w).1 (record { place = stands.place; entry = stands.entry; reached = (agree stands.place).0 stands.reached }))),
+  λ has. (let stands = (is.reached q w).0 has in (is.reached q z).1 (record { place = stands.place; entry = stands.entry; reached = (agree stands.place).1 stands.reached })),
+)
+
 pub complement_states : {x : Places} {tx : Tells} {t : Place → Option ℕ} (n : ℕ) (a r : ℕ → List ℕ → Type 0) → IsTable a x tx t → (states : ComplementStates n a r) →
     IsTable r (ComplementPlaces n x) (SeenApart x) (seen_table n states.after)
 complement_states {x} {tx} {t} n a r is states = record { reached = λ q w. (there q w, λ stands. back q w stands.place stands.entry stands.reached); apart = apart } where
@@ -136,16 +143,10 @@ complement_states {x} {tx} {t} n a r is states = record { reached = λ q w. (the
       let leads = (states.reached q w).0 has in
       record { place = Seen w; entry = given_if (path_or_not n w) (states.after w) leads.0 ∙ ap Some leads.1; reached = (leads.0, leads.0, λ p. ((λ at. at), λ at. at)) }
 
-  same_states : (z w : List ℕ) → Agree x z w → (q : ℕ) → a q z ↔ a q w
-  same_states z w agree q = (
-    (λ has. (let stands = (is.reached q z).0 has in (is.reached q w).1 (record { place = stands.place; entry = stands.entry; reached = (agree stands.place).0 stands.reached }))),
-    λ has. (let stands = (is.reached q w).0 has in (is.reached q z).1 (record { place = stands.place; entry = stands.entry; reached = (agree stands.place).1 stands.reached })),
-  )
-
   back : (q : ℕ) (w : List ℕ) (p : Place) → seen_table n states.after p ≡ Some q → ComplementPlaces n x p w → r q w
   back q w (Seen z) entry at =
       let from = from_given (path_or_not n z) (states.after z) q entry in
-      (states.reached q w).1 (at.1, states.alike w z at.1 at.0 (same_states w z at.2) ∙ from.1)
+      (states.reached q w).1 (at.1, states.alike w z at.1 at.0 (same_states is w z at.2) ∙ from.1)
   back q w _ entry at = absurd at
 
   apart : (p s : Place) (k l : ℕ) → seen_table n states.after p ≡ Some k → seen_table n states.after s ≡ Some l → k ≢ l → SeenApart x p s

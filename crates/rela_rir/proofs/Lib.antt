@@ -24,4 +24,5 @@ pub mod ReachedPlaces
 pub mod FormTables
 pub mod LeafTables
 pub mod NumberedTables
+pub mod ExactTables
 pub mod BuiltTerms

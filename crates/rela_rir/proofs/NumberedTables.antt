@@ -10,12 +10,12 @@ use Rattle.rela_rir.specs.Built.{NumberedPairs}
 use Rattle.rela_rir.proofs.FormTables.{below_or_after}
 use Rattle.rela_rir.proofs.JointTables.{pair_or_not}
 
-abbrev here_or_later : {P : Type 0} → P ⊎ (P → ⊥) → Option ℕ → Option ℕ
+abbrev pub here_or_later : {P : Type 0} → P ⊎ (P → ⊥) → Option ℕ → Option ℕ
 here_or_later (inl here) later = Some 0
 here_or_later (inr fails) later = option_map suc later
 
 -- where the pair stands first in the list
-abbrev index_of : List (ℕ × ℕ) → ℕ × ℕ → Option ℕ
+abbrev pub index_of : List (ℕ × ℕ) → ℕ × ℕ → Option ℕ
 index_of [] q = None
 index_of (x ∷ xs) q = here_or_later (pair_or_not x q) (index_of xs q)
 
@@ -35,7 +35,7 @@ has_index : (x q : ℕ × ℕ) (decided : (x ≡ q) ⊎ (x ≡ q → ⊥)) (late
 has_index x q (inl here) later rest = (0, refl)
 has_index x q (inr fails) later rest = (let found = rest fails in (suc found.0, ap (option_map suc) found.1))
 
-index_found : (xs : List (ℕ × ℕ)) (q : ℕ × ℕ) (i : ℕ) → slice_get xs i ≡ Some q → (k : ℕ) × (index_of xs q ≡ Some k)
+pub index_found : (xs : List (ℕ × ℕ)) (q : ℕ × ℕ) (i : ℕ) → slice_get xs i ≡ Some q → (k : ℕ) × (index_of xs q ≡ Some k)
 index_found [] q i gets = absurd (let never : ⊥ = cc in never)
 index_found (x ∷ xs) q zero gets = has_index x q (pair_or_not x q) (index_of xs q) (λ fails. absurd (fails (let same : x ≡ q = cc in same)))
 index_found (x ∷ xs) q (suc i) gets = has_index x q (pair_or_not x q) (index_of xs q) (λ fails. index_found xs q i gets)
@@ -54,11 +54,11 @@ one_place xs different q i j one two = elim (below_or_after i j) [
   ]
 ]
 
-abbrev number : List (ℕ × ℕ) → Option (ℕ × ℕ) → Option ℕ
+abbrev pub number : List (ℕ × ℕ) → Option (ℕ × ℕ) → Option ℕ
 number pairs None = None
 number pairs (Some q) = index_of pairs q
 
-numbered_from : (pairs : List (ℕ × ℕ)) (o : Option (ℕ × ℕ)) (k : ℕ) → number pairs o ≡ Some k → (q : ℕ × ℕ) × (o ≡ Some q) × (slice_get pairs k ≡ Some q)
+pub numbered_from : (pairs : List (ℕ × ℕ)) (o : Option (ℕ × ℕ)) (k : ℕ) → number pairs o ≡ Some k → (q : ℕ × ℕ) × (o ≡ Some q) × (slice_get pairs k ≡ Some q)
 numbered_from pairs None k entry = absurd (let never : ⊥ = cc in never)
 numbered_from pairs (Some q) k entry = (q, refl, index_gets pairs q k entry)
 

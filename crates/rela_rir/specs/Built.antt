@@ -61,3 +61,9 @@ pub record ComplementStates (path_symbols : ℕ) (part_reach r : ℕ → List �
       ((q : ℕ) → part_reach q v ↔ part_reach q w) → after v ≡ after w
   pub told : (v w : List ℕ) → IsPathWord path_symbols v → IsPathWord path_symbols w →
       after v ≢ after w → ToldByState part_reach v w
+
+-- of count states, each of which tells all that its words reach of the part
+pub record TellsAll (path_symbols count : ℕ) (after : List ℕ → ℕ) (part_reach : ℕ → List ℕ → Type 0) : Type 0 where
+  pub below : (v : List ℕ) → IsPathWord path_symbols v → after v < count
+  pub alike : (v w : List ℕ) → IsPathWord path_symbols v → IsPathWord path_symbols w →
+      after v ≡ after w → (q : ℕ) → part_reach q v ↔ part_reach q w

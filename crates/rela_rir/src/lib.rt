@@ -19,7 +19,10 @@ mod term;
 
 pub use agreement_laws::{licences_carry_over, scenes_alike};
 pub use assertion::Assertion;
-pub use built_laws::{built_path_terms_are_placed, built_rel_terms_are_placed};
+pub use built_laws::{
+    built_path_terms_are_placed, built_path_terms_are_placed_exactly, built_rel_terms_are_placed,
+    built_rel_terms_are_placed_exactly,
+};
 pub use inside_laws::{
     complemented_parts_of_path_terms, complemented_parts_of_rel_terms, complements_inside,
     reached_inside_path_terms, reached_inside_rel_terms,
@@ -37,6 +40,6 @@ pub use set::SymbolSet;
 pub use size::{depth, nodes};
 pub use table_laws::{
     PairReaching, Reaching, reached_pairs_are_places, reached_states_are_places,
-    states_reached_alike, tables_carry_over, told_words_are_places,
+    states_reached_alike, tables_carry_over, told_words_are_places, words_that_agree,
 };
 pub use term::{PathTerm, RelTerm};

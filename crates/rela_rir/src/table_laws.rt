@@ -4,10 +4,10 @@ ghost use Rattle.std.specs.Prelude.{ℕ, ◌≡◌, ◌↔◌, ◌⊎◌, Option
 ghost use Rattle.std.specs.Option.{ForSome};
 ghost use Rattle.rela_names.specs.Shortlex.{IsBefore};
 ghost use Rattle.rela_rir.specs.Meaning.{IsPathWord};
-ghost use Rattle.rela_rir.specs.Places.{Place, At, AtR};
+ghost use Rattle.rela_rir.specs.Places.{Place, At, AtR, Agree};
 ghost use Rattle.rela_rir.specs.Agreement.{AgreeOn, AgreeOnR};
 ghost use Rattle.rela_rir.specs.Limit.{IsCheckWord, Reached, ReachedR, ReachedPair};
-ghost use Rattle.rela_rir.specs.Tables.{IsExact, OnPairs, IsPlaced, IsPlacedR, IsStateReached, IsStateReachedR, ReachTogether, ReachFromSource, ReachByMiddle, ManyStates, ToldByState, ManyWords};
+ghost use Rattle.rela_rir.specs.Tables.{IsExact, OnPairs, IsPlaced, IsPlacedR, IsPlacedExactly, IsStateReached, IsStateReachedR, ReachTogether, ReachFromSource, ReachByMiddle, ManyStates, ToldByState, ManyWords};
 
 use crate::limit_laws::Staging;
 use crate::term::{PathTerm, RelTerm};
@@ -104,4 +104,13 @@ pub fn told_words_are_places<M: Staging, S: Reaching, T: Reaching>()
         ManyWords (λ w. IsCheckWord M.scene w × ForSome last (λ end. ¬ IsBefore end w))
         (λ w z. ToldByState S.reach w z ⊎ ToldByState T.reach w z) k →
         ReachedPair M.scene last x y k }
+{}
+
+/// Words that reach the same places reach the same states that stand for them, and the other way round
+/// where the table is exact.
+pub fn words_that_agree<M: Staging, S: Reaching>()
+    ensures states { (x : PathTerm) → IsPlaced M.scene x S.reach → (v w : List ℕ) →
+        Agree (At M.scene x) v w → (q : ℕ) → S.reach q v ↔ S.reach q w }
+    ensures places { (x : PathTerm) (n : ℕ) → IsPlacedExactly M.scene x n S.reach → (v w : List ℕ) →
+        ((q : ℕ) → S.reach q v ↔ S.reach q w) → Agree (At M.scene x) v w }
 {}
