@@ -1,5 +1,5 @@
 -- The states of what is built of the machines of a term's parts stand for the places of the term, form by form.
-use Rattle.std.proofs.Common.{◌≡◌, ◌∙◌, ℕ, ◌+◌, ◌<◌, List, [], ◌++◌, length, refl, sym, ap, subst, arith}
+use Rattle.std.proofs.Common.{◌≡◌, ℕ, ◌+◌, ◌<◌, List, [], ◌++◌, length, refl, subst, arith}
 use Rattle.std.specs.Prelude.{◌↔◌, Option}
 use Rattle.rela_rir.specs.Words.{WordSet, Relation, Concatenation, Star, PairConcatenation, PairStar}
 use Rattle.rela_rir.specs.Meaning.{In, InR, IsInClass}

@@ -1,17 +1,16 @@
 -- Tables of what is built are exact where those of the parts are.
-use Rattle.std.proofs.Common.{◌≡◌, ◌∙◌, ℕ, ◌+◌, ◌<◌, inl, inr, List, length, refl, sym, ap, subst, arith}
-use Rattle.std.specs.Prelude.{◌↔◌, Option, Some, None, slice_get}
-use Rattle.std.specs.List.{Contains}
+use Rattle.std.proofs.Common.{◌≡◌, ◌∙◌, ℕ, ◌+◌, ◌<◌, List, length, refl, sym, ap, subst, arith}
+use Rattle.std.specs.Prelude.{◌↔◌, Option, Some, slice_get}
 use Rattle.std.specs.Option.{option_map}
-use Rattle.std.proofs.lemmas.Option.{slice_get_within, slice_get_read}
+use Rattle.std.proofs.lemmas.Option.{slice_get_within}
 use Rattle.rela_rir.specs.Meaning.{IsPathWord}
-use Rattle.rela_rir.specs.Places.{Place, Start, End, Begin, Left, Right, Inner, Both, Seen, Node, Places, Arrivals, Tells, Agree, EmptyPlaces, LetterPlaces, ComplementPlaces, PathSetPlaces}
-use Rattle.rela_rir.specs.Tables.{StandsAt, IsTable, IsExact}
+use Rattle.rela_rir.specs.Places.{Place, Start, End, Begin, Left, Right, Inner, Both, Seen, Node, Places, Arrivals, Tells, EmptyPlaces, LetterPlaces, ComplementPlaces, PathSetPlaces}
+use Rattle.rela_rir.specs.Tables.{IsTable, IsExact}
 use Rattle.rela_rir.specs.Built.{OneState, LetterStates, SideBySide, StarStates, NumberedPairs, PathStates, ComplementStates}
 use Rattle.rela_rir.proofs.FormTables.{mapped, beside, SideAt, inner, InnerAt, begun, BegunAt}
-use Rattle.rela_rir.proofs.LeafTables.{given, given_if, from_given, below_or_not, path_or_not, only_start, start_and_end, path_table, seen_table}
+use Rattle.rela_rir.proofs.LeafTables.{given_if, from_given, below_or_not, path_or_not, only_start, start_and_end, path_table, seen_table}
 use Rattle.rela_rir.proofs.JointTables.{joint, both, both_some, both_entries, JointPlaces, Together}
-use Rattle.rela_rir.proofs.NumberedTables.{number, numbered_from, index_of, index_found}
+use Rattle.rela_rir.proofs.NumberedTables.{number, numbered_from, listed_number}
 
 pub through : {I J : Type 0} {n : ℕ} {reach : ℕ → J → Type 0} {at : Place → J → Type 0} {table : Place → Option ℕ} (link : I → J → Type 0) →
     IsExact n reach at table → IsExact n (λ q i. (j : J) × link i j × reach q j) (λ p i. (j : J) × link i j × at p j) table
@@ -196,9 +195,7 @@ module _ {I J K : Type 0} {n k : ℕ} {a : ℕ → I → Type 0} {x : Place → 
         in_left = (first.reached one.0 at.left).1 (record { place = p; entry = one.1; reached = at.in_left });
         in_right = (second.reached two.0 at.right).1 (record { place = s; entry = two.1; reached = at.in_right });
       } in
-      let listed = states.all (one.0, two.0) i has in
-      let found = index_found pairs (one.0, two.0) listed.0 (slice_get_read pairs (length pairs) listed.0 (one.0, two.0) refl listed.1 (sym listed.2)) in
-      (found.0, ap (number pairs) (both_some (t p) (u s) one.0 two.0 one.1 two.1) ∙ found.1)
+      listed_number pairs (both (t p) (u s)) (one.0, two.0) (both_some (t p) (u s) one.0 two.0 one.1 two.1) (states.all (one.0, two.0) i has)
   pair_entered _ i at = absurd at
 
   pair_only : (p : Place) (q : ℕ) (i : K) → table p ≡ Some q → r q i → JointPlaces first second link p i

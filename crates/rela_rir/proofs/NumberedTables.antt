@@ -1,9 +1,9 @@
 -- The table of a machine whose states are numbered pairs, from a table of the pairs.
-use Rattle.std.proofs.Common.{◌≡◌, ◌≢◌, ◌∙◌, ℕ, zero, suc, ◌+◌, ◌<◌, ◌⊎◌, inl, inr, List, [], ◌∷◌, refl, sym, ap, arith}
+use Rattle.std.proofs.Common.{◌≡◌, ◌≢◌, ◌∙◌, ℕ, zero, suc, ◌+◌, ◌<◌, ◌⊎◌, inl, inr, List, [], ◌∷◌, refl, sym, ap, arith, length}
 use Rattle.std.specs.Prelude.{Option, Some, None, slice_get}
-use Rattle.std.specs.List.{AllPairs}
+use Rattle.std.specs.List.{AllPairs, Contains}
 use Rattle.std.specs.Option.{option_map}
-use Rattle.std.proofs.lemmas.Option.{slice_get_within, get_or_from_slice_get}
+use Rattle.std.proofs.lemmas.Option.{slice_get_within, get_or_from_slice_get, slice_get_read}
 use Rattle.rela_rir.specs.Places.{Place, Tells}
 use Rattle.rela_rir.specs.Tables.{StandsAt, IsTable}
 use Rattle.rela_rir.specs.Built.{NumberedPairs}
@@ -61,6 +61,12 @@ number pairs (Some q) = index_of pairs q
 pub numbered_from : (pairs : List (ℕ × ℕ)) (o : Option (ℕ × ℕ)) (k : ℕ) → number pairs o ≡ Some k → (q : ℕ × ℕ) × (o ≡ Some q) × (slice_get pairs k ≡ Some q)
 numbered_from pairs None k entry = absurd (let never : ⊥ = cc in never)
 numbered_from pairs (Some q) k entry = (q, refl, index_gets pairs q k entry)
+
+-- a pair of the list has a number
+pub listed_number : (pairs : List (ℕ × ℕ)) (o : Option (ℕ × ℕ)) (q : ℕ × ℕ) → o ≡ Some q → Contains pairs q → (k : ℕ) × (number pairs o ≡ Some k)
+listed_number pairs o q is listed =
+    let found = index_found pairs q listed.0 (slice_get_read pairs (length pairs) listed.0 q refl listed.1 (sym listed.2)) in
+    (found.0, ap (number pairs) is ∙ found.1)
 
 module _ {I : Type 0} {reach : ℕ × ℕ → I → Type 0} {r : ℕ → I → Type 0} {at : Place → I → Type 0} {tells : Tells} {table : Place → Option (ℕ × ℕ)} {pairs : List (ℕ × ℕ)}
     (is : IsTable reach at tells table) (states : NumberedPairs pairs reach r) where

@@ -1,5 +1,5 @@
-//! What carries over between two scenes that agree on what a term names. Each law is a function that
-//! does nothing, and its contract is the law.
+//! What carries over between two scenes that agree on what a term names. Each law is a function
+//! that does nothing, and its contract is the law.
 ghost use Rattle.std.specs.Prelude.{ℕ, ◌↔◌, Option, List};
 ghost use Rattle.rela_rir.specs.Meaning.{In, InR};
 ghost use Rattle.rela_rir.specs.Places.{Place, At, AtR, Apart, ApartR};
@@ -9,8 +9,8 @@ ghost use Rattle.rela_rir.specs.Limit.{ReachedInside, ReachedInsideR, ForcedInsi
 use crate::limit_laws::Staging;
 use crate::term::{PathTerm, RelTerm};
 
-/// A term has the same words in two scenes that agree on what it names, its places are reached by the
-/// same words, and the same places are apart.
+/// A term has the same words in two scenes that agree on what it names, its places are reached by
+/// the same words, and the same places are apart.
 pub fn scenes_alike<M: Staging, N: Staging>()
     ensures words { (x : PathTerm) → AgreeOn M.scene N.scene x →
         (w : List ℕ) → In M.scene.setting x w ↔ In N.scene.setting x w }
@@ -26,8 +26,8 @@ pub fn scenes_alike<M: Staging, N: Staging>()
         (p q : Place) → ApartR M.scene r p q ↔ ApartR N.scene r p q }
 {}
 
-/// What licenses an open answer in one scene, or forces it, does so in each scene that agrees with it on
-/// what the terms name.
+/// What licenses an open answer in one scene, or forces it, does so in each scene that agrees with
+/// it on what the terms name.
 pub fn licences_carry_over<M: Staging, N: Staging>()
     ensures reached { (x : PathTerm) → AgreeOn M.scene N.scene x →
         (k : ℕ) → ReachedInside M.scene k x ↔ ReachedInside N.scene k x }
@@ -38,7 +38,8 @@ pub fn licences_carry_over<M: Staging, N: Staging>()
     ensures forced_pairs { (r : RelTerm) → AgreeOnR M.scene N.scene r →
         (k : ℕ) → ForcedInsideR M.scene k r ↔ ForcedInsideR N.scene k r }
     ensures licensed { (before after : PathTerm) →
-        AgreeOn M.scene N.scene before → AgreeOn M.scene N.scene after → (last : Option (List ℕ)) (limit : ℕ) →
+        AgreeOn M.scene N.scene before → AgreeOn M.scene N.scene after →
+        (last : Option (List ℕ)) (limit : ℕ) →
         Licensed M.scene last before after limit ↔ Licensed N.scene last before after limit }
     ensures forced { (before after : PathTerm) →
         AgreeOn M.scene N.scene before → AgreeOn M.scene N.scene after → (limit : ℕ) →

@@ -18,13 +18,15 @@ pub fn places_of_path_terms<M: Staging>()
     ensures union { (x y : PathTerm) (p : Place) (w : List ℕ) →
         At M.scene (PathTerm.Union x y) p w ↔ UnionPlaces (At M.scene x) (At M.scene y) p w }
     ensures concat { (x y : PathTerm) (p : Place) (w : List ℕ) →
-        At M.scene (PathTerm.Concat x y) p w ↔ ConcatPlaces (In M.scene.setting x) (At M.scene x) (At M.scene y) p w }
+        At M.scene (PathTerm.Concat x y) p w
+        ↔ ConcatPlaces (In M.scene.setting x) (At M.scene x) (At M.scene y) p w }
     ensures star { (x : PathTerm) (p : Place) (w : List ℕ) →
         At M.scene (PathTerm.Star x) p w ↔ StarPlaces (In M.scene.setting x) (At M.scene x) p w }
     ensures meet { (x y : PathTerm) (p : Place) (w : List ℕ) →
         At M.scene (PathTerm.Meet x y) p w ↔ MeetPlaces (At M.scene x) (At M.scene y) p w }
     ensures complement { (x : PathTerm) (p : Place) (w : List ℕ) →
-        At M.scene (PathTerm.Complement x) p w ↔ ComplementPlaces M.scene.setting.path_symbols (At M.scene x) p w }
+        At M.scene (PathTerm.Complement x) p w
+        ↔ ComplementPlaces M.scene.setting.path_symbols (At M.scene x) p w }
     ensures before { (p : Place) (w : List ℕ) →
         At M.scene PathTerm.Pre p w ↔ PathSetPlaces M.scene.pre p w }
     ensures after { (p : Place) (w : List ℕ) →
@@ -33,20 +35,26 @@ pub fn places_of_path_terms<M: Staging>()
         At M.scene (PathTerm.Image x r) p w ↔ ImagePlaces (At M.scene x) (AtR M.scene r) p w }
 {}
 
-/// The pairs of words that reach the places of a relation term, by its form and those of its parts.
+/// The pairs of words that reach the places of a relation term, by its form and those of its
+/// parts.
 pub fn places_of_rel_terms<M: Staging>()
     ensures identity { (x : PathTerm) (p : Place) (u v : List ℕ) →
         AtR M.scene (RelTerm.Identity x) p u v ↔ IdentityPlaces (At M.scene x) p u v }
     ensures product { (x y : PathTerm) (p : Place) (u v : List ℕ) →
-        AtR M.scene (RelTerm.Product x y) p u v ↔ ProductPlaces (In M.scene.setting x) (At M.scene x) (At M.scene y) p u v }
+        AtR M.scene (RelTerm.Product x y) p u v
+        ↔ ProductPlaces (In M.scene.setting x) (At M.scene x) (At M.scene y) p u v }
     ensures union { (r s : RelTerm) (p : Place) (u v : List ℕ) →
-        AtR M.scene (RelTerm.Union r s) p u v ↔ PairUnionPlaces (AtR M.scene r) (AtR M.scene s) p u v }
+        AtR M.scene (RelTerm.Union r s) p u v
+        ↔ PairUnionPlaces (AtR M.scene r) (AtR M.scene s) p u v }
     ensures concat { (r s : RelTerm) (p : Place) (u v : List ℕ) →
-        AtR M.scene (RelTerm.Concat r s) p u v ↔ PairConcatPlaces (InR M.scene.setting r) (AtR M.scene r) (AtR M.scene s) p u v }
+        AtR M.scene (RelTerm.Concat r s) p u v
+        ↔ PairConcatPlaces (InR M.scene.setting r) (AtR M.scene r) (AtR M.scene s) p u v }
     ensures star { (r : RelTerm) (p : Place) (u v : List ℕ) →
-        AtR M.scene (RelTerm.Star r) p u v ↔ PairStarPlaces (InR M.scene.setting r) (AtR M.scene r) p u v }
+        AtR M.scene (RelTerm.Star r) p u v
+        ↔ PairStarPlaces (InR M.scene.setting r) (AtR M.scene r) p u v }
     ensures compose { (r s : RelTerm) (p : Place) (u v : List ℕ) →
-        AtR M.scene (RelTerm.Compose r s) p u v ↔ ComposePlaces (AtR M.scene r) (AtR M.scene s) p u v }
+        AtR M.scene (RelTerm.Compose r s) p u v
+        ↔ ComposePlaces (AtR M.scene r) (AtR M.scene s) p u v }
 {}
 
 /// Which places of a path term are apart, by its form and what is in its parts.
@@ -60,9 +68,11 @@ pub fn places_apart_in_path_terms<M: Staging>()
     ensures one { (s : ℕ) (p q : Place) →
         Apart M.scene (PathTerm.One s) p q ↔ PartsApart NoParts NoParts p q }
     ensures union { (x y : PathTerm) (p q : Place) →
-        Apart M.scene (PathTerm.Union x y) p q ↔ PartsApart (Apart M.scene x) (Apart M.scene y) p q }
+        Apart M.scene (PathTerm.Union x y) p q
+        ↔ PartsApart (Apart M.scene x) (Apart M.scene y) p q }
     ensures concat { (x y : PathTerm) (p q : Place) →
-        Apart M.scene (PathTerm.Concat x y) p q ↔ PartsApart (Apart M.scene x) (Apart M.scene y) p q }
+        Apart M.scene (PathTerm.Concat x y) p q
+        ↔ PartsApart (Apart M.scene x) (Apart M.scene y) p q }
     ensures star { (x : PathTerm) (p q : Place) →
         Apart M.scene (PathTerm.Star x) p q ↔ PartsApart (Apart M.scene x) NoParts p q }
     ensures meet { (x y : PathTerm) (p q : Place) →
@@ -74,7 +84,8 @@ pub fn places_apart_in_path_terms<M: Staging>()
     ensures after { (p q : Place) →
         Apart M.scene PathTerm.Post p q ↔ PartsApart NoParts NoParts p q }
     ensures image { (x : PathTerm) (r : RelTerm) (p q : Place) →
-        Apart M.scene (PathTerm.Image x r) p q ↔ PartsApart (Apart M.scene x) (ApartR M.scene r) p q }
+        Apart M.scene (PathTerm.Image x r) p q
+        ↔ PartsApart (Apart M.scene x) (ApartR M.scene r) p q }
 {}
 
 /// Which places of a relation term are apart, by its form and what is in its parts.
@@ -82,13 +93,17 @@ pub fn places_apart_in_rel_terms<M: Staging>()
     ensures identity { (x : PathTerm) (p q : Place) →
         ApartR M.scene (RelTerm.Identity x) p q ↔ Apart M.scene x p q }
     ensures product { (x y : PathTerm) (p q : Place) →
-        ApartR M.scene (RelTerm.Product x y) p q ↔ PartsApart (Apart M.scene x) (Apart M.scene y) p q }
+        ApartR M.scene (RelTerm.Product x y) p q
+        ↔ PartsApart (Apart M.scene x) (Apart M.scene y) p q }
     ensures union { (r s : RelTerm) (p q : Place) →
-        ApartR M.scene (RelTerm.Union r s) p q ↔ PartsApart (ApartR M.scene r) (ApartR M.scene s) p q }
+        ApartR M.scene (RelTerm.Union r s) p q
+        ↔ PartsApart (ApartR M.scene r) (ApartR M.scene s) p q }
     ensures concat { (r s : RelTerm) (p q : Place) →
-        ApartR M.scene (RelTerm.Concat r s) p q ↔ PartsApart (ApartR M.scene r) (ApartR M.scene s) p q }
+        ApartR M.scene (RelTerm.Concat r s) p q
+        ↔ PartsApart (ApartR M.scene r) (ApartR M.scene s) p q }
     ensures star { (r : RelTerm) (p q : Place) →
         ApartR M.scene (RelTerm.Star r) p q ↔ PartsApart (ApartR M.scene r) NoParts p q }
     ensures compose { (r s : RelTerm) (p q : Place) →
-        ApartR M.scene (RelTerm.Compose r s) p q ↔ PartsApart (ApartR M.scene r) (ApartR M.scene s) p q }
+        ApartR M.scene (RelTerm.Compose r s) p q
+        ↔ PartsApart (ApartR M.scene r) (ApartR M.scene s) p q }
 {}

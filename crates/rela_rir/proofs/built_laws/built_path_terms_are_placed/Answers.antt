@@ -14,18 +14,18 @@ pub returns-clause-one : goal.returns-clause-one
 returns-clause-one g c s states = built.plain (built.one g.M.Staging.scene ⊥ s g.R.Reaching.reach states)
 
 pub returns-clause-union : goal.returns-clause-union
-returns-clause-union g c x y first second n states = 
+returns-clause-union g c x y first second n states =
     built.plain (built.union g.M.Staging.scene ⊥ x y n 0 g.S.Reaching.reach g.T.Reaching.reach g.R.Reaching.reach (built.perhaps g.M.Staging.scene x g.S.Reaching.reach first n) (built.perhaps g.M.Staging.scene y g.T.Reaching.reach second 0) states)
 
 pub returns-clause-concat : goal.returns-clause-concat
-returns-clause-concat g c x y first second n states = 
+returns-clause-concat g c x y first second n states =
     built.plain (built.joined g.M.Staging.scene ⊥ x y n 0 g.S.Reaching.reach g.T.Reaching.reach g.R.Reaching.reach (built.perhaps g.M.Staging.scene x g.S.Reaching.reach first n) (built.perhaps g.M.Staging.scene y g.T.Reaching.reach second 0) states)
 
 pub returns-clause-star : goal.returns-clause-star
 returns-clause-star g c x first states = built.plain (built.star g.M.Staging.scene ⊥ x 0 g.S.Reaching.reach g.R.Reaching.reach (built.perhaps g.M.Staging.scene x g.S.Reaching.reach first 0) states)
 
 pub returns-clause-meet : goal.returns-clause-meet
-returns-clause-meet g c x y first second pairs states = 
+returns-clause-meet g c x y first second pairs states =
     built.plain (built.meet g.M.Staging.scene ⊥ x y 0 0 g.S.Reaching.reach g.T.Reaching.reach g.R.Reaching.reach (built.perhaps g.M.Staging.scene x g.S.Reaching.reach first 0) (built.perhaps g.M.Staging.scene y g.T.Reaching.reach second 0) pairs states)
 
 pub returns-clause-complement : goal.returns-clause-complement
@@ -38,5 +38,5 @@ pub returns-clause-after : goal.returns-clause-after
 returns-clause-after g c n states = built.plain (built.post g.M.Staging.scene ⊥ n g.R.Reaching.reach states (λ never. absurd never))
 
 pub returns-clause-image : goal.returns-clause-image
-returns-clause-image g c x r first second pairs states = 
+returns-clause-image g c x r first second pairs states =
     built.plain (built.image g.M.Staging.scene ⊥ x 0 g.S.Reaching.reach g.R.Reaching.reach (built.perhaps g.M.Staging.scene x g.S.Reaching.reach first 0) r 0 g.U.PairReaching.reach_pair pairs (built.perhaps_r g.M.Staging.scene r g.U.PairReaching.reach_pair second 0) states)
