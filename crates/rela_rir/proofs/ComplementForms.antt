@@ -4,7 +4,7 @@ use Rattle.std.proofs.Common.{◌≡◌, ◌⊎◌, inl, inr, List, [], ◌∷�
 use Rattle.std.specs.Prelude.{◌↔◌}
 use Rattle.std.specs.List.{Contains}
 use Rattle.std.proofs.lemmas.List.Elements.{Contains-append_left, Contains-append_right, Contains-append_cases, Contains-push, Contains-push_cases}
-use Rattle.rela_rir.specs.Complements.{Parts, complemented_parts, complemented_parts_r, layer_parts, layer_parts_r}
+use Rattle.rela_rir.specs.Complements.{parts_of_layer, parts_of_layer_r, Parts, complemented_parts, complemented_parts_r, layer_parts, layer_parts_r}
 use Rattle.rela_rir.specs.Limit.{LayerSome, LayerSomeR, SomeSubterm, SomeSubtermR}
 use Rattle.rela_rir.proofs.Subterms.{some_roll, some_roll_r}
 use Rattle.rela_rir.specs.declared.term.PathTerm.{PathTerm}
@@ -13,14 +13,8 @@ use Rattle.rela_rir.specs.declared.term.PathTerm.TheOpen as F
 use Rattle.rela_rir.specs.declared.term.PathTerm.TheViews.{roll-PathTerm, roll-RelTerm, out-PathTerm, out-roll-PathTerm}
 use Rattle.rela_rir.specs.declared.term.PathTerm.TheFolds.{map-PathTerm, map-RelTerm, ind-PathTerm, ind-RelTerm, rec-roll-PathTerm, rec-roll-RelTerm}
 
-abbrev layer : (X Y : Type 0) → (X → PathTerm) → (X → Parts) → (Y → Parts) → F.PathTerm-F X Y → Parts
-layer X Y term inside inside_r z = record { parts = layer_parts term (λ y. (inside y).parts) (λ r. (inside_r r).parts) z }
-
-abbrev layer_r : (X Y : Type 0) → (X → PathTerm) → (X → Parts) → (Y → Parts) → F.RelTerm-F X Y → Parts
-layer_r X Y term inside inside_r z = record { parts = layer_parts_r term (λ y. (inside y).parts) (λ r. (inside_r r).parts) z }
-
 natural : (X Y : Type 0) (v : X → PathTerm) (v' : Y → RelTerm) (k : PathTerm → Parts) (k' : RelTerm → Parts) (x : F.PathTerm-F X Y) →
-    layer X Y v (λ p. k (v p)) (λ p. k' (v' p)) x ≡ layer PathTerm RelTerm (λ y. y) k k' (map-PathTerm X Y PathTerm RelTerm v v' x)
+    parts_of_layer X Y v (λ p. k (v p)) (λ p. k' (v' p)) x ≡ parts_of_layer PathTerm RelTerm (λ y. y) k k' (map-PathTerm X Y PathTerm RelTerm v v' x)
 natural X Y v v' k k' F.None = refl
 natural X Y v v' k k' F.Empty = refl
 natural X Y v v' k k' (F.Class n) = refl
@@ -35,7 +29,7 @@ natural X Y v v' k k' F.Post = refl
 natural X Y v v' k k' (F.Image a r) = refl
 
 natural_r : (X Y : Type 0) (v : X → PathTerm) (v' : Y → RelTerm) (k : PathTerm → Parts) (k' : RelTerm → Parts) (x : F.RelTerm-F X Y) →
-    layer_r X Y v (λ p. k (v p)) (λ p. k' (v' p)) x ≡ layer_r PathTerm RelTerm (λ y. y) k k' (map-RelTerm X Y PathTerm RelTerm v v' x)
+    parts_of_layer_r X Y v (λ p. k (v p)) (λ p. k' (v' p)) x ≡ parts_of_layer_r PathTerm RelTerm (λ y. y) k k' (map-RelTerm X Y PathTerm RelTerm v v' x)
 natural_r X Y v v' k k' (F.Identity a) = refl
 natural_r X Y v v' k k' (F.Product a b) = refl
 natural_r X Y v v' k k' (F.RelTerm::Union r s) = refl
@@ -46,12 +40,12 @@ natural_r X Y v v' k k' (F.Compose r s) = refl
 pub parts_roll : (z : F.PathTerm-F PathTerm RelTerm) → complemented_parts (roll-PathTerm z) ≡ layer_parts (λ y. y) complemented_parts complemented_parts_r z
 parts_roll z =
     ap (λ (c : Parts). c.parts)
-    (rec-roll-PathTerm Parts Parts (λ X Y term _ inside inside_r z. layer X Y term inside inside_r z) (λ X Y term _ inside inside_r z. layer_r X Y term inside inside_r z) natural z)
+    (rec-roll-PathTerm Parts Parts (λ X Y term _ inside inside_r z. parts_of_layer X Y term inside inside_r z) (λ X Y term _ inside inside_r z. parts_of_layer_r X Y term inside inside_r z) natural z)
 
 pub parts_roll_r : (z : F.RelTerm-F PathTerm RelTerm) → complemented_parts_r (roll-RelTerm z) ≡ layer_parts_r (λ y. y) complemented_parts complemented_parts_r z
 parts_roll_r z =
     ap (λ (c : Parts). c.parts)
-    (rec-roll-RelTerm Parts Parts (λ X Y term _ inside inside_r z. layer X Y term inside inside_r z) (λ X Y term _ inside inside_r z. layer_r X Y term inside inside_r z) natural_r z)
+    (rec-roll-RelTerm Parts Parts (λ X Y term _ inside inside_r z. parts_of_layer X Y term inside inside_r z) (λ X Y term _ inside inside_r z. parts_of_layer_r X Y term inside inside_r z) natural_r z)
 
 -- some part of the list has D
 abbrev pub SomePart : (PathTerm → Type 0) → List PathTerm → Type 0

@@ -1,5 +1,5 @@
--- How the states of a machine that is built of others are reached, by what reaches the states of those. What
--- reaches a state is a word, or a pair of words.
+-- How the states of a machine that is built of others are reached, by what reaches the states of those.
+-- What reaches a state is a word, or a pair of words.
 use Rattle.std.specs.Prelude.{◌≡◌, ◌≢◌, ℕ, ◌+◌, ◌<◌, ◌↔◌, List, [], ◌∷◌, Some, slice_get, AllPairs, Contains}
 use Rattle.rela_rir.specs.Meaning.{IsPathWord}
 use Rattle.rela_rir.specs.Places.{Arrivals}
@@ -27,7 +27,8 @@ pub record SideBySide {I : Type 0} (n : ℕ) (first_reach second_reach r : ℕ �
   pub second : (q : ℕ) (i : I) → r (n + q) i ↔ second_reach q i
 
 -- a start of its own, the n states of the first machine, and after them those of the second
-pub record UnionStates {I : Type 0} (start : I → Type 0) (n : ℕ) (first_reach second_reach r : ℕ → I → Type 0) : Type 0 where
+pub record UnionStates {I : Type 0} (start : I → Type 0) (n : ℕ)
+    (first_reach second_reach r : ℕ → I → Type 0) : Type 0 where
   pub count : (q : ℕ) (i : I) → first_reach q i → q < n
   pub begin : (i : I) → r 0 i ↔ start i
   pub first : (q : ℕ) (i : I) → q < n → r (1 + q) i ↔ first_reach q i
@@ -38,9 +39,10 @@ pub record StarStates {I : Type 0} (start : I → Type 0) (reach r : ℕ → I �
   pub begin : (i : I) → r 0 i ↔ start i
   pub copies : (q : ℕ) (i : I) → r (1 + q) i ↔ reach q i
 
--- pairs of states, no two of which are equal, among them each that is reached: they are numbered by where they
--- stand in the list
-pub record NumberedPairs {I : Type 0} (pairs : List (ℕ × ℕ)) (reach : ℕ × ℕ → I → Type 0) (r : ℕ → I → Type 0) : Type 0 where
+-- pairs of states, no two of which are equal, among them each that is reached: they are numbered by
+-- where they stand in the list
+pub record NumberedPairs {I : Type 0} (pairs : List (ℕ × ℕ)) (reach : ℕ × ℕ → I → Type 0)
+    (r : ℕ → I → Type 0) : Type 0 where
   pub different : AllPairs ◌≢◌ pairs
   pub all : (q : ℕ × ℕ) (i : I) → reach q i → Contains pairs q
   pub numbered : (k : ℕ) (i : I) → r k i ↔ ((q : ℕ × ℕ) × (slice_get pairs k ≡ Some q) × reach q i)
@@ -62,8 +64,10 @@ pub record ComplementStates (path_symbols : ℕ) (part_reach r : ℕ → List �
   pub told : (v w : List ℕ) → IsPathWord path_symbols v → IsPathWord path_symbols w →
       after v ≢ after w → ToldByState part_reach v w
 
--- of count states, each of which tells all that its words reach of the part
-pub record TellsAll (path_symbols count : ℕ) (after : List ℕ → ℕ) (part_reach : ℕ → List ℕ → Type 0) : Type 0 where
+-- Below `count` are the states that words of path symbols lead to, and words that lead to one state reach
+-- the same states of the part.
+pub record TellsAll (path_symbols count : ℕ) (after : List ℕ → ℕ)
+    (part_reach : ℕ → List ℕ → Type 0) : Type 0 where
   pub below : (v : List ℕ) → IsPathWord path_symbols v → after v < count
   pub alike : (v w : List ℕ) → IsPathWord path_symbols v → IsPathWord path_symbols w →
       after v ≡ after w → (q : ℕ) → part_reach q v ↔ part_reach q w

@@ -1,5 +1,5 @@
--- How the states of an automaton or a transducer stand for the places of a term. Of the machine only this is given:
--- which words, or pairs of words, reach each of its states.
+-- How the states of an automaton or a transducer stand for the places of a term. Of the machine only
+-- this is given: which words, or pairs of words, reach each of its states.
 use Rattle.std.specs.Prelude.{◌≡◌, ◌≢◌, ℕ, ◌<◌, ◌↔◌, List, length, Option, Some, All, AllPairs}
 use Rattle.rela_rir.specs.Places.{Place, Tells, Scene, At, AtR, Apart, ApartR, JustOne}
 use Rattle.rela_rir.specs.Limit.{IsCheckWord}
@@ -7,20 +7,23 @@ use Rattle.rela_rir.specs.declared.term.PathTerm.{PathTerm}
 use Rattle.rela_rir.specs.declared.term.RelTerm.{RelTerm}
 
 -- a place to which the table gives the state, and which is reached
-pub record StandsAt {Q I : Type 0} (table : Place → Option Q) (at : Place → I → Type 0) (q : Q) (i : I) : Type 0 where
+pub record StandsAt {Q I : Type 0} (table : Place → Option Q) (at : Place → I → Type 0)
+    (q : Q) (i : I) : Type 0 where
   pub place : Place
   pub entry : table place ≡ Some q
   pub reached : at place i
 
 -- The table tells which places each state stands for: a state is reached by just what reaches one of its
 -- places, and places with different states are apart. Some places may have no state.
-pub record IsTable {Q I : Type 0} (reach : Q → I → Type 0) (at : Place → I → Type 0) (tells : Tells) (table : Place → Option Q) : Type 0 where
+pub record IsTable {Q I : Type 0} (reach : Q → I → Type 0) (at : Place → I → Type 0)
+    (tells : Tells) (table : Place → Option Q) : Type 0 where
   pub reached : (q : Q) (i : I) → reach q i ↔ StandsAt table at q i
   pub apart : (p r : Place) (k l : Q) → table p ≡ Some k → table r ≡ Some l → k ≢ l → tells p r
 
 -- The table is exact over n states: each place that is reached has a state, and a state is reached by just
 -- what reaches any of its places.
-pub record IsExact {I : Type 0} (n : ℕ) (reach : ℕ → I → Type 0) (at : Place → I → Type 0) (table : Place → Option ℕ) : Type 0 where
+pub record IsExact {I : Type 0} (n : ℕ) (reach : ℕ → I → Type 0) (at : Place → I → Type 0)
+    (table : Place → Option ℕ) : Type 0 where
   pub below : (p : Place) (q : ℕ) → table p ≡ Some q → q < n
   pub entered : (p : Place) (i : I) → at p i → (q : ℕ) × (table p ≡ Some q)
   pub only : (p : Place) (q : ℕ) (i : I) → table p ≡ Some q → reach q i → at p i
@@ -46,7 +49,8 @@ pub record IsPlacedExactly (m : Scene) (x : PathTerm) (n : ℕ) (reach : ℕ →
   pub exact : IsExact n reach (At m x) table
 
 -- likewise of a relation term
-pub record IsPlacedExactlyR (m : Scene) (r : RelTerm) (n : ℕ) (reach : ℕ → List ℕ → List ℕ → Type 0) : Type 0 where
+pub record IsPlacedExactlyR (m : Scene) (r : RelTerm) (n : ℕ)
+    (reach : ℕ → List ℕ → List ℕ → Type 0) : Type 0 where
   pub table : Place → Option ℕ
   pub is_table : IsTable (OnPairs reach) (OnPairs (AtR m r)) (ApartR m r) table
   pub exact : IsExact n (OnPairs reach) (OnPairs (AtR m r)) table
@@ -64,11 +68,13 @@ abbrev pub ReachTogether : (ℕ → List ℕ → Type 0) → (ℕ → List ℕ �
 ReachTogether first second q w = first q.0 w × second q.1 w
 
 -- some source reaches the first state of a pair, and from it the word is written to the second
-abbrev pub ReachFromSource : (ℕ → List ℕ → Type 0) → (ℕ → List ℕ → List ℕ → Type 0) → ℕ × ℕ → List ℕ → Type 0
+abbrev pub ReachFromSource : (ℕ → List ℕ → Type 0) → (ℕ → List ℕ → List ℕ → Type 0) →
+    ℕ × ℕ → List ℕ → Type 0
 ReachFromSource first second q v = (source : List ℕ) × first q.0 source × second q.1 source v
 
 -- some word in the middle is written to the first state of a pair, and read to the second
-abbrev pub ReachByMiddle : (ℕ → List ℕ → List ℕ → Type 0) → (ℕ → List ℕ → List ℕ → Type 0) → ℕ × ℕ → List ℕ → List ℕ → Type 0
+abbrev pub ReachByMiddle : (ℕ → List ℕ → List ℕ → Type 0) → (ℕ → List ℕ → List ℕ → Type 0) →
+    ℕ × ℕ → List ℕ → List ℕ → Type 0
 ReachByMiddle first second q u v = (middle : List ℕ) × first q.0 u middle × second q.1 middle v
 
 -- k states, no two of which are equal, and each has P
