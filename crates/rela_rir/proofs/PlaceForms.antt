@@ -1,7 +1,8 @@
 -- The places of each form of term and what tells them apart, as equations.
-use Rattle.std.proofs.Common.{◌≡◌, ◌∙◌, ℕ, sym, ap, refl}
+use Rattle.std.proofs.Common.{◌≡◌, ◌∙◌, ℕ, List, sym, ap, refl, subst}
+use Rattle.std.specs.Prelude.{◌↔◌}
 use Rattle.rela_rir.specs.Meaning.{In, InR, IsInClass}
-use Rattle.rela_rir.specs.Places.{Scene, Places, PairPlaces, Tells, At, AtR, Apart, ApartR, LayerAt, LayerAtR, LayerApart, LayerApartR, EmptyPlaces, LetterPlaces, UnionPlaces, ConcatPlaces, StarPlaces, MeetPlaces, ComplementPlaces, PathSetPlaces, ImagePlaces, IdentityPlaces, ProductPlaces, PairUnionPlaces, PairConcatPlaces, PairStarPlaces, ComposePlaces, PartsApart, SeenApart, NoParts}
+use Rattle.rela_rir.specs.Places.{Place, Scene, Places, PairPlaces, Tells, At, AtR, Apart, ApartR, LayerAt, LayerAtR, LayerApart, LayerApartR, EmptyPlaces, LetterPlaces, UnionPlaces, ConcatPlaces, StarPlaces, MeetPlaces, ComplementPlaces, PathSetPlaces, ImagePlaces, IdentityPlaces, ProductPlaces, PairUnionPlaces, PairConcatPlaces, PairStarPlaces, ComposePlaces, PartsApart, SeenApart, NoParts}
 use Rattle.rela_rir.specs.declared.term.PathTerm.{PathTerm}
 use Rattle.rela_rir.specs.declared.term.RelTerm.{RelTerm}
 use Rattle.rela_rir.specs.declared.term.PathTerm.TheOpen as F
@@ -173,3 +174,12 @@ apart_star_r m r = ap (ApartR m) (sym (R.rolls-Star r)) ∙ apart_roll_r m (F.Re
 
 pub apart_compose_r : (m : Scene) (r s : RelTerm) → ApartR m (R.Compose r s) ≡ PartsApart (ApartR m r) (ApartR m s)
 apart_compose_r m r s = ap (ApartR m) (sym (R.rolls-Compose r s)) ∙ apart_roll_r m (F.Compose r s)
+
+pub at_place : {x y : Places} → x ≡ y → (p : Place) (w : List ℕ) → x p w ↔ y p w
+at_place {x} {y} e p w = ((λ h. subst (λ (z : Places). z p w) e h), λ h. subst (λ (z : Places). z p w) (sym e) h)
+
+pub at_place_r : {x y : PairPlaces} → x ≡ y → (p : Place) (u v : List ℕ) → x p u v ↔ y p u v
+at_place_r {x} {y} e p u v = ((λ h. subst (λ (z : PairPlaces). z p u v) e h), λ h. subst (λ (z : PairPlaces). z p u v) (sym e) h)
+
+pub told : {a b : Tells} → a ≡ b → (p q : Place) → a p q ↔ b p q
+told {a} {b} e p q = ((λ h. subst (λ (t : Tells). t p q) e h), λ h. subst (λ (t : Tells). t p q) (sym e) h)

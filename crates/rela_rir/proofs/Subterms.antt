@@ -1,11 +1,14 @@
--- What holds of some subterm holds of it still where it is weakened, by induction on terms.
-use Rattle.std.proofs.Common.{◌≡◌, ◌⊎◌, inl, inr, subst, sym, refl}
-use Rattle.rela_rir.specs.Limit.{SomeSubterm, SomeSubtermR, LayerHas, LayerHasR}
+-- What some subterm has, by the form of the term; and what some subterm has it has still where it is weakened,
+-- by induction on terms.
+use Rattle.std.proofs.Common.{◌≡◌, ◌∙◌, ◌⊎◌, inl, inr, subst, sym, ap, refl}
+use Rattle.rela_rir.specs.Fixed.{IsFixed, IsFixedR, LayerIsFixed, LayerIsFixedR}
+use Rattle.rela_rir.specs.Limit.{SomeSubterm, SomeSubtermR, LayerSome, LayerSomeR, LayerHas, LayerHasR}
+use Rattle.rela_rir.proofs.FixedForms.{fixed_roll, fixed_roll_r}
 use Rattle.rela_rir.specs.declared.term.PathTerm.{PathTerm}
 use Rattle.rela_rir.specs.declared.term.RelTerm.{RelTerm}
 use Rattle.rela_rir.specs.declared.term.PathTerm.TheOpen as F
 use Rattle.rela_rir.specs.declared.term.PathTerm.TheViews.{roll-PathTerm, roll-RelTerm}
-use Rattle.rela_rir.specs.declared.term.PathTerm.TheFolds.{map-PathTerm, map-RelTerm, ind-PathTerm, rec-roll-PathTerm, rec-roll-RelTerm}
+use Rattle.rela_rir.specs.declared.term.PathTerm.TheFolds.{map-PathTerm, map-RelTerm, ind-PathTerm, ind-RelTerm, rec-roll-PathTerm, rec-roll-RelTerm}
 
 natural : (P : PathTerm → Type 0) (X Y : Type 0) (v : X → PathTerm) (v' : Y → RelTerm) (k : PathTerm → Type 0) (k' : RelTerm → Type 0) (x : F.PathTerm-F X Y) →
     LayerHas v v' (λ p. k (v p)) (λ p. k' (v' p)) P x ≡ LayerHas (λ y. y) (λ y. y) k k' P (map-PathTerm X Y PathTerm RelTerm v v' x)
@@ -31,13 +34,40 @@ natural_r R X Y v v' k k' (F.RelTerm::Concat r t) = refl
 natural_r R X Y v v' k k' (F.RelTerm::Star r) = refl
 natural_r R X Y v v' k k' (F.Compose r t) = refl
 
-some_roll : (P : PathTerm → Type 0) (R : RelTerm → Type 0) (x : F.PathTerm-F PathTerm RelTerm) →
-    SomeSubterm P R (roll-PathTerm x) ≡ LayerHas (λ y. y) (λ y. y) (SomeSubterm P R) (SomeSubtermR P R) P x
-some_roll P R x = rec-roll-PathTerm (Type 0) (Type 0) (λ X Y term relation part part_r layer. LayerHas term relation part part_r P layer) (λ X Y term relation part part_r layer. LayerHasR term relation part part_r R layer) (natural P) x
+-- a layer whose parts are what they are
+same_layer : (z : F.PathTerm-F PathTerm RelTerm) → map-PathTerm PathTerm RelTerm PathTerm RelTerm (λ x. x) (λ r. r) z ≡ z
+same_layer F.None = refl
+same_layer F.Empty = refl
+same_layer (F.Class n) = refl
+same_layer (F.One s) = refl
+same_layer (F.PathTerm::Union a b) = refl
+same_layer (F.PathTerm::Concat a b) = refl
+same_layer (F.PathTerm::Star a) = refl
+same_layer (F.Meet a b) = refl
+same_layer (F.Complement a) = refl
+same_layer F.Pre = refl
+same_layer F.Post = refl
+same_layer (F.Image a r) = refl
 
-some_roll_r : (P : PathTerm → Type 0) (R : RelTerm → Type 0) (x : F.RelTerm-F PathTerm RelTerm) →
-    SomeSubtermR P R (roll-RelTerm x) ≡ LayerHasR (λ y. y) (λ y. y) (SomeSubterm P R) (SomeSubtermR P R) R x
-some_roll_r P R x = rec-roll-RelTerm (Type 0) (Type 0) (λ X Y term relation part part_r layer. LayerHas term relation part part_r P layer) (λ X Y term relation part part_r layer. LayerHasR term relation part part_r R layer) (natural_r R) x
+same_layer_r : (z : F.RelTerm-F PathTerm RelTerm) → map-RelTerm PathTerm RelTerm PathTerm RelTerm (λ x. x) (λ r. r) z ≡ z
+same_layer_r (F.Identity a) = refl
+same_layer_r (F.Product a b) = refl
+same_layer_r (F.RelTerm::Union r t) = refl
+same_layer_r (F.RelTerm::Concat r t) = refl
+same_layer_r (F.RelTerm::Star r) = refl
+same_layer_r (F.Compose r t) = refl
+
+pub some_roll : (P : PathTerm → Type 0) (R : RelTerm → Type 0) (z : F.PathTerm-F PathTerm RelTerm) →
+    SomeSubterm P R (roll-PathTerm z) ≡ (P (roll-PathTerm z) ⊎ LayerSome (SomeSubterm P R) (SomeSubtermR P R) z)
+some_roll P R z =
+    rec-roll-PathTerm (Type 0) (Type 0) (λ X Y term relation part part_r layer. LayerHas term relation part part_r P layer) (λ X Y term relation part part_r layer. LayerHasR term relation part part_r R layer) (natural P) z
+    ∙ ap (λ y. P (roll-PathTerm y) ⊎ LayerSome (SomeSubterm P R) (SomeSubtermR P R) z) (same_layer z)
+
+pub some_roll_r : (P : PathTerm → Type 0) (R : RelTerm → Type 0) (z : F.RelTerm-F PathTerm RelTerm) →
+    SomeSubtermR P R (roll-RelTerm z) ≡ (R (roll-RelTerm z) ⊎ LayerSomeR (SomeSubterm P R) (SomeSubtermR P R) z)
+some_roll_r P R z =
+    rec-roll-RelTerm (Type 0) (Type 0) (λ X Y term relation part part_r layer. LayerHas term relation part part_r P layer) (λ X Y term relation part part_r layer. LayerHasR term relation part part_r R layer) (natural_r R) z
+    ∙ ap (λ y. R (roll-RelTerm y) ⊎ LayerSomeR (SomeSubterm P R) (SomeSubtermR P R) z) (same_layer_r z)
 
 either : {A B C D : Type 0} → (A → C) → (B → D) → A ⊎ B → C ⊎ D
 either f g (inl a) = inl (f a)
@@ -46,45 +76,75 @@ either f g (inr b) = inr (g b)
 through : (A B C D : Type 0) → A ≡ B → C ≡ D → (B → D) → A → C
 through A B C D from to f a = subst (λ (T : Type 0). T) (sym to) (f (subst (λ (T : Type 0). T) from a))
 
-abbrev Weakens : (P Q : PathTerm → Type 0) (R S : RelTerm → Type 0) → PathTerm → Type 0
-Weakens P Q R S x = SomeSubterm P R x → SomeSubterm Q S x
+first : {A B C : Type 0} → (A × B) ⊎ C → A ⊎ C
+first (inl both) = inl both.0
+first (inr c) = inr c
 
-abbrev WeakensR : (P Q : PathTerm → Type 0) (R S : RelTerm → Type 0) → RelTerm → Type 0
-WeakensR P Q R S r = SomeSubtermR P R r → SomeSubtermR Q S r
+second : {A B C : Type 0} → (A × B) ⊎ C → B ⊎ C
+second (inl both) = inl both.1
+second (inr c) = inr c
 
-abbrev Path : (P Q : PathTerm → Type 0) (R S : RelTerm → Type 0) → Type 0
-Path P Q R S = (x : PathTerm) × Weakens P Q R S x
+opened : {A B C : Type 0} → A ≡ B → A ⊎ C → B ⊎ C
+opened {A} {B} {C} same has = subst (λ (T : Type 0). T ⊎ C) same has
 
-abbrev Related : (P Q : PathTerm → Type 0) (R S : RelTerm → Type 0) → Type 0
-Related P Q R S = (r : RelTerm) × WeakensR P Q R S r
+-- P becomes Q, and R becomes S, at the terms that name neither path set, and where C holds at all terms
+module _ (C : Type 0) (P Q : PathTerm → Type 0) (R S : RelTerm → Type 0) (f : (x : PathTerm) → IsFixed x ⊎ C → P x → Q x) (g : (r : RelTerm) → IsFixedR r ⊎ C → R r → S r) where
+  abbrev Weakens : PathTerm → Type 0
+  Weakens x = IsFixed x ⊎ C → SomeSubterm P R x → SomeSubterm Q S x
 
-layer : (P Q : PathTerm → Type 0) (R S : RelTerm → Type 0) → ((x : PathTerm) → P x → Q x) → (y : F.PathTerm-F (Path P Q R S) (Related P Q R S)) →
-    Weakens P Q R S (roll-PathTerm (map-PathTerm (Path P Q R S) (Related P Q R S) PathTerm RelTerm (λ e. e.0) (λ e. e.0) y))
-layer P Q R S f F.None = through _ _ _ _ (some_roll P R F.None) (some_roll Q S F.None) (either (f (roll-PathTerm F.None)) (λ never. never))
-layer P Q R S f F.Empty = through _ _ _ _ (some_roll P R F.Empty) (some_roll Q S F.Empty) (either (f (roll-PathTerm F.Empty)) (λ never. never))
-layer P Q R S f (F.Class n) = through _ _ _ _ (some_roll P R (F.Class n)) (some_roll Q S (F.Class n)) (either (f (roll-PathTerm (F.Class n))) (λ never. never))
-layer P Q R S f (F.One s) = through _ _ _ _ (some_roll P R (F.One s)) (some_roll Q S (F.One s)) (either (f (roll-PathTerm (F.One s))) (λ never. never))
-layer P Q R S f (F.PathTerm::Union a b) = through _ _ _ _ (some_roll P R (F.PathTerm::Union a.0 b.0)) (some_roll Q S (F.PathTerm::Union a.0 b.0)) (either (f (roll-PathTerm (F.PathTerm::Union a.0 b.0))) (either a.1 b.1))
-layer P Q R S f (F.PathTerm::Concat a b) = through _ _ _ _ (some_roll P R (F.PathTerm::Concat a.0 b.0)) (some_roll Q S (F.PathTerm::Concat a.0 b.0)) (either (f (roll-PathTerm (F.PathTerm::Concat a.0 b.0))) (either a.1 b.1))
-layer P Q R S f (F.PathTerm::Star a) = through _ _ _ _ (some_roll P R (F.PathTerm::Star a.0)) (some_roll Q S (F.PathTerm::Star a.0)) (either (f (roll-PathTerm (F.PathTerm::Star a.0))) a.1)
-layer P Q R S f (F.Meet a b) = through _ _ _ _ (some_roll P R (F.Meet a.0 b.0)) (some_roll Q S (F.Meet a.0 b.0)) (either (f (roll-PathTerm (F.Meet a.0 b.0))) (either a.1 b.1))
-layer P Q R S f (F.Complement a) = through _ _ _ _ (some_roll P R (F.Complement a.0)) (some_roll Q S (F.Complement a.0)) (either (f (roll-PathTerm (F.Complement a.0))) a.1)
-layer P Q R S f F.Pre = through _ _ _ _ (some_roll P R F.Pre) (some_roll Q S F.Pre) (either (f (roll-PathTerm F.Pre)) (λ never. never))
-layer P Q R S f F.Post = through _ _ _ _ (some_roll P R F.Post) (some_roll Q S F.Post) (either (f (roll-PathTerm F.Post)) (λ never. never))
-layer P Q R S f (F.Image a r) = through _ _ _ _ (some_roll P R (F.Image a.0 r.0)) (some_roll Q S (F.Image a.0 r.0)) (either (f (roll-PathTerm (F.Image a.0 r.0))) (either a.1 r.1))
+  abbrev WeakensR : RelTerm → Type 0
+  WeakensR r = IsFixedR r ⊎ C → SomeSubtermR P R r → SomeSubtermR Q S r
 
-layer_r : (P Q : PathTerm → Type 0) (R S : RelTerm → Type 0) → ((r : RelTerm) → R r → S r) → (y : F.RelTerm-F (Path P Q R S) (Related P Q R S)) →
-    WeakensR P Q R S (roll-RelTerm (map-RelTerm (Path P Q R S) (Related P Q R S) PathTerm RelTerm (λ e. e.0) (λ e. e.0) y))
-layer_r P Q R S g (F.Identity a) = through _ _ _ _ (some_roll_r P R (F.Identity a.0)) (some_roll_r Q S (F.Identity a.0)) (either (g (roll-RelTerm (F.Identity a.0))) a.1)
-layer_r P Q R S g (F.Product a b) = through _ _ _ _ (some_roll_r P R (F.Product a.0 b.0)) (some_roll_r Q S (F.Product a.0 b.0)) (either (g (roll-RelTerm (F.Product a.0 b.0))) (either a.1 b.1))
-layer_r P Q R S g (F.RelTerm::Union r t) = through _ _ _ _ (some_roll_r P R (F.RelTerm::Union r.0 t.0)) (some_roll_r Q S (F.RelTerm::Union r.0 t.0)) (either (g (roll-RelTerm (F.RelTerm::Union r.0 t.0))) (either r.1 t.1))
-layer_r P Q R S g (F.RelTerm::Concat r t) = through _ _ _ _ (some_roll_r P R (F.RelTerm::Concat r.0 t.0)) (some_roll_r Q S (F.RelTerm::Concat r.0 t.0)) (either (g (roll-RelTerm (F.RelTerm::Concat r.0 t.0))) (either r.1 t.1))
-layer_r P Q R S g (F.RelTerm::Star r) = through _ _ _ _ (some_roll_r P R (F.RelTerm::Star r.0)) (some_roll_r Q S (F.RelTerm::Star r.0)) (either (g (roll-RelTerm (F.RelTerm::Star r.0))) r.1)
-layer_r P Q R S g (F.Compose r t) = through _ _ _ _ (some_roll_r P R (F.Compose r.0 t.0)) (some_roll_r Q S (F.Compose r.0 t.0)) (either (g (roll-RelTerm (F.Compose r.0 t.0))) (either r.1 t.1))
+  abbrev Path : Type 0
+  Path = (x : PathTerm) × Weakens x
 
-pub weaken : (P Q : PathTerm → Type 0) (R S : RelTerm → Type 0) → ((x : PathTerm) → P x → Q x) → ((r : RelTerm) → R r → S r) →
-    (x : PathTerm) → SomeSubterm P R x → SomeSubterm Q S x
-weaken P Q R S f g =
-    ind-PathTerm (Weakens P Q R S) (WeakensR P Q R S)
-    (λ x y is. subst (λ z. Weakens P Q R S (roll-PathTerm z)) is (layer P Q R S f y))
-    (λ x y is. subst (λ z. WeakensR P Q R S (roll-RelTerm z)) is (layer_r P Q R S g y))
+  abbrev Related : Type 0
+  Related = (r : RelTerm) × WeakensR r
+
+  abbrev plain : F.PathTerm-F Path Related → F.PathTerm-F PathTerm RelTerm
+  plain y = map-PathTerm Path Related PathTerm RelTerm (λ e. e.0) (λ e. e.0) y
+
+  abbrev plain_r : F.RelTerm-F Path Related → F.RelTerm-F PathTerm RelTerm
+  plain_r y = map-RelTerm Path Related PathTerm RelTerm (λ e. e.0) (λ e. e.0) y
+
+  parts : (y : F.PathTerm-F Path Related) → LayerIsFixed IsFixed IsFixedR (plain y) ⊎ C →
+      LayerSome (SomeSubterm P R) (SomeSubtermR P R) (plain y) → LayerSome (SomeSubterm Q S) (SomeSubtermR Q S) (plain y)
+  parts F.None named never = never
+  parts F.Empty named never = never
+  parts (F.Class n) named never = never
+  parts (F.One s) named never = never
+  parts (F.PathTerm::Union a b) named some = either (a.1 (first named)) (b.1 (second named)) some
+  parts (F.PathTerm::Concat a b) named some = either (a.1 (first named)) (b.1 (second named)) some
+  parts (F.PathTerm::Star a) named some = a.1 named some
+  parts (F.Meet a b) named some = either (a.1 (first named)) (b.1 (second named)) some
+  parts (F.Complement a) named some = a.1 named some
+  parts F.Pre named never = never
+  parts F.Post named never = never
+  parts (F.Image a r) named some = either (a.1 (first named)) (r.1 (second named)) some
+
+  parts_r : (y : F.RelTerm-F Path Related) → LayerIsFixedR IsFixed IsFixedR (plain_r y) ⊎ C →
+      LayerSomeR (SomeSubterm P R) (SomeSubtermR P R) (plain_r y) → LayerSomeR (SomeSubterm Q S) (SomeSubtermR Q S) (plain_r y)
+  parts_r (F.Identity a) named some = a.1 named some
+  parts_r (F.Product a b) named some = either (a.1 (first named)) (b.1 (second named)) some
+  parts_r (F.RelTerm::Union r t) named some = either (r.1 (first named)) (t.1 (second named)) some
+  parts_r (F.RelTerm::Concat r t) named some = either (r.1 (first named)) (t.1 (second named)) some
+  parts_r (F.RelTerm::Star r) named some = r.1 named some
+  parts_r (F.Compose r t) named some = either (r.1 (first named)) (t.1 (second named)) some
+
+  layer : (y : F.PathTerm-F Path Related) → Weakens (roll-PathTerm (plain y))
+  layer y named = through _ _ _ _ (some_roll P R (plain y)) (some_roll Q S (plain y)) (either (f (roll-PathTerm (plain y)) named) (parts y (opened (fixed_roll (plain y)) named)))
+
+  layer_r : (y : F.RelTerm-F Path Related) → WeakensR (roll-RelTerm (plain_r y))
+  layer_r y named = through _ _ _ _ (some_roll_r P R (plain_r y)) (some_roll_r Q S (plain_r y)) (either (g (roll-RelTerm (plain_r y)) named) (parts_r y (opened (fixed_roll_r (plain_r y)) named)))
+
+  pub weaken : (x : PathTerm) → IsFixed x ⊎ C → SomeSubterm P R x → SomeSubterm Q S x
+  weaken =
+      ind-PathTerm Weakens WeakensR
+      (λ x y is. subst (λ z. Weakens (roll-PathTerm z)) is (layer y))
+      (λ x y is. subst (λ z. WeakensR (roll-RelTerm z)) is (layer_r y))
+
+  pub weaken_r : (r : RelTerm) → IsFixedR r ⊎ C → SomeSubtermR P R r → SomeSubtermR Q S r
+  weaken_r =
+      ind-RelTerm Weakens WeakensR
+      (λ x y is. subst (λ z. Weakens (roll-PathTerm z)) is (layer y))
+      (λ x y is. subst (λ z. WeakensR (roll-RelTerm z)) is (layer_r y))

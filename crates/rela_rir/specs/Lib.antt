@@ -5,3 +5,7 @@ pub mod Following
 pub mod Limit
 pub mod Size
 pub mod Fixed
+pub mod Agreement
+pub mod Complements
+pub mod Tables
+pub mod Built

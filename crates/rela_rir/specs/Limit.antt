@@ -107,6 +107,11 @@ abbrev pub ReachedInside : Scene → ℕ → PathTerm → Type 0
 ReachedInside m k =
     SomeSubterm (λ t. LayerIsCounted (out-PathTerm t) × Reached m t k) (λ r. LayerIsCountedR (out-RelTerm r) × ReachedR m r k)
 
+-- some counted term in the relation term has k places that are reached
+abbrev pub ReachedInsideR : Scene → ℕ → RelTerm → Type 0
+ReachedInsideR m k =
+    SomeSubtermR (λ t. LayerIsCounted (out-PathTerm t) × Reached m t k) (λ r. LayerIsCountedR (out-RelTerm r) × ReachedR m r k)
+
 -- two words can be continued by some word of path symbols so that just one of them comes to lie in the term
 abbrev pub ToldByContinuing : Scene → PathTerm → List ℕ → List ℕ → Type 0
 ToldByContinuing m x w w' =
@@ -127,6 +132,10 @@ LayerIsForced m k _ = ⊥
 -- some complement in the path term has a part that tells k words
 abbrev pub ForcedInside : Scene → ℕ → PathTerm → Type 0
 ForcedInside m k = SomeSubterm (λ t. LayerIsForced m k (out-PathTerm t)) (λ r. ⊥)
+
+-- some complement in the relation term has a part that tells k words
+abbrev pub ForcedInsideR : Scene → ℕ → RelTerm → Type 0
+ForcedInsideR m k = SomeSubtermR (λ t. LayerIsForced m k (out-PathTerm t)) (λ r. ⊥)
 
 -- The comparison of the two images may be left open under the limit: some counted term in them has more
 -- reached places than the limit, or more words than the limit are told apart by the places of the images.

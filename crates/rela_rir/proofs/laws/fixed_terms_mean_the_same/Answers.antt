@@ -1,4 +1,4 @@
-use Rattle.rela_rir.proofs.FixedTerms.{same_words, same_pairs}
+use Rattle.rela_rir.proofs.ScenesAlike.{same_words, same_pairs}
 use Rattle.rela_rir.proofs.laws.fixed_terms_mean_the_same.Goals as goal
 
 pub returns-clause-paths : goal.returns-clause-paths
