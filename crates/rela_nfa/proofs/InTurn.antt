@@ -45,6 +45,15 @@ one_more v f edges i edge below at =
     ap (λ l. flat_map f (map v l)) (take_more edges i edge below ∙ ap (λ x. take i edges ++ x ∷ []) at) ∙ ap (flat_map f) (map-append v (take i edges) (edge ∷ []))
     ∙ flat_map-append f (map v (take i edges)) (v edge ∷ []) ∙ ap (λ l. flat_map f (map v (take i edges)) ++ l) (append-nil (f (v edge)))
 
+-- one element more is mapped twice
+pub mapped_twice_more : {E M Y : Type 0} (v : E → M) (f : M → Y) (xs : List E) (i : ℕ) (x : E) (old mid new : List Y) → i < length xs → get_or xs i x ≡ x → mid ≡ old ++ map f (map v (take i xs))
+    → new ≡ mid ++ f (v x) ∷ [] → new ≡ old ++ map f (map v (take (i + 1) xs))
+mapped_twice_more v f xs i x old mid new below at so_far added =
+    let front = map f (map v (take i xs)) in
+    let more : map f (map v (take (i + 1) xs)) ≡ front ++ f (v x) ∷ [] =
+    ap (λ l. map f (map v l)) (take_more xs i x below ∙ ap (λ y. take i xs ++ y ∷ []) at) ∙ ap (map f) (map-append v (take i xs) (x ∷ [])) ∙ map-append f (map v (take i xs)) (v x ∷ []) in
+    added ∙ ap (λ l. l ++ f (v x) ∷ []) so_far ∙ append_assoc old front (f (v x) ∷ []) ∙ ap (λ l. old ++ l) (sym more)
+
 module _ {E M : Type 0} (v : E → M) (edges : List E) (i : ℕ) (edge : E) (below : i < length edges) (at : get_or edges i edge ≡ edge) where
   pub mapped_more : {Y Z : Type 0} (f : M → List Y) (h : Y → Z) (old mid new : List Z) → mid ≡ old ++ map h (flat_map f (map v (take i edges))) → new ≡ mid ++ map h (f (v edge))
       → new ≡ old ++ map h (flat_map f (map v (take (i + 1) edges)))

@@ -1,15 +1,15 @@
 -- What an automaton reads over a finer partition.
-use Rattle.std.proofs.Common.{◌≡◌, ℕ, zero, suc, ◌<◌, ◌≤◌, ◌↔◌, Bool, true, false, List, [], ◌∷◌, ◌++◌, length, get_or, map, Option, None, Some, refl, inl, inr, sym, ap, ◌∙◌, subst, arith, length-append}
+use Rattle.std.proofs.Common.{◌≡◌, ℕ, zero, suc, ◌+◌, ◌<◌, ◌≤◌, ◌↔◌, Bool, true, false, List, [], ◌∷◌, ◌++◌, length, get_or, map, Option, None, Some, refl, inl, inr, sym, ap, ◌∙◌, subst, arith, length-append}
 use Rattle.std.specs.List.{All, Contains}
 use Rattle.std.specs.Option.{option_map, option_to_list}
 use Rattle.std.proofs.lemmas.Bool.{cases_lt, false≢true}
-use Rattle.std.proofs.lemmas.List.{append-nil, get_or-map, get_or_past, length-map, map-append, ext_get_or}
+use Rattle.std.proofs.lemmas.List.{append-nil, get_or-map, get_or_append_left, get_or_past, get_or_push, length-map, map-append, ext_get_or}
 use Rattle.std.proofs.lemmas.List.Elements.{All-map, All-weaker, All-contains, Contains-push, Contains-append_left, Contains-get_or}
 use Rattle.rela_labels.specs.Letters.{has}
-use Rattle.rela_labels.specs.Partition.{block_of, block_count}
+use Rattle.rela_labels.specs.Partition.{block_of, block_count, IsLeastOf}
 use Rattle.rela_nfa.specs.Automaton.{Automaton, Move, IsAutomaton, IsMove, moves_of, states}
 use Rattle.rela_nfa.specs.Reading.{takes}
-use Rattle.rela_nfa.specs.Relabelling.{IsRelabelled, relabelled, relabelled_move, blocks_of}
+use Rattle.rela_nfa.specs.Relabelling.{IsRelabelled, Refines, relabelled, relabelled_move, blocks_of}
 use Rattle.rela_nfa.specs.Runs.{StepIn, HasStep, Reach, Accepts}
 use Rattle.rela_nfa.proofs.Moves.{Contains-map, Contains-map_back}
 use Rattle.rela_nfa.proofs.Joint.{step_edge, edge_step}
@@ -175,6 +175,20 @@ unfolding block_count
 block_below [] s below = absurd (omega (arith, below))
 block_below (b ∷ others) zero below = omega arith
 block_below (b ∷ others) (suc s) below = omega (arith, block_below others s (omega (arith, below)))
+
+-- one block more
+pub parents_more : (fine coarse before new : List ℕ) (block s : ℕ) → Refines fine coarse → IsLeastOf fine block s → length before ≡ block → new ≡ before ++ block_of coarse s ∷ []
+    → ((t : ℕ) → t < length fine → block_of fine t < block → get_or before (block_of fine t) 0 ≡ block_of coarse t)
+    → (t : ℕ) → t < length fine → block_of fine t < block + 1 → get_or new (block_of fine t) 0 ≡ block_of coarse t
+parents_more fine coarse before new block s refines least len pushed so_far t within below = elim (cases_lt (block_of fine t) block) [
+  | inl less ↦
+      ap (λ l. get_or l (block_of fine t) 0) pushed ∙ get_or_append_left before (block_of coarse s ∷ []) 0 (block_of fine t) (omega arith)
+      ∙ so_far t within less
+  | inr not_less ↦
+      let here : block ≡ block_of fine t = omega arith in
+      ap (λ l. get_or l (block_of fine t) 0) pushed ∙ get_or_push before (block_of coarse s) 0 (block_of fine t) (len ∙ here)
+      ∙ refines.together s t least.within within (least.member ∙ here)
+]
 
 pub set_relabelled : (old new : List Bool) (parents : List ℕ) (i : ℕ) → length parents ≤ i → length new ≡ length parents
     → ((k : ℕ) → k < i → has new k ≡ has old (get_or parents k 0)) → new ≡ relabelled parents old

@@ -21,6 +21,10 @@ leaving a by exit p =
 abbrev pub copied : Automaton → ℕ → Option ℕ → List (List Move)
 copied a by exit = map (leaving a by exit) (range_with_len 0 (states a))
 
+-- the edges of a first state, which lead to both starts, and then those of each state of the two
+abbrev pub united : Automaton → Automaton → List (List Move)
+united a b = map silent ((1 + a.start) ∷ (1 + states a + b.start) ∷ []) ∷ copied a 1 None ++ copied b (1 + states a) None
+
 -- the set of one letter
 abbrev pub single : ℕ → ℕ → List Bool
 single letters k = map (λ j. j == k) (range_with_len 0 letters)
@@ -28,6 +32,10 @@ single letters k = map (λ j. j == k) (range_with_len 0 letters)
 -- an edge to the next state by a letter of the set at this place
 abbrev pub link : List (List Bool) → ℕ → List Move
 link sets i = record { label = Some (slice_index_or sets i []); to = i + 1 } ∷ []
+
+-- an edge to the next state by a letter of this set
+abbrev pub link_by : List Bool → ℕ → List Move
+link_by set i = record { label = Some set; to = i + 1 } ∷ []
 
 -- a state for each set, which leads to the next, and one more
 abbrev pub links : List (List Bool) → List (List Move)

@@ -1,5 +1,6 @@
-ghost use Rattle.std.specs.Prelude.{◌≡◌, ℕ, ◌+◌, ◌<◌, ◌↔◌, ◌⊎◌, List, [], IfOk};
+ghost use Rattle.std.specs.Prelude.{◌≡◌, ℕ, ◌+◌, ◌^◌, ◌<◌, ◌↔◌, ◌⊎◌, List, [], IfOk};
 ghost use Rattle.rela_nfa.specs.Automaton.{states};
+ghost use Rattle.rela_nfa.specs.Construction.{united};
 ghost use Rattle.rela_nfa.specs.Languages.{Joins, Repeats};
 ghost use Rattle.rela_nfa.specs.Runs.{Reach, Accepts};
 
@@ -21,20 +22,29 @@ impl<L: LabelSet> Nfa<L> {
         ensures second { IfOk result (λ nfa. (q : ℕ) (w : List ℕ) → Reach nfa (1 + states self.now + q) w ↔ Reach other.now q w) }
         ensures language { IfOk result (λ nfa. (w : List ℕ) → Accepts nfa w ↔ (Accepts self.now w ⊎ Accepts other.now w)) }
     {
-        let count = self.states();
         let mut finals = Vec::new(alloc);
         finals.push(false)?;
         finals.extend_from_slice(&self.finals)?;
         finals.extend_from_slice(&other.finals)?;
-        let mut edges = entry_edges(alloc, &[1 + self.start(), 1 + count + other.start()])?;
-        self.copy_onto(alloc, &mut edges, 1, None)?;
-        other.copy_onto(alloc, &mut edges, 1 + count, None)?;
+        let edges = self.united_edges(alloc, other)?;
         Ok(Nfa {
             letters: self.letters,
             start: 0,
             finals,
             edges,
         })
+    }
+
+    /// The edges of the union: those to the two starts, then those of `self`, and then those of `other`.
+    fn united_edges(&self, alloc: Global, other: &Nfa<L>) -> Result<EdgeLists<L>, AllocError>
+        requires room { 1 + states self.now + states other.now < 2 ^ 63 }
+        ensures { IfOk result (λ edges. edges ≡ united self.now other.now) }
+    {
+        let count = self.states();
+        let mut edges = entry_edges(alloc, &[1 + self.start(), 1 + count + other.start()])?;
+        self.copy_onto(alloc, &mut edges, 1, None)?;
+        other.copy_onto(alloc, &mut edges, 1 + count, None)?;
+        Ok(edges)
     }
 
     /// A word of `self` followed by one of `other`. The states of `self` come first, and then those of

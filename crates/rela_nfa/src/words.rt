@@ -1,7 +1,7 @@
-ghost use Rattle.std.specs.Prelude.{◌≡◌, ℕ, ◌+◌, ◌<◌, ◌≤◌, ◌↔◌, true, List, [], ◌∷◌, IfOk, length, map, take};
+ghost use Rattle.std.specs.Prelude.{◌≡◌, ℕ, ◌+◌, ◌^◌, ◌<◌, ◌≤◌, ◌↔◌, true, List, [], ◌∷◌, ◌++◌, IfOk, OnOk, length, map, take};
 ghost use Rattle.std.specs.List.{All};
 ghost use Rattle.rela_nfa.specs.Automaton.{states};
-ghost use Rattle.rela_nfa.specs.Construction.{single, links, IsChain};
+ghost use Rattle.rela_nfa.specs.Construction.{single, link_by, links, IsChain};
 ghost use Rattle.rela_nfa.specs.Languages.{IsLetterOf};
 ghost use Rattle.rela_nfa.specs.Runs.{Reach, Accepts};
 
@@ -106,15 +106,31 @@ fn edges_of_word<L: LabelSet>(
     let mut leaving = Vec::new(alloc);
     for letter in word {
         let set = one_letter(alloc, letters, *letter)?;
-        let next = edges.len() + 1;
-        leaving.push(Edge {
-            label: Some(set),
-            to: next,
-        })?;
-        edges.push(&mut leaving)?;
+        add_link(&mut edges, &mut leaving, set)?;
     }
     edges.push(&mut leaving)?;
     Ok(edges)
+}
+
+/// Adds a state and an edge from it to the next by a letter of the set. The vector is empty before and
+/// after.
+fn add_link<L: LabelSet>(
+    edges: &mut EdgeLists<L>,
+    leaving: &mut Vec<Edge<L>>,
+    set: L,
+) -> Result<(), AllocError>
+    requires room { length edges.old < 2 ^ 63 }
+    requires empty { leaving.old.items ≡ [] }
+    ensures edges { OnOk result (edges.new ≡ edges.old ++ link_by (L.letters set) (length edges.old) ∷ []) }
+    ensures empty { OnOk result (leaving.new.items ≡ []) }
+{
+    let next = edges.len() + 1;
+    leaving.push(Edge {
+        label: Some(set),
+        to: next,
+    })?;
+    edges.push(leaving)?;
+    Ok(())
 }
 
 /// The automaton of one state and no edge.
@@ -124,13 +140,21 @@ fn one_state<L: LabelSet>(alloc: Global, letters: u32, is_final: bool) -> Result
     ensures chain { IfOk result (λ nfa. IsChain [] is_final nfa) }
 {
     let finals = Vec::from_slice(alloc, &[is_final])?;
-    let mut edges = EdgeLists::with_capacity(alloc, 1)?;
-    let mut leaving = Vec::new(alloc);
-    edges.push(&mut leaving)?;
+    let edges = no_edges(alloc)?;
     Ok(Nfa {
         letters,
         start: 0,
         finals,
         edges,
     })
+}
+
+/// A state that no edge leaves.
+fn no_edges<L: LabelSet>(alloc: Global) -> Result<EdgeLists<L>, AllocError>
+    ensures { IfOk result (λ edges. edges ≡ [] ∷ []) }
+{
+    let mut edges = EdgeLists::with_capacity(alloc, 1)?;
+    let mut leaving = Vec::new(alloc);
+    edges.push(&mut leaving)?;
+    Ok(edges)
 }

@@ -15,8 +15,8 @@ use Rattle.rela_nfa.specs.Runs.{Accepts}
 use Rattle.rela_subset.specs.Deterministic.{Deterministic, IsAccepted, IsByArrival, IsDeterministic, IsOver, IsReachable, IsSplit, LeadsTo, led_from, moves_of, next, state_after}
 use Rattle.rela_subset.specs.Expansion.{IsExplored, IsOut, IsUpTo}
 use Rattle.rela_subset.specs.Sets.{AreDistinct, HasFinal, Lists, NextFrom, ReachedBy}
-use Rattle.rela_subset.specs.Subsets.{AreApart, ReachSame, ReachSets}
-use Rattle.rela_subset.proofs.Ascending.{same_lists}
+use Rattle.rela_subset.specs.Subsets.{AreApart, KeepsApart, ReachSame, ReachSets}
+use Rattle.rela_subset.proofs.Ascending.{apart_lists, same_lists}
 use Rattle.rela_subset.proofs.LastLetters.{before_upto, upto_push, upto_transitive}
 use Rattle.rela_subset.proofs.Reached.{reached_next}
 
@@ -96,6 +96,14 @@ module _ (a : Automaton) (over : List Bool) (sets : List (List ℕ)) (d : Determ
             (same_lists (ReachedBy a v) (ReachedBy a w) (get_or sets (state_after d v) []) (get_or sets (state_after d w) []) at_v.reached at_w.reached same),
       )
 
+  -- words that lead to sets of two numbers are apart
+  pub apart : KeepsApart a over d
+  apart v w v_read w_read differ =
+      let at_v = stands v v_read in
+      let at_w = stands w w_read in
+      apart_lists (ReachedBy a v) (ReachedBy a w) (get_or sets (state_after d v) []) (get_or sets (state_after d w) []) at_v.reached at_w.reached
+      (λ same. differ (one_number (state_after d v) (state_after d w) at_v.within at_w.within same))
+
   -- the word by which a set was found leads to it
   word_leads : (q : ℕ) → q < length sets → LeadsTo d q (get_or is.words q [])
   word_leads q below =
@@ -167,6 +175,7 @@ module _ (a : Automaton) (over : List Bool) (sets : List (List ℕ)) (d : Determ
 pub record IsDeterminised (a : Automaton) (over : List Bool) (n : ℕ) (d : Deterministic) : Type 0 where
   pub language : (word : List ℕ) → IsAccepted d word ↔ (IsOver over word × Accepts a word)
   pub same : (v w : List ℕ) → IsOver over v → IsOver over w → (state_after d v ≡ state_after d w) ↔ ReachSame a v w
+  pub apart : KeepsApart a over d
   pub reached : IsReachable d
   pub arrival : IsByArrival d
   pub few : ¬ ReachSets a over (n + 1)
@@ -177,6 +186,7 @@ pub determinised : (a : Automaton) (over : List Bool) (sets : List (List ℕ)) (
 determinised a over sets d n is over_is start all each distinct few finals = record {
   language = accepted a over sets d is over_is start all each distinct finals;
   same = same_state a over sets d is over_is start all each distinct;
+  apart = apart a over sets d is over_is start all each distinct;
   reached = reachable a over sets d is over_is start all each distinct;
   arrival = by_arrival a over sets d is over_is start all each distinct;
   few = few_apart a over sets d is over_is start all each distinct n few;

@@ -1,10 +1,10 @@
 -- The sets of states that words reach.
-use Rattle.std.specs.Prelude.{◌≡◌, ℕ, ◌⊎◌, ◌↔◌, Bool, List, length}
+use Rattle.std.specs.Prelude.{◌≡◌, ◌≢◌, ℕ, ◌⊎◌, ◌↔◌, Bool, List, length}
 use Rattle.std.specs.List.{All, AllPairs}
 use Rattle.rela_nfa.specs.Automaton.{Automaton}
 use Rattle.rela_nfa.specs.Runs.{Reach}
 use Rattle.rela_names.specs.Shortlex.{IsBefore}
-use Rattle.rela_subset.specs.Deterministic.{IsOver}
+use Rattle.rela_subset.specs.Deterministic.{Deterministic, IsOver, state_after}
 use Rattle.rela_subset.specs.Sets.{Lists, ReachedBy}
 
 -- the two words reach the same states
@@ -14,6 +14,10 @@ ReachSame a v w = (q : ℕ) → Reach a q v ↔ Reach a q w
 -- some state is reached by one of the two words alone
 abbrev pub AreApart : Automaton → List ℕ → List ℕ → Type 0
 AreApart a v w = (q : ℕ) × ((Reach a q v × ¬ Reach a q w) ⊎ (Reach a q w × ¬ Reach a q v))
+
+-- words over the letters that lead to different states are apart
+abbrev pub KeepsApart : Automaton → List Bool → Deterministic → Type 0
+KeepsApart a over d = (v w : List ℕ) → IsOver over v → IsOver over w → state_after d v ≢ state_after d w → AreApart a v w
 
 -- words over the letters reach at least n sets of states: n of these words are apart, each two of them
 pub record ReachSets (a : Automaton) (over : List Bool) (n : ℕ) : Type 0 where

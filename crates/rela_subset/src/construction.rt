@@ -7,7 +7,7 @@ ghost use Rattle.rela_nfa.specs.Stored.{moves_in};
 ghost use Rattle.rela_subset.specs.Deterministic.{IsAccepted, IsByArrival, IsOver, IsReachable, state_after, states};
 ghost use Rattle.rela_subset.specs.Expansion.{IsExplored};
 ghost use Rattle.rela_subset.specs.Sets.{AreDistinct, HasFinal};
-ghost use Rattle.rela_subset.specs.Subsets.{ReachSame, ReachSets};
+ghost use Rattle.rela_subset.specs.Subsets.{KeepsApart, ReachSame, ReachSets};
 
 use crate::closure::closure;
 use crate::dfa::Dfa;
@@ -39,6 +39,7 @@ pub fn determinise<L: LabelSet>(
     ensures language { IfOk result (λ dfa. (word : List ℕ) → IsAccepted dfa word ↔ (IsOver (L.letters over.now) word × Accepts a.now word)) }
     ensures sets { IfOk result (λ dfa. (v w : List ℕ) → IsOver (L.letters over.now) v → IsOver (L.letters over.now) w
         → (state_after dfa v ≡ state_after dfa w) ↔ ReachSame a.now v w) }
+    ensures apart { IfOk result (KeepsApart a.now (L.letters over.now)) }
     ensures reachable { IfOk result IsReachable }
     ensures arrival { IfOk result IsByArrival }
     ensures few { IfOk result (λ dfa. states dfa ≤ limit) }
@@ -46,17 +47,40 @@ pub fn determinise<L: LabelSet>(
     ensures limit { IfErr result (λ e. e ≡ BuildError.Limit → ReachSets a.now (L.letters over.now) (limit + 1)) }
     ensures bounded { IfErr result (λ e. e ≡ BuildError.Limit → limit < 2 ^ 63) }
 {
-    prove!(a.start() < a.states());
     let mut sets = StateSets::new(alloc);
-    let mut visited = Visited::new(alloc, a.states())?;
-    let start = a.start();
-    let first = closure(alloc, a, &[start], &mut visited)?;
-    sets.number(first, limit)?;
-    let edges = explore(alloc, a, over, &mut sets, limit, &mut visited)?;
+    let edges = explore_from_start(alloc, a, over, &mut sets, limit)?;
     let finals = finals(alloc, a, &sets)?;
     let over = over.copy(alloc)?;
     let dfa = Dfa::new(over, 0, finals, edges);
     Ok(dfa)
+}
+
+/// The edges out of each set of states that words over the letters reach. There are no sets before, and
+/// each is put behind the others as it is found.
+fn explore_from_start<L: LabelSet>(
+    alloc: Global,
+    a: &Nfa<L>,
+    over: &L,
+    sets: &mut StateSets,
+    limit: usize,
+) -> Result<Vec<Vec<Edge<L>>>, BuildError>
+    requires letters { length (L.letters over.now) ≡ a.now.letters }
+    requires limit { 1 ≤ limit }
+    requires empty { sets.old ≡ [] }
+    ensures automaton { IfOk result (λ _. IsAutomaton a.now) }
+    ensures explored { IfOk result (λ edges. IsExplored a.now (L.letters over.now) sets.new (moves_in L.letters edges.items)) }
+    ensures each { IfOk result (λ edges. length (moves_in L.letters edges.items) ≡ length sets.new) }
+    ensures few { IfOk result (λ _. length sets.new ≤ limit) }
+    ensures distinct { IfOk result (λ _. AreDistinct sets.new) }
+    ensures limit { IfErr result (λ e. e ≡ BuildError.Limit → ReachSets a.now (L.letters over.now) (limit + 1)) }
+    ensures bounded { IfErr result (λ e. e ≡ BuildError.Limit → limit < 2 ^ 63) }
+{
+    prove!(a.start() < a.states());
+    let mut visited = Visited::new(alloc, a.states())?;
+    let start = a.start();
+    let first = closure(alloc, a, &[start], &mut visited)?;
+    sets.number(first, limit)?;
+    explore(alloc, a, over, sets, limit, &mut visited)
 }
 
 /// The edges out of each set, those among them that are found on the way.

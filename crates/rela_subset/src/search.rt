@@ -44,27 +44,43 @@ pub fn first_word<L: LabelSet, W: Wanted>(
     ensures limit { IfErr result (λ e. e ≡ BuildError.Limit → ReachSetsBefore a.now (L.letters over.now) (W.wants wanted.now) (limit + 1)) }
     ensures bounded { IfErr result (λ e. e ≡ BuildError.Limit → limit < 2 ^ 63) }
 {
-    prove!(a.start() < a.states());
-    let start = a.start();
     let mut sets = StateSets::new(alloc);
     let mut arrivals = Vec::new(alloc);
-    let mut visited = Visited::new(alloc, a.states())?;
-    let first = closure(alloc, a, &[start], &mut visited)?;
-    sets.number(first, limit)?;
-    let found = search(
-        alloc,
-        a,
-        over,
-        wanted,
-        &mut sets,
-        &mut arrivals,
-        limit,
-        &mut visited,
-    )?;
+    let found = search_from_start(alloc, a, over, wanted, &mut sets, &mut arrivals, limit)?;
     match found {
         Some(number) => Ok(Some(word_of(alloc, &arrivals, number)?)),
         None => Ok(None),
     }
+}
+
+/// The number of the first wanted set. There are no sets before, and each is put behind the others as
+/// it is found, and how it was found behind the arrivals.
+fn search_from_start<L: LabelSet, W: Wanted>(
+    alloc: Global,
+    a: &Nfa<L>,
+    over: &L,
+    wanted: &W,
+    sets: &mut StateSets,
+    arrivals: &mut Vec<Arrival>,
+    limit: usize,
+) -> Result<Option<usize>, BuildError>
+    requires letters { length (L.letters over.now) ≡ a.now.letters }
+    requires limit { 1 ≤ limit }
+    requires no_sets { sets.old ≡ [] }
+    requires no_arrivals { arrivals.old.items ≡ [] }
+    ensures found { IfOk result (λ found. IfSome found (λ number. IsFirstAt (W.wants wanted.now) sets.new number
+        × ((left : ℕ) × (rest : List Bool) × IsSearched a.now (L.letters over.now) rest sets.new arrivals.new.items left))) }
+    ensures none { IfOk result (λ found. IfNone found (AreUnwanted (W.wants wanted.now) sets.new
+        × IsSearched a.now (L.letters over.now) [] sets.new arrivals.new.items (length sets.new))) }
+    ensures limit { IfErr result (λ e. e ≡ BuildError.Limit → ReachSetsBefore a.now (L.letters over.now) (W.wants wanted.now) (limit + 1)) }
+    ensures bounded { IfErr result (λ e. e ≡ BuildError.Limit → limit < 2 ^ 63) }
+{
+    prove!(a.start() < a.states());
+    let start = a.start();
+    let mut visited = Visited::new(alloc, a.states())?;
+    let first = closure(alloc, a, &[start], &mut visited)?;
+    sets.number(first, limit)?;
+    search(alloc, a, over, wanted, sets, arrivals, limit, &mut visited)
 }
 
 /// The number of the first wanted set. The sets found on the way are put behind the others, and how

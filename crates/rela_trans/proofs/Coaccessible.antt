@@ -1,5 +1,5 @@
 -- The states from which moves lead on to a final state, found backwards from the final states.
-use Rattle.std.proofs.Common.{◌≡◌, ℕ, ◌+◌, ◌<◌, ◌≤◌, ◌⊎◌, ◌↔◌, Bool, true, false, IsTrue, cond, List, [], ◌∷◌, ◌++◌, length, get_or, set, map, take, refl, sym, ap, ◌∙◌, subst, inl, inr, arith}
+use Rattle.std.proofs.Common.{◌≡◌, ℕ, zero, suc, ◌+◌, ◌<◌, ◌≤◌, ◌⊎◌, ◌↔◌, Bool, true, false, IsTrue, cond, List, [], ◌∷◌, ◌++◌, length, get_or, set, map, take, refl, sym, ap, ◌∙◌, subst, inl, inr, arith}
 use Rattle.std.specs.List.{All, Contains, filter}
 use Rattle.std.proofs.lemmas.Bool.{cases_lt, cases_eq}
 use Rattle.std.proofs.lemmas.List.{append-nil, get_or_append_left, get_or_default, get_or-map, get_or_past, get_or-set_other, get_or-set_same, length-map, map-set, map_push, take-append-le, take_all, take_more}
@@ -196,6 +196,13 @@ put_pushed {A} old lists p ends at before after within is pushed more ends_are s
     subst (λ ls. IsPutAt old ls p more) (sym here)
     (subst (λ l. IsPutAt old (set (lists_of lists) at (get_or (lists_of lists) at [] ++ p ∷ [])) p l) (sym ends_are)
     (put_more old (lists_of lists) p ends at (omega (arith, within, length-map lists items)) so_far))
+
+-- one empty list more
+pub empty_more : (lists : List (List ℕ)) → ((q : ℕ) → list_at lists q ≡ []) → (q : ℕ) → list_at (lists ++ [] ∷ []) q ≡ []
+empty_more [] empty zero = refl
+empty_more [] empty (suc q) = refl
+empty_more (list ∷ lists) empty zero = empty zero
+empty_more (list ∷ lists) empty (suc q) = empty_more lists (λ k. empty (suc k)) q
 
 -- the states before i have been put into the lists of the ends of their moves
 abbrev pub AreTurned : Machine → ℕ → List (List ℕ) → Type 0

@@ -24,3 +24,10 @@ loop-number-preserved g c =
       c.in_ok-push.ensures.list ∙ ap (λ (l : List (List Move)). l ++ added ∷ []) c.loop-number.invariant.1 ∙ ap (λ m. so_far ++ m ∷ []) one
           ∙ sym (map-range_with_len_more (product_moves_at a b e) 0 n n (omega arith)),
     )
+
+pub returns : goal.returns
+returns g c =
+    let e = c.args.explored.now in
+    let count : length c.pairs-pairs.result.now ≡ length e.pairs = ap (λ (l : List Pair). length l) c.pairs-pairs.ensures in
+    let done : c.loop-number.number ≡ length e.pairs = omega (arith, count) in
+    c.loop-number.invariant.1 ∙ ap (λ n. map (product_moves_at c.args.first.now c.args.second.now e) (range_with_len 0 n)) done

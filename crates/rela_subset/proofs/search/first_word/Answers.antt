@@ -2,39 +2,29 @@ use Rattle.std.proofs.Common.{[], length, refl, subst, sym, arith}
 use Rattle.rela_names.specs.Shortlex.{First, IsBefore}
 use Rattle.rela_subset.specs.Searching.{AreTraced}
 use Rattle.rela_subset.specs.Subsets.{IsWantedWord}
-use Rattle.rela_subset.proofs.Determined.{first_alone}
-use Rattle.rela_subset.proofs.Reached.{reached_start}
-use Rattle.rela_subset.proofs.Searching.{searched_start}
 use Rattle.rela_subset.proofs.Standing.{before_first, is_first, none_first}
 use Rattle.rela_subset.proofs.search.first_word.Goals as goal
-
-pub search-requires-clause-searched : goal.search-requires-clause-searched
-search-requires-clause-searched g c =
-    searched_start c.args.a.now (g.L.LabelSet.letters c.args.over.now) c.in_ok-first.first.items c.number.new.self c.new-arrivals.result.items
-    (first_alone c.new-sets.result c.number.new.self c.in_ok-first.first.items c.in_ok-number.field-0 c.new-sets.ensures c.in_ok-number.ensures.within c.in_ok-number.ensures.grown)
-    c.new-arrivals.ensures.items
-    (reached_start c.args.a.now c.in_ok-first.first.items (rw c.start-start.ensures.start at c.in_ok-first.ensures.closure))
 
 pub returns-in-Some-clause-first : goal.returns-in-Some-clause-first
 returns-in-Some-clause-first g c =
     let over = g.L.LabelSet.letters c.args.over.now in
     let wants = g.W.Wanted.wants c.args.wanted.now in
     let (first, (left, rest, searched)) = rw c.in-Some.is at c.in_ok-found.ensures.found in
-    let spelled = c.in_ok-word_of-in-Some.ensures searched.words (subst (AreTraced searched.words) (sym {b = c.search.new.arrivals.items} c.deref.ensures.value) searched.traced) in
+    let spelled = c.in_ok-word_of-in-Some.ensures searched.words (subst (AreTraced searched.words) (sym {b = c.search_from_start.new.arrivals.items} c.deref.ensures.value) searched.traced) in
     subst (First (IsWantedWord c.args.a.now over wants)) (sym spelled)
-    (is_first c.args.a.now over rest c.search.new.sets searched.words left searched.found searched.out wants c.in-Some.number first)
+    (is_first c.args.a.now over rest c.search_from_start.new.sets searched.words left searched.found searched.out wants c.in-Some.number first)
 
 pub returns-in-Some-clause-before : goal.returns-in-Some-clause-before
 returns-in-Some-clause-before g c = λ v read before.
     let over = g.L.LabelSet.letters c.args.over.now in
     let wants = g.W.Wanted.wants c.args.wanted.now in
     let (first, (left, rest, searched)) = rw c.in-Some.is at c.in_ok-found.ensures.found in
-    let spelled = c.in_ok-word_of-in-Some.ensures searched.words (subst (AreTraced searched.words) (sym {b = c.search.new.arrivals.items} c.deref.ensures.value) searched.traced) in
-    before_first c.args.a.now over rest c.search.new.sets searched.words left searched.found searched.out wants c.in-Some.number first v read (subst (IsBefore v) spelled before)
+    let spelled = c.in_ok-word_of-in-Some.ensures searched.words (subst (AreTraced searched.words) (sym {b = c.search_from_start.new.arrivals.items} c.deref.ensures.value) searched.traced) in
+    before_first c.args.a.now over rest c.search_from_start.new.sets searched.words left searched.found searched.out wants c.in-Some.number first v read (subst (IsBefore v) spelled before)
 
 pub returns-clause-none : goal.returns-clause-none
 returns-clause-none g c =
     let over = g.L.LabelSet.letters c.args.over.now in
     let wants = g.W.Wanted.wants c.args.wanted.now in
     let (unwanted, searched) = rw c.in-None.is at c.in_ok-found.ensures.none in
-    none_first c.args.a.now over [] c.search.new.sets searched.words (length c.search.new.sets) searched.found searched.out wants (omega arith) (λ k. refl) unwanted
+    none_first c.args.a.now over [] c.search_from_start.new.sets searched.words (length c.search_from_start.new.sets) searched.found searched.out wants (omega arith) (λ k. refl) unwanted

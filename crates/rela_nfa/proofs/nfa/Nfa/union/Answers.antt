@@ -1,22 +1,21 @@
-use Rattle.std.proofs.Common.{◌≡◌, ◌+◌, false, List, [], ◌∷◌, ◌++◌, map, None, ◌∙◌, sym, ap, subst, refl}
-use Rattle.rela_nfa.specs.Automaton.{Automaton, Move, IsAutomaton, states}
-use Rattle.rela_nfa.specs.Construction.{silent, copied}
+use Rattle.std.proofs.Common.{[], ◌∷◌, ◌++◌, false, ◌∙◌, sym, ap, subst, refl}
+use Rattle.rela_nfa.specs.Automaton.{Automaton, IsAutomaton}
 use Rattle.rela_nfa.proofs.Unions.{IsUnion, union_states, union_ok, union_start, union_first, union_second, union_language}
 use Rattle.rela_nfa.proofs.nfa.Nfa.union.Given.{Over}
 use Rattle.rela_nfa.proofs.nfa.Nfa.union.Goals as goal
 
 -- what was built of the two
-abbrev nfa : (g : Over) → goal.In_ok-copy_onto-2 g → Automaton
+abbrev nfa : (g : Over) → goal.In_ok-edges g → Automaton
 nfa g c = record {
   letters = c.self.inside.letters;
   start = 0;
   finals = c.extend_from_slice-2.new.self.items;
-  edges = c.copy_onto-2.new.edges;
+  edges = c.in_ok-edges.edges;
 }
 
-module _ (g : Over) (c : goal.In_ok-copy_onto-2 g) where
+module _ (g : Over) (c : goal.In_ok-edges g) where
   ok_self : IsAutomaton c.args.self.now
-  ok_self = c.states-count.ensures.automaton
+  ok_self = subst IsAutomaton c.self.view_is c.self.invariant.1
 
   ok_other : IsAutomaton c.args.other.now
   ok_other = subst IsAutomaton c.other.view_is c.other.invariant.1
@@ -24,16 +23,11 @@ module _ (g : Over) (c : goal.In_ok-copy_onto-2 g) where
   built : IsUnion c.args.self.now c.args.other.now (nfa g c)
   built =
       let a = c.args.self.now in
-      let b = c.args.other.now in
-      let ends = map silent ((1 + a.start) ∷ (1 + states a + b.start) ∷ []) in
-      let entry : c.in_ok-edges.edges ≡ ends ∷ [] = c.in_ok-edges.ensures ∙ ap (λ (m : List Move). m ∷ []) cc in
       record {
         letters = ap (λ (x : Automaton). x.letters) c.self.view_is;
         same_letters = sym c.requires.letters;
         start = refl;
-        edges =
-            c.in_ok-copy_onto-2.ensures ∙ ap (λ l. l ++ copied b (1 + c.states-count.result) None) (c.in_ok-copy_onto.ensures ∙ ap (λ (l : List (List Move)). l ++ copied a 1 None) entry)
-            ∙ ap (λ n. ends ∷ [] ++ copied a 1 None ++ copied b (1 + n) None) c.states-count.ensures.states;
+        edges = c.in_ok-edges.ensures;
         finals =
             c.in_ok-extend_from_slice-2.ensures.items
             ∙ ap (λ l. l ++ c.deref-2.result.now)

@@ -1,4 +1,7 @@
-use Rattle.std.proofs.Common.{◌≡◌, Some, length, sym, subst, ◌∙◌, arith}
+use Rattle.std.proofs.Common.{◌≡◌, List, Some, [], ◌∷◌, ◌++◌, inl, length, map, sym, ap, subst, ◌∙◌, arith}
+use Rattle.std.proofs.lemmas.List.{map_push}
+use Rattle.rela_nfa.specs.Automaton.{Move}
+use Rattle.rela_nfa.specs.Stored.{move_of}
 use Rattle.std.specs.List.{All}
 use Rattle.std.specs.Option.{ForSome}
 use Rattle.rela_subset.proofs.Placing.{place_within, placed_joined, placed_pushed, placed_still, put_joined, read_sized}
@@ -9,6 +12,11 @@ joined-requires g c =
     read_sized g.L.LabelSet.letters c.self.inside.edges.items c.self.inside.places c.self.invariant c.in-Some.place c.args.to (sym (c.in-Some.ensures ∙ c.get.ensures.value))
     (length (g.L.LabelSet.letters c.args.label)) c.index.result.now c.index.ensures
     (subst (All (λ move. ForSome move.label (λ s. length s ≡ length (g.L.LabelSet.letters c.args.label)))) (sym c.self.view_is) c.requires)
+
+pub index-requires : goal.index-requires
+index-requires g c =
+    let within = place_within g.L.LabelSet.letters c.self.inside.edges.items c.self.inside.places c.self.invariant c.in-Some.place c.args.to (sym (c.in-Some.ensures ∙ c.get.ensures.value)) in
+    omega (arith, within, c.self.inside.edges.ok.0)
 
 pub index_mut-requires : goal.index_mut-requires
 index_mut-requires g c =
@@ -33,3 +41,9 @@ pub invariant_of-self-2 : goal.invariant_of-self-2
 invariant_of-self-2 g c =
     placed_pushed g.L.LabelSet.letters c.self.inside.edges.items c.self.inside.places c.self.invariant c.push.new.self.items (record { label = Some c.args.label; to = c.args.to })
     c.in_ok-push.ensures.items c.insert.new.self c.len-place.result (c.len-place.ensures ∙ c.self.inside.edges.ok.0) c.in_ok-insert.ensures.updates.0
+
+pub returns : goal.returns
+returns g c =
+    let move = move_of g.L.LabelSet.letters in
+    inl (ap (map move) c.in_ok-push.ensures.items ∙ map_push move c.self.inside.edges.items _
+    ∙ ap (λ (l : List Move). l ++ record { label = Some (g.L.LabelSet.letters c.args.label); to = c.args.to } ∷ []) c.self.view_is)

@@ -1,0 +1,18 @@
+use Rattle.std.proofs.Common.{[], ◌∷◌, ◌++◌, map, ◌∙◌, sym, ap}
+use Rattle.std.proofs.lemmas.List.{map_push, take_all}
+use Rattle.rela_nfa.specs.Construction.{shifted}
+use Rattle.rela_nfa.specs.Stored.{move_of}
+use Rattle.rela_nfa.proofs.InTurn.{mapped_twice_more}
+use Rattle.rela_nfa.proofs.copying.add_shifted.Goals as goal
+
+pub loop-edge-preserved : goal.loop-edge-preserved
+loop-edge-preserved g c =
+    let move = move_of g.L.LabelSet.letters in
+    mapped_twice_more move (shifted c.args.by) c.args.others.now c.loop-edge.edge-index c.edge-item.result _ _ _ c.loop-edge-test.true (sym c.edge-item.is) c.loop-edge.invariant
+    (ap (map move) c.in_ok-push.ensures.items ∙ map_push move c.loop-edge.edges.items c.in_ok-shifted.field-0 ∙ ap (λ m. map move c.loop-edge.edges.items ++ m ∷ []) c.in_ok-shifted.ensures)
+
+pub returns : goal.returns
+returns g c =
+    let move = move_of g.L.LabelSet.letters in
+    c.loop-edge.invariant
+    ∙ ap (λ l. map move c.args.edges.now.items ++ map (shifted c.args.by) (map move l)) (take_all c.loop-edge.edge-index c.args.others.now c.loop-edge-test.false)

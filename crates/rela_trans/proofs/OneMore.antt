@@ -1,0 +1,23 @@
+-- One element more of a list that is mapped as it is read.
+use Rattle.std.proofs.Common.{◌≡◌, ℕ, ◌+◌, ◌<◌, List, [], ◌∷◌, ◌++◌, length, get_or, take, map, sym, ap, ◌∙◌, append_assoc}
+use Rattle.std.specs.List.{flat_map}
+use Rattle.std.proofs.lemmas.List.{map-append, take_more}
+use Rattle.rela_nfa.proofs.InTurn.{one_more}
+
+-- by what it gives, a list
+pub flat_more : {E M Y : Type 0} (v : E → M) (f : M → List Y) (xs : List E) (i : ℕ) (x : E) (old mid new : List Y) → i < length xs → get_or xs i x ≡ x → mid ≡ old ++ flat_map f (map v (take i xs))
+    → new ≡ mid ++ f (v x) → new ≡ old ++ flat_map f (map v (take (i + 1) xs))
+flat_more v f xs i x old mid new below at so_far added =
+    added ∙ ap (λ l. l ++ f (v x)) so_far ∙ append_assoc old (flat_map f (map v (take i xs))) (f (v x)) ∙ ap (λ l. old ++ l) (sym (one_more v f xs i x below at))
+
+-- by one item
+pub once_more : {E Y : Type 0} (f : E → Y) (xs : List E) (i : ℕ) (x : E) (mid new : List Y) → i < length xs → get_or xs i x ≡ x → mid ≡ map f (take i xs) → new ≡ mid ++ f x ∷ [] → new ≡ map f (take (i + 1) xs)
+once_more f xs i x mid new below at so_far added =
+    added ∙ ap (λ l. l ++ f x ∷ []) so_far ∙ sym (ap (map f) (take_more xs i x below ∙ ap (λ y. take i xs ++ y ∷ []) at) ∙ map-append f (take i xs) (x ∷ []))
+
+-- by one item of another
+pub twice_more : {E M Y : Type 0} (v : E → M) (f : M → Y) (xs : List E) (i : ℕ) (x : E) (mid new : List Y) → i < length xs → get_or xs i x ≡ x → mid ≡ map f (map v (take i xs)) → new ≡ mid ++ f (v x) ∷ []
+    → new ≡ map f (map v (take (i + 1) xs))
+twice_more v f xs i x mid new below at so_far added =
+    added ∙ ap (λ l. l ++ f (v x) ∷ []) so_far
+    ∙ sym (ap (λ l. map f (map v l)) (take_more xs i x below ∙ ap (λ y. take i xs ++ y ∷ []) at) ∙ ap (map f) (map-append v (take i xs) (x ∷ [])) ∙ map-append f (map v (take i xs)) (v x ∷ []))
