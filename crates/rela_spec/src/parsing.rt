@@ -14,6 +14,7 @@ mod items;
 mod members;
 mod numbers;
 mod paths;
+mod postfix;
 mod predicates;
 mod specs;
 

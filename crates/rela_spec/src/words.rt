@@ -3,9 +3,9 @@
 ghost use Rattle.std.specs.Prelude.{◌≡◌};
 ghost use Rattle.rela_spec.specs.Keywords.{is_keyword, is_item_word, is_member_word, is_modifier_word, is_joining_word, is_predicate_word};
 
-/// Whether the word is a keyword.
+/// Whether the word is a keyword, which is a name only in quotes.
 #[tactic(auto, unfolding(crate::specs::Keywords::is_keyword))]
-pub(crate) fn is_keyword(word: &[u8]) -> bool
+pub fn is_keyword(word: &[u8]) -> bool
     ensures { result ≡ is_keyword word.now }
 {
     is_item_word(word)

@@ -1,7 +1,8 @@
 //! Canonical texts, and refusals of the grammar.
 
 use rela_lex::{MAX_TEXT_LEN, SpecError, tokens};
-use rela_spec::{parse, print};
+use rela_print::print;
+use rela_spec::parse;
 use std::alloc::{AllocError, Global};
 use std::process::Abort;
 use std::test::Fail;

@@ -7,7 +7,7 @@ use Rattle.rela_lex.specs.declared.error.SpecError.TheVariants as spec
 use Rattle.rela_lex.specs.declared.token.Token.{Token}
 use Rattle.rela_locations.specs.Network.{Network}
 use Rattle.rela_spec.specs.Grammar as grammar
-use Rattle.rela_spec.specs.Print.{print_of}
+use Rattle.rela_print.specs.Print.{print_of}
 use Rattle.rela_spec.specs.declared.tree.SpecFile.{SpecFile}
 use Rattle.rela_top.specs.Inputs.{IsTooLong, HasBytes}
 use Rattle.rela_top.specs.Loading.{spec_halt}

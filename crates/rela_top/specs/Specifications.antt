@@ -6,7 +6,7 @@ use Rattle.rela_lex.specs.declared.error.SpecError.{SpecError}
 use Rattle.rela_lex.specs.declared.error.SpecError.TheVariants.{BadToken, Memory}
 use Rattle.rela_lex.specs.declared.token.Token.{Token}
 use Rattle.rela_spec.specs.Grammar as grammar
-use Rattle.rela_spec.specs.Print.{print_of}
+use Rattle.rela_print.specs.Print.{print_of}
 use Rattle.rela_spec.specs.declared.tree.SpecFile.{SpecFile}
 use Rattle.rela_top.specs.Inputs.{Gives}
 use Rattle.rela_top.specs.Words.{Command}

@@ -3,7 +3,7 @@
 ghost use Rattle.std.specs.Prelude.{All, ◌≡◌, ◌≢◌, ◌≤◌, Ok, Err, IsTrue, IfOk, IfErr, OnOk, length};
 ghost use Rattle.rela_spec.specs.Depth.{IsLow};
 ghost use Rattle.rela_spec.specs.Full.{IsFull};
-ghost use Rattle.rela_spec.specs.Print.{print_of};
+ghost use Rattle.rela_print.specs.Print.{print_of};
 ghost use Rattle.rela_top.specs.Commands.{command_of};
 ghost use Rattle.rela_top.specs.Reading.{max_file_bytes, HoldsFiles, HaltsBy};
 ghost use Rattle.rela_top.specs.Specifications.{ReadsTree, Formatted};
@@ -16,7 +16,8 @@ use crate::refusal::Input;
 use crate::words::Command;
 use rela_io::Files;
 use rela_lex::{SpecError, tokens};
-use rela_spec::{SpecFile, parse, print};
+use rela_print::print;
+use rela_spec::{SpecFile, parse};
 use std::alloc::Global;
 
 /// Reads the specification, and makes its canonical text.

@@ -148,6 +148,19 @@ impl<'a> Cursor<'a> {
         }
     }
 
+    /// The value, where the mark comes next, which is passed. It is given back or dropped here, since
+    /// a caller that drops a tree has to be proved for each of its forms.
+    pub(crate) fn closed<T: Drop>(&mut self, value: T, mark: u8) -> Result<T, SpecError>
+        ensures end { self.new.end ≡ self.old.end }
+        ensures same { IfOk result (λ v. v ≡ value) }
+        ensures read { IfOk result (λ _. read_mark self.old.end mark self.old.rest.now ≡ Ok (tt, self.new.rest.now)) }
+        ensures fault { IfErr result (λ e. read_mark self.old.end mark self.old.rest.now ≡ Err e) }
+        ensures less { OnOk result (length self.new.rest.now < length self.old.rest.now) }
+    {
+        self.mark(mark)?;
+        Ok(value)
+    }
+
     /// Goes past the word, which has to come next.
     pub(crate) fn word(&mut self, word: &[u8]) -> Result<(), SpecError>
         ensures end { self.new.end ≡ self.old.end }

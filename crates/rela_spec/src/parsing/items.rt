@@ -7,9 +7,9 @@ ghost use Rattle.rela_spec.specs.Depth.{IsLow};
 ghost use Rattle.rela_spec.specs.ReadFile.{read_level_word, read_level_line, read_condition, read_path_item, read_spec_item, read_check_item, read_item};
 
 use crate::parsing::cursor::Cursor;
-use crate::parsing::paths::path;
+use crate::parsing::paths::path_behind;
 use crate::parsing::predicates::predicate;
-use crate::parsing::specs::body;
+use crate::parsing::specs::body_behind;
 use crate::tree::Item;
 use rela_flows::Predicate;
 use rela_lex::SpecError;
@@ -80,9 +80,9 @@ fn path_item(alloc: Global, cursor: &mut Cursor, room: usize) -> Result<Item, Sp
 {
     let at = cursor.here();
     let name = cursor.name(alloc)?;
-    cursor.mark(b'=')?;
-    let body = path(alloc, cursor, room)?;
-    cursor.mark(b';')?;
+    let name = cursor.closed(name, b'=')?;
+    let both = path_behind(alloc, cursor, room, name)?;
+    let (name, body) = cursor.closed(both, b';')?;
     Ok(Item::Path { name, at, body })
 }
 
@@ -97,9 +97,9 @@ fn spec_item(alloc: Global, cursor: &mut Cursor, room: usize) -> Result<Item, Sp
 {
     let at = cursor.here();
     let name = cursor.name(alloc)?;
-    cursor.mark(b'=')?;
-    let body = body(alloc, cursor, room)?;
-    cursor.mark(b';')?;
+    let name = cursor.closed(name, b'=')?;
+    let both = body_behind(alloc, cursor, room, name)?;
+    let (name, body) = cursor.closed(both, b';')?;
     Ok(Item::Spec { name, at, body })
 }
 
@@ -116,10 +116,10 @@ fn check_item(alloc: Global, cursor: &mut Cursor, room: usize) -> Result<Item, S
     let at_most = cursor.take_word(b"atmost");
     let at = cursor.here();
     let name = cursor.name(alloc)?;
-    let when = condition(alloc, cursor, room)?;
-    cursor.mark(b':')?;
-    let body = body(alloc, cursor, room)?;
-    cursor.mark(b';')?;
+    let named = condition_behind(alloc, cursor, room, name)?;
+    let named = cursor.closed(named, b':')?;
+    let both = body_behind(alloc, cursor, room, named)?;
+    let ((name, when), body) = cursor.closed(both, b';')?;
     Ok(Item::Check {
         at_most,
         name,
@@ -127,6 +127,25 @@ fn check_item(alloc: Global, cursor: &mut Cursor, room: usize) -> Result<Item, S
         when,
         body,
     })
+}
+
+/// The value that stands before, and the flows that a check is for.
+fn condition_behind<T: Drop>(
+    alloc: Global,
+    cursor: &mut Cursor,
+    room: usize,
+    before: T,
+) -> Result<(T, Predicate), SpecError>
+    requires { room ≤ 100 }
+    ensures end { cursor.new.end ≡ cursor.old.end }
+    ensures same { IfOk result (λ both. both.0 ≡ before) }
+    ensures read { IfOk result (λ both. read_condition cursor.old.end room cursor.old.rest.now ≡ Ok (both.1, cursor.new.rest.now)) }
+    ensures fault { IfErr result (λ e. e ≢ Memory → read_condition cursor.old.end room cursor.old.rest.now ≡ Err e) }
+    ensures left { OnOk result (length cursor.new.rest.now ≤ length cursor.old.rest.now) }
+    ensures depth { IfOk result (λ both. depth both.1 ≤ 1000) }
+{
+    let when = condition(alloc, cursor, room)?;
+    Ok((before, when))
 }
 
 /// The flows that a check is for: all where it doesn't say.

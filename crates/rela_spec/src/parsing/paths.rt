@@ -3,17 +3,18 @@
 ghost use Rattle.std.specs.Prelude.{◌≡◌, ◌≢◌, ◌<◌, ◌≤◌, Ok, Err, length, IfOk, IfErr, OnOk};
 ghost use Rattle.rela_lex.specs.declared.error.SpecError.TheVariants.{Memory};
 ghost use Rattle.rela_spec.specs.Readings.{next_is};
-ghost use Rattle.rela_spec.specs.ReadPaths.{starts_path, read_path, read_times, read_postfix, group_at, atom_at, postfixed_at, negation_at, form, goes_on, part_at, next_at, chain_at, more_at};
+ghost use Rattle.rela_spec.specs.ReadPaths.{starts_path, read_path, group_at, atom_at, postfixed_at, negation_at, form, goes_on, part_at, next_at, chain_at, more_at};
 
 use crate::parsing::cursor::Cursor;
 use crate::parsing::members::{class, is_at_member, member};
+use crate::parsing::postfix::postfix;
 use crate::tree::PathExpr;
 use rela_lex::SpecError;
 use rela_names::{Boxed, List};
 use std::alloc::Global;
 
 /// How the parts of a chain are joined.
-#[derive(Clone, Copy, PartialEq, Eq, Debug)]
+#[derive(Clone, Copy)]
 enum Joint {
     Alt,
     And,
@@ -30,6 +31,23 @@ pub(crate) fn path(alloc: Global, cursor: &mut Cursor, room: usize) -> Result<Pa
     ensures less { OnOk result (length cursor.new.rest.now < length cursor.old.rest.now) }
 {
     chain(alloc, cursor, Joint::Alt, room)
+}
+
+/// The value that stands before, and the path expression that has to come next.
+pub(crate) fn path_behind<T: Drop>(
+    alloc: Global,
+    cursor: &mut Cursor,
+    room: usize,
+    before: T,
+) -> Result<(T, PathExpr), SpecError>
+    ensures end { cursor.new.end ≡ cursor.old.end }
+    ensures same { IfOk result (λ both. both.0 ≡ before) }
+    ensures read { IfOk result (λ both. read_path cursor.old.end room cursor.old.rest.now ≡ Ok (both.1, cursor.new.rest.now)) }
+    ensures fault { IfErr result (λ e. e ≢ Memory → read_path cursor.old.end room cursor.old.rest.now ≡ Err e) }
+    ensures less { OnOk result (length cursor.new.rest.now < length cursor.old.rest.now) }
+{
+    let path = path(alloc, cursor, room)?;
+    Ok((before, path))
 }
 
 /// A part, or two or more parts that are joined.
@@ -185,52 +203,6 @@ fn postfixed(alloc: Global, cursor: &mut Cursor, room: usize) -> Result<PathExpr
     postfix(alloc, cursor, room, part)
 }
 
-/// The part with what repeats it, if that comes next.
-#[tactic(auto, unfolding(crate::specs::ReadPaths::read_postfix))]
-fn postfix(
-    alloc: Global,
-    cursor: &mut Cursor,
-    room: usize,
-    part: PathExpr,
-) -> Result<PathExpr, SpecError>
-    ensures end { cursor.new.end ≡ cursor.old.end }
-    ensures read { IfOk result (λ path. read_postfix cursor.old.end room part cursor.old.rest.now ≡ Ok (path, cursor.new.rest.now)) }
-    ensures fault { IfErr result (λ e. e ≢ Memory → read_postfix cursor.old.end room part cursor.old.rest.now ≡ Err e) }
-    ensures left { OnOk result (length cursor.new.rest.now ≤ length cursor.old.rest.now) }
-{
-    if cursor.take_mark(b'*') {
-        return Ok(PathExpr::Star(Boxed::new(alloc, part)?));
-    }
-    if cursor.take_mark(b'+') {
-        return Ok(PathExpr::Plus(Boxed::new(alloc, part)?));
-    }
-    if cursor.take_mark(b'?') {
-        return Ok(PathExpr::Maybe(Boxed::new(alloc, part)?));
-    }
-    if !cursor.is_at_mark(b'{') {
-        return Ok(part);
-    }
-    let n = times(cursor, room)?;
-    Ok(PathExpr::Times {
-        part: Boxed::new(alloc, part)?,
-        n,
-    })
-}
-
-/// The number of repetitions, in its brackets.
-#[tactic(auto, unfolding(crate::specs::ReadPaths::read_times))]
-fn times(cursor: &mut Cursor, room: usize) -> Result<u32, SpecError>
-    ensures end { cursor.new.end ≡ cursor.old.end }
-    ensures read { IfOk result (λ n. read_times cursor.old.end room cursor.old.rest.now ≡ Ok (n, cursor.new.rest.now)) }
-    ensures fault { IfErr result (λ e. read_times cursor.old.end room cursor.old.rest.now ≡ Err e) }
-    ensures less { OnOk result (length cursor.new.rest.now < length cursor.old.rest.now) }
-{
-    cursor.open(b'{', room)?;
-    let n = cursor.number()?;
-    cursor.mark(b'}')?;
-    Ok(n)
-}
-
 #[tactic(auto, unfolding(crate::specs::ReadPaths::atom_at))]
 #[cycle(path)]
 fn atom(alloc: Global, cursor: &mut Cursor, room: usize) -> Result<PathExpr, SpecError>
@@ -270,6 +242,5 @@ fn group(alloc: Global, cursor: &mut Cursor, room: usize) -> Result<PathExpr, Sp
         return Ok(PathExpr::Empty);
     }
     let inside = path(alloc, cursor, inner)?;
-    cursor.mark(b')')?;
-    Ok(inside)
+    cursor.closed(inside, b')')
 }

@@ -14,7 +14,7 @@ use rela_names::{Boxed, List};
 use std::alloc::Global;
 
 /// How the parts of a chain are joined.
-#[derive(Clone, Copy, PartialEq, Eq, Debug)]
+#[derive(Clone, Copy)]
 enum Joint {
     Or,
     And,
@@ -202,8 +202,7 @@ fn group(alloc: Global, cursor: &mut Cursor, room: usize) -> Result<Predicate, S
 {
     let inner = cursor.open(b'(', room)?;
     let inside = predicate(alloc, cursor, inner)?;
-    cursor.mark(b')')?;
-    Ok(inside)
+    cursor.closed(inside, b')')
 }
 
 /// A predicate of one test.

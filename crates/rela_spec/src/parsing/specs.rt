@@ -7,14 +7,14 @@ ghost use Rattle.rela_spec.specs.ReadWords.{is_word_of, read_word};
 ghost use Rattle.rela_spec.specs.ReadSpecs.{read_argument, read_replacement, read_change, read_unit, read_body, group_at, single_at, form, between, part_at, next_at, chain_at, more_at};
 
 use crate::parsing::cursor::Cursor;
-use crate::parsing::paths::path;
+use crate::parsing::paths::{path, path_behind};
 use crate::tree::{Modifier, PathExpr, SpecExpr};
 use rela_lex::SpecError;
 use rela_names::List;
 use std::alloc::Global;
 
 /// How the parts of a chain are joined.
-#[derive(Clone, Copy, PartialEq, Eq, Debug)]
+#[derive(Clone, Copy)]
 enum Joint {
     Else,
     Then,
@@ -30,6 +30,23 @@ pub(crate) fn body(alloc: Global, cursor: &mut Cursor, room: usize) -> Result<Sp
     ensures less { OnOk result (length cursor.new.rest.now < length cursor.old.rest.now) }
 {
     chain(alloc, cursor, Joint::Else, room)
+}
+
+/// The value that stands before, and the specification of changes that has to come next.
+pub(crate) fn body_behind<T: Drop>(
+    alloc: Global,
+    cursor: &mut Cursor,
+    room: usize,
+    before: T,
+) -> Result<(T, SpecExpr), SpecError>
+    ensures end { cursor.new.end ≡ cursor.old.end }
+    ensures same { IfOk result (λ both. both.0 ≡ before) }
+    ensures read { IfOk result (λ both. read_body cursor.old.end room cursor.old.rest.now ≡ Ok (both.1, cursor.new.rest.now)) }
+    ensures fault { IfErr result (λ e. e ≢ Memory → read_body cursor.old.end room cursor.old.rest.now ≡ Err e) }
+    ensures less { OnOk result (length cursor.new.rest.now < length cursor.old.rest.now) }
+{
+    let spec = body(alloc, cursor, room)?;
+    Ok((before, spec))
 }
 
 /// A part, or two or more parts that are joined.
@@ -176,8 +193,7 @@ fn group(alloc: Global, cursor: &mut Cursor, room: usize) -> Result<SpecExpr, Sp
 {
     let inner = cursor.open(b'(', room)?;
     let inside = body(alloc, cursor, inner)?;
-    cursor.mark(b')')?;
-    Ok(inside)
+    cursor.closed(inside, b')')
 }
 
 /// A zone with its modifier.
@@ -190,10 +206,27 @@ fn unit(alloc: Global, cursor: &mut Cursor, room: usize) -> Result<SpecExpr, Spe
 {
     let inner = cursor.open(b'{', room)?;
     let zone = path(alloc, cursor, inner)?;
-    cursor.mark(b':')?;
-    let modifier = change(alloc, cursor, inner)?;
-    cursor.mark(b'}')?;
+    let zone = cursor.closed(zone, b':')?;
+    let both = change_behind(alloc, cursor, inner, zone)?;
+    let (zone, modifier) = cursor.closed(both, b'}')?;
     Ok(SpecExpr::Unit { zone, modifier })
+}
+
+/// The value that stands before, and the modifier that has to come next.
+fn change_behind<T: Drop>(
+    alloc: Global,
+    cursor: &mut Cursor,
+    room: usize,
+    before: T,
+) -> Result<(T, Modifier<PathExpr>), SpecError>
+    ensures end { cursor.new.end ≡ cursor.old.end }
+    ensures same { IfOk result (λ both. both.0 ≡ before) }
+    ensures read { IfOk result (λ both. read_change cursor.old.end room cursor.old.rest.now ≡ Ok (both.1, cursor.new.rest.now)) }
+    ensures fault { IfErr result (λ e. e ≢ Memory → read_change cursor.old.end room cursor.old.rest.now ≡ Err e) }
+    ensures less { OnOk result (length cursor.new.rest.now < length cursor.old.rest.now) }
+{
+    let modifier = change(alloc, cursor, room)?;
+    Ok((before, modifier))
 }
 
 /// What has to become of the paths of a zone.
@@ -236,8 +269,7 @@ fn argument(alloc: Global, cursor: &mut Cursor, room: usize) -> Result<PathExpr,
 {
     let inner = cursor.open(b'(', room)?;
     let argument = path(alloc, cursor, inner)?;
-    cursor.mark(b')')?;
-    Ok(argument)
+    cursor.closed(argument, b')')
 }
 
 /// The two path expressions of `replace`, in brackets.
@@ -254,8 +286,8 @@ fn replacement(
 {
     let inner = cursor.open(b'(', room)?;
     let old = path(alloc, cursor, inner)?;
-    cursor.mark(b',')?;
-    let new = path(alloc, cursor, inner)?;
-    cursor.mark(b')')?;
+    let old = cursor.closed(old, b',')?;
+    let both = path_behind(alloc, cursor, inner, old)?;
+    let (old, new) = cursor.closed(both, b')')?;
     Ok(Modifier::Replace(old, new))
 }

@@ -1,4 +1,4 @@
-use Rattle.rela_spec.proofs.PrintedReadsBack.{one_tree}
+use Rattle.rela_spec.proofs.OneTree.{one_tree}
 use Rattle.rela_spec.proofs.laws.grammar_is_unambiguous.Goals as goal
 
 pub returns : goal.returns

@@ -1,0 +1,37 @@
+use Rattle.std.proofs.Common.{rules, ◌≡◌, ◌∷◌, [], arith, append_assoc}
+use Rattle.std.proofs.lemmas.Grind.{common_steps}
+use Rattle.rela_print.specs.Printed.{within}
+use Rattle.rela_print.specs.PredicateTexts.{printed_predicate}
+use Rattle.rela_print.proofs.JoinedTexts.{row_is_whole, row_goes_on, row_begins, row_is_empty}
+use Rattle.rela_print.proofs.PrintedPredicates.{predicate_flow, predicate_class, predicate_not}
+use Rattle.rela_print.proofs.predicates.+push_predicate.Goals as goal
+
+pub push_parts-returns-in_default : goal.push_parts-returns-in_default
+push_parts-returns-in_default t c =
+    let none : c.args.parts.now ≡ [] = grind (arith, common_steps) in
+    row_is_empty c.args.between.now (λ part. within c.args.above (printed_predicate part)) c.args.out.now.items c.args.parts.now none
+
+pub push_parts-loop-part-init : goal.push_parts-loop-part-init
+push_parts-loop-part-init t c = row_begins _ _ _
+
+pub push_parts-loop-part-preserved : goal.push_parts-loop-part-preserved
+push_parts-loop-part-preserved t c =
+    row_goes_on c.args.between.now (λ part. within c.args.above (printed_predicate part)) c.push_part.new.out.items c.loop-part.out.items
+    c.extend_from_slice.new.self.items c.push_part-in-loop-part.new.out.items c.in-Some.others.now c.loop-part.part-index c.part-item.result
+    c.loop-part-test.true c.part-item.is c.loop-part.invariant c.in_ok-extend_from_slice.ensures.items (c.in_ok-push_part-2.ensures {u = tt})
+
+pub push_parts-returns : goal.push_parts-returns
+push_parts-returns t c =
+    let all : c.args.parts.now ≡ c.in-Some.first.now ∷ c.in-Some.others.now = search rules in
+    row_is_whole c.args.between.now (λ part. within c.args.above (printed_predicate part)) c.args.out.now.items c.push_part.new.out.items c.loop-part.out.items
+    c.in-Some.first.now c.in-Some.others.now c.args.parts.now c.loop-part.part-index all c.loop-part-test.false
+    (c.in_ok-push_part.ensures {u = tt}) c.loop-part.invariant
+
+pub push_predicate-returns-in_ok-extend_from_slice-in-Flow : goal.push_predicate-returns-in_ok-extend_from_slice-in-Flow
+push_predicate-returns-in_ok-extend_from_slice-in-Flow t c = rw (c.in-Flow.is, predicate_flow c.in-Flow.name) (search (rules, append_assoc))
+
+pub push_predicate-returns-in_ok-extend_from_slice-in-Class : goal.push_predicate-returns-in_ok-extend_from_slice-in-Class
+push_predicate-returns-in_ok-extend_from_slice-in-Class t c = rw (c.in-Class.is, predicate_class c.in-Class.name) (search (rules, append_assoc))
+
+pub push_predicate-returns-in_ok-extend_from_slice-in-Not : goal.push_predicate-returns-in_ok-extend_from_slice-in-Not
+push_predicate-returns-in_ok-extend_from_slice-in-Not t c = rw (c.in-Not.is, predicate_not c.in-Not.part) (search (rules, append_assoc))

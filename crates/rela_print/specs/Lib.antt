@@ -1,0 +1,10 @@
+pub mod Joined
+pub mod Members
+pub mod Names
+pub mod PathTexts
+pub mod PredicateTexts
+pub mod Print
+pub mod Printed
+pub mod ReadBack
+pub mod SameTree
+pub mod SpecTexts
