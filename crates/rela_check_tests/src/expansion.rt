@@ -1,11 +1,12 @@
 //! Texts of specifications, expanded to checks over a small network.
 
 use crate::network::network;
+use rela_expand::expand;
 use rela_lex::{MAX_TEXT_LEN, SpecError, tokens};
 use rela_locations::Locations;
 use rela_names::{Boxed, Level};
 use rela_spec::parse;
-use rela_translate::{Change, Check, Core, Expr, expand};
+use rela_translate::{Change, Check, Core, Expr};
 use std::alloc::{AllocError, Global};
 use std::process::Abort;
 use std::test::Fail;

@@ -13,13 +13,13 @@ use Rattle.rela_spec.specs.declared.tree.Modifier.{Modifier}
 use Rattle.rela_spec.specs.declared.tree.Modifier.TheVariants as m
 use Rattle.rela_spec.specs.declared.tree.SpecFile.{SpecFile}
 use Rattle.rela_translate.specs.Checked.{Checked}
-use Rattle.rela_translate.specs.Expand.{Expanded, Sofar, at_first, expanded, listing_of, outcome_of, with_item}
-use Rattle.rela_translate.specs.Numbered.{found, listing, named_by, numbered, numbered_body, numbered_change}
-use Rattle.rela_translate.specs.Numbering.{Listing, Numbering, nothing_numbered, same_listing, with_class}
-use Rattle.rela_translate.specs.Places.{Place, path_symbols_at}
-use Rattle.rela_translate.specs.Shapes.{Shape, Empty, Class, Seq, Alt, Meet, Not, Star, BodyShape, Unit as Unit', Then, Else, Shapes}
-use Rattle.rela_translate.proofs.Membership.{bound, from_ok}
-use Rattle.rela_translate.proofs.Steps.{state, shapes_with_path, shapes_with_spec, path_step, spec_step, check_step}
+use Rattle.rela_expand.specs.Expand.{Expanded, Sofar, at_first, expanded, listing_of, outcome_of, with_item}
+use Rattle.rela_expand.specs.Numbered.{found, listing, named_by, numbered, numbered_body, numbered_change}
+use Rattle.rela_expand.specs.Numbering.{Listing, Numbering, nothing_numbered, same_listing, with_class}
+use Rattle.rela_expand.specs.Places.{Place, path_symbols_at}
+use Rattle.rela_expand.specs.Shapes.{Shape, Empty, Class, Seq, Alt, Meet, Not, Star, BodyShape, Unit as Unit', Then, Else, Shapes}
+use Rattle.rela_expand.proofs.Membership.{bound, from_ok}
+use Rattle.rela_expand.proofs.Steps.{state, shapes_with_path, shapes_with_spec, path_step, spec_step, check_step}
 use Rattle.rela_top.specs.Rows.{ListsPathSymbols}
 use Rattle.rela_top.proofs.PlanLaws.{All-unmap}
 

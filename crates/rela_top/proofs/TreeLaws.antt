@@ -15,7 +15,7 @@ use Rattle.rela_top.specs.Specifications.{IsParsed, ReadsTree, ReadsCanonical, F
 use Rattle.rela_top.specs.Specified.{Specified, ReadsSpecified}
 use Rattle.rela_top.specs.Words.{Command}
 use Rattle.rela_translate.specs.Checked.{Checked as Check}
-use Rattle.rela_translate.specs.Expand.{expanded, outcome_of}
+use Rattle.rela_expand.specs.Expand.{expanded, outcome_of}
 use Rattle.std.specs.List.{All}
 use Rattle.std.proofs.lemmas.List.Elements.{All-weaker}
 use Rattle.rela_top.specs.declared.reading.Halt.TheVariants.{Refused}

@@ -6,7 +6,7 @@ use Rattle.rela_names.specs.declared.level.Level.{Level}
 use Rattle.rela_snapshot.specs.Steps.{◌>>=◌}
 use Rattle.rela_spec.specs.declared.tree.SpecFile.{SpecFile}
 use Rattle.rela_translate.specs.Checked.{Checked as Check}
-use Rattle.rela_translate.specs.Expand.{expanded, outcome_of}
+use Rattle.rela_expand.specs.Expand.{expanded, outcome_of}
 use Rattle.rela_top.specs.Specifications.{ReadsTree}
 use Rattle.rela_top.specs.declared.asking.Asked.{Asked}
 use Rattle.rela_top.specs.declared.refusal.Refusal.{Refusal}

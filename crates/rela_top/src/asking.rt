@@ -6,10 +6,11 @@ ghost use Rattle.rela_top.specs.Rows.{ListsPathSymbols};
 ghost use Rattle.rela_top.specs.Specified.{ReadsSpecified, specified_by};
 
 use crate::formatting::read_tree;
+use rela_expand::expand;
 use rela_lex::SpecError;
 use rela_locations::Locations;
 use rela_names::Level;
-use rela_translate::{Check, expand};
+use rela_translate::Check;
 use std::alloc::Global;
 
 /// What a specification asks for.

@@ -40,8 +40,9 @@ impl Model for Check {
 }
 
 impl Check {
-    /// The check of these parts.
-    pub(crate) fn new(
+    /// The check of these parts, which are what a check keeps. The expansion of specifications alone
+    /// calls it.
+    pub fn new(
         name: Name,
         level: Level,
         when: Predicate,

@@ -3,15 +3,11 @@
 
 mod body;
 mod checks;
-mod expansion;
-mod faithful;
 mod laws;
 mod translation;
 
 pub use body::{Change, Core, Expr};
 pub use checks::Check;
-pub use expansion::expand;
-pub use faithful::checks_are_faithful;
 pub use laws::{
     changed_paths_are_in_the_zone, images_mean_the_body, no_word_offends_where_met,
     terms_mean_the_body,

@@ -15,7 +15,7 @@ use crate::checks::Check;
 use rela_names::Alphabet;
 use rela_rir::{PathTerm, RelTerm};
 use std::alloc::{AllocError, Global};
-use units::{after_of_unit, before_of_unit, outside, zone_of_unit};
+use units::{after_of_unit, before_of_unit, both, outside, zone_of_unit};
 
 /// The two relations of a check. The change is as the check asks where the paths before the change have
 /// under the first the image that the paths after it have under the second.
@@ -60,16 +60,17 @@ fn before_of(alloc: Global, body: &Core, alphabet: &Alphabet) -> Result<RelTerm,
 {
     match body {
         Core::Unit { zone, modifier } => before_of_unit(alloc, zone, modifier, alphabet),
-        Core::Then(a, b) => RelTerm::concat(
-            alloc,
-            before_of(alloc, a.get(), alphabet)?,
-            before_of(alloc, b.get(), alphabet)?,
-        ),
+        Core::Then(a, b) => {
+            let first = before_of(alloc, a.get(), alphabet);
+            let (first, second) = both(first, before_of(alloc, b.get(), alphabet))?;
+            RelTerm::concat(alloc, first, second)
+        }
         Core::Else(a, b) => {
-            let first = before_of(alloc, a.get(), alphabet)?;
-            let claimed = zone_of(alloc, a.get(), alphabet)?;
-            let second = before_of(alloc, b.get(), alphabet)?;
-            RelTerm::union(alloc, first, outside(alloc, claimed, second)?)
+            let claimed = zone_of(alloc, a.get(), alphabet);
+            let (claimed, second) = both(claimed, before_of(alloc, b.get(), alphabet))?;
+            let others = outside(alloc, claimed, second);
+            let (first, others) = both(before_of(alloc, a.get(), alphabet), others)?;
+            RelTerm::union(alloc, first, others)
         }
     }
 }
@@ -81,16 +82,17 @@ fn after_of(alloc: Global, body: &Core, alphabet: &Alphabet) -> Result<RelTerm, 
 {
     match body {
         Core::Unit { zone, modifier } => after_of_unit(alloc, zone, modifier, alphabet),
-        Core::Then(a, b) => RelTerm::concat(
-            alloc,
-            after_of(alloc, a.get(), alphabet)?,
-            after_of(alloc, b.get(), alphabet)?,
-        ),
+        Core::Then(a, b) => {
+            let first = after_of(alloc, a.get(), alphabet);
+            let (first, second) = both(first, after_of(alloc, b.get(), alphabet))?;
+            RelTerm::concat(alloc, first, second)
+        }
         Core::Else(a, b) => {
-            let first = after_of(alloc, a.get(), alphabet)?;
-            let claimed = zone_of(alloc, a.get(), alphabet)?;
-            let second = after_of(alloc, b.get(), alphabet)?;
-            RelTerm::union(alloc, first, outside(alloc, claimed, second)?)
+            let claimed = zone_of(alloc, a.get(), alphabet);
+            let (claimed, second) = both(claimed, after_of(alloc, b.get(), alphabet))?;
+            let others = outside(alloc, claimed, second);
+            let (first, others) = both(after_of(alloc, a.get(), alphabet), others)?;
+            RelTerm::union(alloc, first, others)
         }
     }
 }
@@ -101,15 +103,15 @@ fn zone_of(alloc: Global, body: &Core, alphabet: &Alphabet) -> Result<PathTerm, 
 {
     match body {
         Core::Unit { zone, modifier } => zone_of_unit(alloc, zone, modifier, alphabet),
-        Core::Then(a, b) => PathTerm::concat(
-            alloc,
-            zone_of(alloc, a.get(), alphabet)?,
-            zone_of(alloc, b.get(), alphabet)?,
-        ),
-        Core::Else(a, b) => PathTerm::union(
-            alloc,
-            zone_of(alloc, a.get(), alphabet)?,
-            zone_of(alloc, b.get(), alphabet)?,
-        ),
+        Core::Then(a, b) => {
+            let first = zone_of(alloc, a.get(), alphabet);
+            let (first, second) = both(first, zone_of(alloc, b.get(), alphabet))?;
+            PathTerm::concat(alloc, first, second)
+        }
+        Core::Else(a, b) => {
+            let first = zone_of(alloc, a.get(), alphabet);
+            let (first, second) = both(first, zone_of(alloc, b.get(), alphabet))?;
+            PathTerm::union(alloc, first, second)
+        }
     }
 }

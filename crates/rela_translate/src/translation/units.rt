@@ -1,5 +1,5 @@
 //! The terms of one unit: a zone and its modifier. The only error is want of memory.
-ghost use Rattle.std.specs.Prelude.{◌≡◌, IfOk, length};
+ghost use Rattle.std.specs.Prelude.{◌≡◌, IfOk, Ok, length};
 ghost use Rattle.std.specs.List.{All};
 ghost use Rattle.rela_translate.specs.Zones.{drop_symbol, marker_symbol};
 ghost use Rattle.rela_translate.specs.Terms.{path_of, unit_terms, without, outside};
@@ -66,10 +66,7 @@ pub(super) fn after_of_unit(
 {
     match modifier {
         Change::Preserve | Change::Remove(_) => RelTerm::identity(alloc, path_of(alloc, zone)?),
-        Change::Add(path) | Change::Replace(_, path) => RelTerm::identity(
-            alloc,
-            either(alloc, zone, path)?,
-        ),
+        Change::Add(path) | Change::Replace(_, path) => kept_or(alloc, zone, path),
         Change::Drop => RelTerm::identity(alloc, or_symbol(alloc, zone, alphabet.drop_symbol())?),
         Change::AnyOf { path, marker } => any_of(alloc, zone, path, alphabet.marker(*marker)),
         Change::Ignore(ignored) => kept_without(alloc, zone, ignored),
@@ -84,31 +81,40 @@ pub(super) fn path_of(alloc: Global, path: &Expr) -> Result<PathTerm, AllocError
     match path {
         Expr::Empty => Ok(PathTerm::Empty),
         Expr::Class(entry) => Ok(PathTerm::Class(*entry)),
-        Expr::Seq(a, b) => PathTerm::concat(
-            alloc,
-            path_of(alloc, a.get())?,
-            path_of(alloc, b.get())?,
-        ),
-        Expr::Alt(a, b) => PathTerm::union(
-            alloc,
-            path_of(alloc, a.get())?,
-            path_of(alloc, b.get())?,
-        ),
-        Expr::Meet(a, b) => PathTerm::meet(
-            alloc,
-            path_of(alloc, a.get())?,
-            path_of(alloc, b.get())?,
-        ),
+        Expr::Seq(a, b) => {
+            let (a, b) = both(path_of(alloc, a.get()), path_of(alloc, b.get()))?;
+            PathTerm::concat(alloc, a, b)
+        }
+        Expr::Alt(a, b) => {
+            let (a, b) = both(path_of(alloc, a.get()), path_of(alloc, b.get()))?;
+            PathTerm::union(alloc, a, b)
+        }
+        Expr::Meet(a, b) => {
+            let (a, b) = both(path_of(alloc, a.get()), path_of(alloc, b.get()))?;
+            PathTerm::meet(alloc, a, b)
+        }
         Expr::Not(part) => PathTerm::complement(alloc, path_of(alloc, part.get())?),
         Expr::Star(part) => PathTerm::star(alloc, path_of(alloc, part.get())?),
     }
+}
+
+// Both terms, where both could be made. So no term is held where the making of another may end.
+pub(super) fn both<T: Drop, U: Drop>(
+    first: Result<T, AllocError>,
+    second: Result<U, AllocError>,
+) -> Result<(T, U), AllocError>
+    ensures first { IfOk result (λ terms. first ≡ Ok terms.0) }
+    ensures second { IfOk result (λ terms. second ≡ Ok terms.1) }
+{
+    Ok((first?, second?))
 }
 
 // The words of both.
 fn either(alloc: Global, x: &Expr, y: &Expr) -> Result<PathTerm, AllocError>
     ensures { IfOk result (λ t. t ≡ PathTerm.Union (path_of x.now) (path_of y.now)) }
 {
-    PathTerm::union(alloc, path_of(alloc, x)?, path_of(alloc, y)?)
+    let (x, y) = both(path_of(alloc, x), path_of(alloc, y))?;
+    PathTerm::union(alloc, x, y)
 }
 
 // The words of the expression, and the word of the symbol.
@@ -122,15 +128,31 @@ fn or_symbol(alloc: Global, x: &Expr, symbol: Symbol) -> Result<PathTerm, AllocE
 fn without(alloc: Global, x: PathTerm, y: PathTerm) -> Result<PathTerm, AllocError>
     ensures { IfOk result (λ t. t ≡ without x y) }
 {
-    PathTerm::meet(alloc, x, PathTerm::complement(alloc, y)?)
+    let (x, others) = both(Ok(x), PathTerm::complement(alloc, y))?;
+    PathTerm::meet(alloc, x, others)
 }
 
 // The words of the zone that are not paths of the expression, with themselves.
 fn kept_without(alloc: Global, zone: &Expr, path: &Expr) -> Result<RelTerm, AllocError>
     ensures { IfOk result (λ r. r ≡ RelTerm.Identity (without (path_of zone.now) (path_of path.now))) }
 {
-    let kept = without(alloc, path_of(alloc, zone)?, path_of(alloc, path)?)?;
-    RelTerm::identity(alloc, kept)
+    let (zone, path) = both(path_of(alloc, zone), path_of(alloc, path))?;
+    RelTerm::identity(alloc, without(alloc, zone, path)?)
+}
+
+// The words of both, with themselves.
+fn kept_or(alloc: Global, x: &Expr, y: &Expr) -> Result<RelTerm, AllocError>
+    ensures { IfOk result (λ r. r ≡ RelTerm.Identity (PathTerm.Union (path_of x.now) (path_of y.now))) }
+{
+    RelTerm::identity(alloc, either(alloc, x, y)?)
+}
+
+// Each word of the first with each of the second.
+fn with_each(alloc: Global, x: &Expr, y: &Expr) -> Result<RelTerm, AllocError>
+    ensures { IfOk result (λ r. r ≡ RelTerm.Product (path_of x.now) (path_of y.now)) }
+{
+    let (x, y) = both(path_of(alloc, x), path_of(alloc, y))?;
+    RelTerm::product(alloc, x, y)
 }
 
 // The words of the set with the word of the symbol.
@@ -146,8 +168,7 @@ fn added(alloc: Global, zone: &Expr, path: &Expr) -> Result<RelTerm, AllocError>
         (RelTerm.Identity (PathTerm.Union (path_of zone.now) (path_of path.now)))
         (RelTerm.Product (path_of zone.now) (path_of path.now))) }
 {
-    let kept = RelTerm::identity(alloc, either(alloc, zone, path)?)?;
-    let come = RelTerm::product(alloc, path_of(alloc, zone)?, path_of(alloc, path)?)?;
+    let (kept, come) = both(kept_or(alloc, zone, path), with_each(alloc, zone, path))?;
     RelTerm::union(alloc, kept, come)
 }
 
@@ -157,16 +178,37 @@ fn replaced(alloc: Global, zone: &Expr, old: &Expr, new: &Expr) -> Result<RelTer
         (RelTerm.Identity (without (PathTerm.Union (path_of zone.now) (path_of new.now)) (PathTerm.Meet (path_of old.now) (path_of zone.now))))
         (RelTerm.Product (PathTerm.Meet (path_of old.now) (path_of zone.now)) (path_of new.now))) }
 {
-    let kept = without(alloc, either(alloc, zone, new)?, common(alloc, old, zone)?)?;
-    let come = RelTerm::product(alloc, common(alloc, old, zone)?, path_of(alloc, new)?)?;
-    RelTerm::union(alloc, RelTerm::identity(alloc, kept)?, come)
+    let (kept, come) = both(
+        not_replaced(alloc, zone, old, new),
+        replacing(alloc, zone, old, new),
+    )?;
+    RelTerm::union(alloc, kept, come)
+}
+
+// The words of the zone and the new paths, but for the old paths of the zone, with themselves.
+fn not_replaced(alloc: Global, zone: &Expr, old: &Expr, new: &Expr) -> Result<RelTerm, AllocError>
+    ensures { IfOk result (λ r. r ≡ RelTerm.Identity
+        (without (PathTerm.Union (path_of zone.now) (path_of new.now)) (PathTerm.Meet (path_of old.now) (path_of zone.now)))) }
+{
+    let (all, gone) = both(either(alloc, zone, new), common(alloc, old, zone))?;
+    RelTerm::identity(alloc, without(alloc, all, gone)?)
+}
+
+// Each old path of the zone with each new path.
+fn replacing(alloc: Global, zone: &Expr, old: &Expr, new: &Expr) -> Result<RelTerm, AllocError>
+    ensures { IfOk result (λ r. r ≡ RelTerm.Product
+        (PathTerm.Meet (path_of old.now) (path_of zone.now)) (path_of new.now)) }
+{
+    let (gone, new) = both(common(alloc, old, zone), path_of(alloc, new))?;
+    RelTerm::product(alloc, gone, new)
 }
 
 // The words that are in both.
 fn common(alloc: Global, x: &Expr, y: &Expr) -> Result<PathTerm, AllocError>
     ensures { IfOk result (λ t. t ≡ PathTerm.Meet (path_of x.now) (path_of y.now)) }
 {
-    PathTerm::meet(alloc, path_of(alloc, x)?, path_of(alloc, y)?)
+    let (x, y) = both(path_of(alloc, x), path_of(alloc, y))?;
+    PathTerm::meet(alloc, x, y)
 }
 
 // Each word of the zone, and that of the end, with the end.
@@ -183,8 +225,9 @@ fn any_of(alloc: Global, zone: &Expr, path: &Expr, marker: Symbol) -> Result<Rel
         (RelTerm.Product (path_of path.now) (PathTerm.One marker))
         (RelTerm.Identity (without (path_of zone.now) (path_of path.now)))) }
 {
-    let asked = marked(alloc, path_of(alloc, path)?, marker)?;
-    RelTerm::union(alloc, asked, kept_without(alloc, zone, path)?)
+    let asked = marked(alloc, path_of(alloc, path)?, marker);
+    let (asked, kept) = both(asked, kept_without(alloc, zone, path))?;
+    RelTerm::union(alloc, asked, kept)
 }
 
 // The pairs of the relation whose first word is of path symbols and not in the set.
@@ -195,6 +238,7 @@ pub(super) fn outside(
 ) -> Result<RelTerm, AllocError>
     ensures { IfOk result (λ r. r ≡ outside set relation) }
 {
-    let others = RelTerm::identity(alloc, PathTerm::complement(alloc, set)?)?;
+    let (relation, others) = both(Ok(relation), PathTerm::complement(alloc, set))?;
+    let (others, relation) = both(RelTerm::identity(alloc, others), Ok(relation))?;
     RelTerm::compose(alloc, others, relation)
 }

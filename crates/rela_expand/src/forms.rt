@@ -1,0 +1,131 @@
+//! Expanded path expressions as a graph. What a name stands for is there once, however often it is
+//! used, so that the graph stays linear in the text, and its sizes are known before it is unfolded.
+
+ghost use Rattle.std.specs.Prelude.{◌≡◌, ◌+◌, ◌-◌, ◌<◌, ◌≤◌, [], ◌∷◌, ◌++◌, length, map, max, replicate, IfOk, OnOk};
+ghost use Rattle.std.specs.List.{All};
+ghost use Rattle.rela_expand.specs.Expansions.{tree_of};
+ghost use Rattle.rela_expand.specs.Forms.{AreForms, Extends, StandsAt, behind, capped, capped_size, joined, shape_at, shape_in, shapes_of, size_of};
+ghost use Rattle.rela_expand.specs.Measures.{Measure, over, over_two};
+ghost use Rattle.rela_expand.specs.Shapes.{Empty, sequence_shape};
+
+use rela_spec::Member;
+use std::alloc::{AllocError, Global};
+
+/// How two parts are joined.
+#[derive(Clone, Copy, PartialEq, Eq, Debug)]
+pub(crate) enum Joint {
+    Seq,
+    Alt,
+    Meet,
+}
+
+/// One layer of an expanded path expression. Its parts are named by their places among the forms.
+#[derive(Clone, Copy)]
+pub(crate) enum Layer<'a> {
+    Empty,
+    Any,
+    One(&'a Member),
+    Class {
+        negated: bool,
+        members: &'a [Member],
+    },
+    Join(Joint, usize, usize),
+    Not(usize),
+    Star(usize),
+}
+
+/// How many nodes a term has and how deep it is. What passes 64 bits is the greatest number there.
+#[derive(Clone, Copy, PartialEq, Eq, Debug)]
+pub(crate) struct Size {
+    pub(crate) nodes: u64,
+    pub(crate) depth: u64,
+}
+
+/// A layer, with the size of all that it stands for.
+#[derive(Clone, Copy)]
+pub(crate) struct Form<'a> {
+    layer: Layer<'a>,
+    size: Size,
+}
+
+/// Forms, each behind its parts.
+#[derive(Drop)]
+pub(crate) struct Forms<'a> {
+    pub(crate) forms: Vec<Form<'a>>,
+    ghost sound: { AreForms forms.items },
+}
+
+impl<'a> Forms<'a> {
+    pub(crate) fn new(alloc: Global) -> Forms<'a>
+        ensures { shapes_of result.forms.items ≡ [] }
+    {
+        Forms {
+            forms: Vec::new(alloc),
+        }
+    }
+
+    /// The form at this place, and how large it is.
+    pub(crate) fn get(&self, place: usize) -> Layer<'a>
+        requires { place < length (shapes_of self.now.forms.items) }
+        ensures shape { shape_at (shapes_of self.now.forms.items) place ≡ shape_in (shapes_of self.now.forms.items) result }
+        ensures below { behind result ≤ place }
+    {
+        self.forms[place].layer
+    }
+
+    /// How large the form at this place is.
+    pub(crate) fn size(&self, place: usize) -> Size
+        requires { place < length (shapes_of self.now.forms.items) }
+        ensures { result ≡ size_of (shape_at (shapes_of self.now.forms.items) place) }
+    {
+        self.forms[place].size
+    }
+
+    /// Puts a layer behind the others, and says where.
+    pub(crate) fn add(&mut self, layer: Layer<'a>) -> Result<usize, AllocError>
+        requires { behind layer ≤ length (shapes_of self.old.forms.items) }
+        ensures grown { Extends (shapes_of self.old.forms.items) (shapes_of self.new.forms.items) }
+        ensures made { IfOk result (λ k. StandsAt (shapes_of self.new.forms.items) (shape_in (shapes_of self.old.forms.items) layer.entry) k) }
+    {
+        let place = self.forms.len();
+        let size = self.size_of(layer);
+        self.forms.push(Form { layer, size })?;
+        Ok(place)
+    }
+
+    /// How large a layer is with its parts.
+    fn size_of(&self, layer: Layer<'a>) -> Size
+        requires { behind layer ≤ length (shapes_of self.now.forms.items) }
+        ensures { result ≡ size_of (shape_in (shapes_of self.now.forms.items) layer.entry) }
+    {
+        match layer {
+            Layer::Empty | Layer::Any | Layer::One(_) | Layer::Class { .. } => {
+                Size { nodes: 1, depth: 1 }
+            }
+            Layer::Join(_, a, b) => of_two(self.size(a), self.size(b)),
+            Layer::Not(a) | Layer::Star(a) => of_one(self.size(a)),
+        }
+    }
+}
+
+/// One node more than its part has.
+pub(crate) fn of_one(part: Size) -> Size
+    ensures size { result ≡ record { nodes = capped (part.nodes + 1); depth = capped (part.depth + 1) } }
+    ensures measure { (m : Measure) → part ≡ capped_size m → result ≡ capped_size (over m) }
+{
+    Size {
+        nodes: part.nodes.saturating_add(1),
+        depth: part.depth.saturating_add(1),
+    }
+}
+
+/// One node more than its two parts have.
+pub(crate) fn of_two(a: Size, b: Size) -> Size
+    ensures size { result ≡ record { nodes = capped (a.nodes + b.nodes + 1); depth = capped (max a.depth b.depth + 1) } }
+    ensures measure { (x y : Measure) → a ≡ capped_size x → b ≡ capped_size y → result ≡ capped_size (over_two x y) }
+{
+    Size {
+        nodes: a.nodes.saturating_add(b.nodes).saturating_add(1),
+        depth: a.depth.max(b.depth).saturating_add(1),
+    }
+}

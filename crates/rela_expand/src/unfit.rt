@@ -1,0 +1,29 @@
+ghost use Rattle.std.specs.Prelude.{◌≡◌};
+ghost use Rattle.rela_expand.specs.declared.unfit.Unfit.{Unfit};
+
+use std::alloc::{AllocError, AllocFailed};
+
+/// Why something isn't unfolded.
+#[derive(Clone, Copy, Debug, PartialEq, Eq)]
+pub(crate) enum Unfit {
+    /// Its classes list more than 4,000,000 symbols together.
+    TooLarge,
+    /// There isn't memory for it.
+    Memory,
+}
+
+impl From<AllocError> for Unfit {
+    ghost from_gives = { λ _ e. e ≡ Unfit.Memory };
+
+    fn from(_refused: AllocError) -> Unfit {
+        Unfit::Memory
+    }
+}
+
+impl<T: Drop> From<AllocFailed<T>> for Unfit {
+    ghost from_gives = { λ _ e. e ≡ Unfit.Memory };
+
+    fn from(_refused: AllocFailed<T>) -> Unfit {
+        Unfit::Memory
+    }
+}

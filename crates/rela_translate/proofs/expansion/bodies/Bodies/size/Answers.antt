@@ -1,8 +1,0 @@
-use Rattle.std.proofs.Common.{ap, ◌∙◌}
-use Rattle.rela_translate.specs.declared.expansion.bodies.BodyForm.{BodyForm}
-use Rattle.rela_translate.proofs.BodyLaws.{size_there}
-use Rattle.rela_translate.proofs.expansion.bodies.Bodies.size.Goals as goal
-
-pub returns : goal.returns
-returns c = λ paths sound.
-    ap (λ (f : BodyForm). f.size) c.index.ensures ∙ size_there paths c.args.self.now.forms.items c.args.place c.index.result.now sound c.requires

@@ -1,4 +1,0 @@
-use Rattle.rela_translate.proofs.expansion.body_unfolding.+unfold_body.Given as goal
-
-abbrev pub decreases-unfold_body : goal.decreases-unfold_body
-decreases-unfold_body l = l.place

@@ -1,7 +1,0 @@
-use Rattle.std.proofs.Common.{subst, sym}
-use Rattle.rela_translate.specs.Forms.{AreForms}
-use Rattle.rela_translate.proofs.FormLaws.{no_forms}
-use Rattle.rela_translate.proofs.expansion.forms.Forms.new.Goals as goal
-
-pub invariant_of-result : goal.invariant_of-result
-invariant_of-result c = record { sound = subst AreForms (sym c.new.ensures.items) no_forms }

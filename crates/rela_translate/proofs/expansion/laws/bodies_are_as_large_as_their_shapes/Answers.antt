@@ -1,5 +1,0 @@
-use Rattle.rela_translate.proofs.BodySizes.{body_measure}
-use Rattle.rela_translate.proofs.expansion.laws.bodies_are_as_large_as_their_shapes.Goals as goal
-
-pub returns : goal.returns
-returns c = body_measure

@@ -1,4 +1,0 @@
-use Rattle.rela_translate.proofs.expansion.names.Definitions.add.Goals as goal
-
-pub returns : goal.returns
-returns c = λ other. c.in_ok-insert.ensures.updates.0 (record { ref_ptr = (0, 0); now = other })

@@ -1,4 +1,0 @@
-use Rattle.rela_translate.proofs.expansion.trees.+row_and_longer.Given as goal
-
-abbrev pub decreases-row_and_longer : goal.decreases-row_and_longer
-decreases-row_and_longer l = l.n

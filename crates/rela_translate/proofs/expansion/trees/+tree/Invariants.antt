@@ -1,5 +1,0 @@
-use Rattle.std.proofs.Common.{length}
-use Rattle.rela_translate.proofs.expansion.trees.+tree.Given as goal
-
-abbrev pub decreases-tree : goal.decreases-tree
-decreases-tree l = length l.places.now

@@ -1,5 +1,0 @@
-use Rattle.rela_translate.proofs.Faithfulness as faithfulness
-use Rattle.rela_translate.proofs.faithful.checks_are_faithful.Goals as goal
-
-pub returns : goal.returns
-returns c network file checks full is = faithfulness.checks_are_faithful network file checks full is
