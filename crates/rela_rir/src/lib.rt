@@ -1,6 +1,6 @@
 //! The terms that a specification is translated to: sets of words, relations between words, and what
 //! is asserted of sets. Each has a meaning that speaks of words alone, a size, and places that a
-//! reader of it passes through.
+//! reader of it passes through, which the states of an automaton may stand for.
 #![tactic(auto)]
 
 mod agreement_laws;

@@ -40,11 +40,11 @@ pub fn tables_carry_over<M: Staging, N: Staging, S: Reaching, T: PairReaching>()
         IsPlaced M.scene x S.reach ↔ IsPlaced N.scene x S.reach }
     ensures placed_pairs { (r : RelTerm) → AgreeOnR M.scene N.scene r →
         IsPlacedR M.scene r T.reach_pair ↔ IsPlacedR N.scene r T.reach_pair }
-    ensures exact { (x : PathTerm) → AgreeOn M.scene N.scene x → (n : ℕ) (table : Place →
-        Option ℕ) →
+    ensures exact { (x : PathTerm) → AgreeOn M.scene N.scene x →
+        (n : ℕ) (table : Place → Option ℕ) →
         IsExact n S.reach (At M.scene x) table ↔ IsExact n S.reach (At N.scene x) table }
-    ensures exact_pairs { (r : RelTerm) → AgreeOnR M.scene N.scene r → (n : ℕ) (table : Place →
-        Option ℕ) →
+    ensures exact_pairs { (r : RelTerm) → AgreeOnR M.scene N.scene r →
+        (n : ℕ) (table : Place → Option ℕ) →
         IsExact n (OnPairs T.reach_pair) (OnPairs (AtR M.scene r)) table
         ↔ IsExact n (OnPairs T.reach_pair) (OnPairs (AtR N.scene r)) table }
 {}
