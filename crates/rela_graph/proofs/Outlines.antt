@@ -13,7 +13,7 @@ use Rattle.rela_names.specs.declared.level.Level.{Level}
 use Rattle.rela_graph.proofs.Links.{links_decide}
 use Rattle.rela_graph.specs.Outline.{Outline, outline_of, same_link, same_outline}
 use Rattle.rela_graph.specs.SameOutline.{outlines_equivalent}
-use Rattle.rela_graph.specs.Paths.{Paths, IsEnding, Arrives, locations, base}
+use Rattle.rela_graph.specs.Paths.{Paths, IsEnding, Arrives, Undelivered, locations, base}
 use Rattle.rela_graph.specs.Topology.{Topology, HasEdge, HasFlag, symbol_at}
 use Rattle.rela_graph.specs.Walk.{FollowsEdges, IsWalk, IsCyclic, IsDropNode}
 use Rattle.rela_graph.specs.declared.node.Link.{Link}
@@ -147,6 +147,20 @@ module _ (level : Level) (g h : Topology) (same : outline_of level g ≡ outline
   path_there : (names : List (List ℕ)) (w : List ℕ) → Paths g level names w → Paths h level names w
   path_there names w (n, front, ending, arrives, ends, whole) =
       (n, front, ending, arrives_there n front arrives, ending_there names n ending ends, whole)
+
+  undelivered_there : (names : List (List ℕ)) (w : List ℕ) → Undelivered g level names w → Undelivered h level names w
+  undelivered_there names w (n, front, ending, arrives, ends, some, whole) =
+      (n, front, ending, arrives_there n front arrives, ending_there names n ending ends, some, whole)
+
+-- graphs that look the same at a level have the same arrivals there
+pub same_arrivals : (level : Level) (g h : Topology) → outline_of level g ≡ outline_of level h → (n : ℕ) (w : List ℕ)
+    → Arrives g (locations g level) n w ↔ Arrives h (locations h level) n w
+same_arrivals level g h same n w = (arrives_there level g h same n w, arrives_there level h g (sym same) n w)
+
+-- and the same paths that end undelivered
+pub same_undelivered : (level : Level) (g h : Topology) → outline_of level g ≡ outline_of level h → (names : List (List ℕ)) (w : List ℕ)
+    → Undelivered g level names w ↔ Undelivered h level names w
+same_undelivered level g h same names w = (undelivered_there level g h same names w, undelivered_there level h g (sym same) names w)
 
 -- graphs that look the same at a level have the same paths there
 pub same_paths : (level : Level) (g h : Topology) → outline_of level g ≡ outline_of level h → (names : List (List ℕ)) (w : List ℕ)

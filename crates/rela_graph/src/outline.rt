@@ -3,7 +3,7 @@
 ghost use Rattle.std.specs.Prelude.{◌≡◌, ℕ, ◌↔◌, List, IsTrue, fold, map};
 ghost use Rattle.std.specs.Hash as fed;
 ghost use Rattle.rela_graph.specs.Outline.{outline_of, same_outline};
-ghost use Rattle.rela_graph.specs.Paths.{Paths};
+ghost use Rattle.rela_graph.specs.Paths.{Arrives, Paths, Undelivered, locations};
 ghost use Rattle.rela_graph.specs.Topology.{symbol_at};
 
 use crate::graph::Graph;
@@ -80,6 +80,18 @@ impl Graph {
     pub fn same_outline_same_paths(&self, other: &Graph, level: Level)
         ensures { outline_of level self.now ≡ outline_of level other.now → (names : List (List ℕ)) (w : List ℕ) →
             Paths self.now level names w ↔ Paths other.now level names w }
+    {}
+
+    /// Graphs that look the same at a level have the same arrivals there: a word is the base word of walks
+    /// that end at the same nodes, and the same words are paths that end undelivered. The call does
+    /// nothing, and its contract is this law.
+    pub fn same_outline_same_arrivals(&self, other: &Graph, level: Level)
+        ensures arrives { outline_of level self.now ≡ outline_of level other.now
+            → (n : ℕ) (w : List ℕ) → Arrives self.now (locations self.now level) n w
+            ↔ Arrives other.now (locations other.now level) n w }
+        ensures undelivered { outline_of level self.now ≡ outline_of level other.now
+            → (names : List (List ℕ)) (w : List ℕ) → Undelivered self.now level names w
+            ↔ Undelivered other.now level names w }
     {}
 
     /// Whether the graph looks at the level as the other one does at its level.

@@ -1,10 +1,10 @@
-ghost use Rattle.std.specs.Prelude.{◌≡◌, ◌≢◌, ℕ, ◌<◌, ◌≤◌, ◌↔◌, List, IfOk, IfErr, map, length};
+ghost use Rattle.std.specs.Prelude.{◌≡◌, ◌≢◌, ℕ, ◌<◌, ◌≤◌, ◌↔◌, List, Some, IfOk, IfErr, Contains, map, length, slice_get};
 ghost use Rattle.std.specs.List.{All, range_with_len};
 ghost use Rattle.rela_nfa.specs.Automaton.{states};
-ghost use Rattle.rela_nfa.specs.Meeting.{next_pairs, final_both, product_moves_at, IsMeet, AreReachedTogether};
+ghost use Rattle.rela_nfa.specs.Meeting.{next_pairs, pair_of, final_both, product_moves_at, IsMeet, IsProduct, AreReachedTogether};
 ghost use Rattle.rela_nfa.specs.Runs.{Accepts};
 ghost use Rattle.rela_pairs.specs.Exploration.{NumbersNext};
-ghost use Rattle.rela_pairs.specs.Reachable.{MoreThan};
+ghost use Rattle.rela_pairs.specs.Reachable.{AreDistinct, MoreThan, Reachable};
 ghost use Rattle.rela_pairs.specs.declared.pair.Pair.{Pair};
 
 use crate::edge_lists::EdgeLists;
@@ -65,6 +65,33 @@ fn product_edges<L: LabelSet>(
     Ok(edges)
 }
 
+/// The automaton whose states are the pairs, those that are reachable from the two starts.
+fn product<L: LabelSet>(
+    alloc: Global,
+    first: &Nfa<L>,
+    second: &Nfa<L>,
+    explored: &Explored,
+) -> Result<Nfa<L>, AllocError>
+    requires letters { first.now.letters ≡ second.now.letters }
+    requires pairs { All (λ x. (x.left < states first.now) × (x.right < states second.now)) explored.now.pairs }
+    requires distinct { AreDistinct explored.now.pairs }
+    requires first { slice_get explored.now.pairs 0 ≡ Some (pair_of first.now.start second.now.start) }
+    requires reachable { (x : Pair) → Contains explored.now.pairs x
+        ↔ Reachable (next_pairs first.now second.now) (pair_of first.now.start second.now.start) x }
+    requires one_list_each { length explored.now.targets ≡ length explored.now.pairs }
+    requires targets { NumbersNext (next_pairs first.now second.now) explored.now }
+    ensures { IfOk result (IsProduct first.now second.now explored.now) }
+{
+    let finals = product_finals(alloc, first, second, explored.pairs())?;
+    let edges = product_edges(alloc, first, second, explored)?;
+    Ok(Nfa {
+        letters: first.letters,
+        start: 0,
+        finals,
+        edges,
+    })
+}
+
 impl<L: LabelSet> Nfa<L> {
     /// The words of both languages. Each state is a pair of states that some word leads both automata
     /// to, and is reached by just the words that do.
@@ -95,13 +122,7 @@ impl<L: LabelSet> Nfa<L> {
             right: other.start(),
         };
         let explored = explore(alloc, &meeting, start, limit)?;
-        let finals = product_finals(alloc, self, other, explored.pairs())?;
-        let edges = product_edges(alloc, self, other, &explored)?;
-        Ok(Nfa {
-            letters: self.letters,
-            start: 0,
-            finals,
-            edges,
-        })
+        let nfa = product(alloc, self, other, &explored)?;
+        Ok(nfa)
     }
 }
