@@ -1,0 +1,94 @@
+-- Words of letters that automata and transducers read, and words of symbols that are read as them.
+use Rattle.std.proofs.Common.{◌≡◌, ℕ, ◌+◌, ◌<◌, List, [], ◌∷◌, ◌++◌, Bool, true, length, map, Option, None, Some, refl, sym, ap, ◌∙◌, subst, arith}
+use Rattle.std.specs.List.{All}
+use Rattle.std.specs.Option.{option_to_list}
+use Rattle.std.proofs.lemmas.List.Elements.{All-nil, All-cons, All-head, All-tail, All-append, All-contains, All-weaker}
+use Rattle.rela_labels.specs.Letters.{has}
+use Rattle.rela_labels.specs.Partition.{block_count}
+use Rattle.rela_labels.proofs.LettersOfWords.{has_below}
+use Rattle.rela_nfa.specs.Automaton.{Automaton, IsAutomaton, IsMove as IsEdge, moves_of as edges_of, states}
+use Rattle.rela_nfa.specs.Runs.{Reach, Follow, HasStep as HasEdge, Step, spelled}
+use Rattle.rela_nfa.proofs.Parts.{moves_ok as edges_ok}
+use Rattle.rela_trans.specs.Composition.{Covers}
+use Rattle.rela_trans.specs.Machine.{Machine, Kind, IsMachine, IsMove, IsSized, machine_states, moves_of}
+use Rattle.rela_trans.specs.Runs.{IsSymbolOf, Does, HasStep, ReachR}
+use Rattle.rela_trans.specs.declared.moves.MoveKind.TheVariants.{Silent, In, Out, Same}
+use Rattle.rela_trans.proofs.Accessors.{moves_ok}
+use Rattle.rela_trans.proofs.Reaching.{reach_each}
+use Rattle.rela_build.specs.Reading.{read_by}
+use Rattle.rela_build.proofs.Readings.{is_symbol}
+
+abbrev pub Below : ℕ → List ℕ → Type 0
+Below n w = All (λ k. k < n) w
+
+-- ---- automata
+
+module _ (a : Automaton) (ok : IsAutomaton a) where
+  edge_letter : (p q k : ℕ) → HasEdge a p (Some k) q → k < a.letters
+  edge_letter p q k (set, among, reads) =
+      let sized = (All-contains (IsEdge a.letters (states a)) (edges_of a p) (record { label = Some set; to = q }) (edges_ok a ok p) among).sized set refl in
+      let within = has_below set k reads in
+      omega arith
+
+  with_letter : (p q : ℕ) (letter : Option ℕ) (word : List ℕ) → HasEdge a p letter q → Below a.letters word → Below a.letters (option_to_list letter ++ word)
+  with_letter p q None word step below = below
+  with_letter p q (Some k) word step below = All-cons (λ k. k < a.letters) k word (edge_letter p q k step) below
+
+  run_letters : (steps : List Step) (p q : ℕ) → Follow a p steps q → Below a.letters (spelled steps)
+  run_letters [] p q here = All-nil (λ k. k < a.letters)
+  run_letters (step ∷ rest) p q follows = with_letter p step.to step.letter (spelled rest) follows.0 (run_letters rest step.to q follows.1)
+
+  -- each letter of a word that leads to a state is one of the automaton's
+  pub reached_letters : (q : ℕ) (word : List ℕ) → Reach a q word → Below a.letters word
+  reached_letters q word (steps, follows, spells) = subst (Below a.letters) spells (run_letters steps a.start q follows)
+
+-- ---- transducers
+
+module _ (letters : ℕ) where
+  no_letter : (w : List ℕ) → w ≡ [] → Below letters w
+  no_letter w e = subst (Below letters) (sym e) (All-nil (λ k. k < letters))
+
+  one_letter : (set : List Bool) (w : List ℕ) → length set ≡ letters → IsSymbolOf (λ k. k) set w → Below letters w
+  one_letter set w size (s, among, e) =
+      subst (Below letters) (sym e) (All-cons (λ k. k < letters) s [] (omega (arith, has_below set s among, size)) (All-nil (λ k. k < letters)))
+
+  made_letters : (kind : Kind) (input output : List ℕ) → IsSized letters kind → Does (λ k. k) kind input output → Below letters input × Below letters output
+  made_letters Silent input output size does = (no_letter input does.0, no_letter output does.1)
+  made_letters (In set) input output size does = (one_letter set input size does.0, no_letter output does.1)
+  made_letters (Out set) input output size does = (no_letter input does.0, one_letter set output size does.1)
+  made_letters (Same set) input output size does =
+      let below = one_letter set input size does.0 in (below, subst (Below letters) (sym does.1) below)
+
+-- the letters of words that lead to a state of a transducer
+pub reached_letters_r : (t : Machine) → IsMachine t → (q : ℕ) (u v : List ℕ) → ReachR (λ k. k) t q u v → Below t.letters u × Below t.letters v
+reached_letters_r t ok q u v reach =
+    reach_each (λ k. k) t (λ q u v. Below t.letters u × Below t.letters v)
+    (λ p q u v input output reach before step.
+    let move = (All-contains (IsMove t.letters (machine_states t)) (moves_of t p) (record { kind = step.0; to = q }) (moves_ok t ok p) step.1).sized in
+    let made = made_letters t.letters step.0 input output move step.2 in
+    (All-append (λ k. k < t.letters) u input before.0 made.0, All-append (λ k. k < t.letters) v output before.1 made.1))
+    (All-nil (λ k. k < t.letters), All-nil (λ k. k < t.letters)) q u v reach
+
+-- ---- words of symbols
+
+module _ (blocks : List ℕ) where
+  abbrev f : ℕ → ℕ
+  f = read_by blocks
+
+  -- a word that is read as letters is one of symbols
+  pub symbols_of : (v w : List ℕ) → map f v ≡ w → Below (block_count blocks) w → Below (length blocks) v
+  symbols_of [] w e below = All-nil (λ s. s < length blocks)
+  symbols_of (s ∷ v) [] e below = absurd cc
+  symbols_of (s ∷ v) (k ∷ w) e below =
+      let here : f s ≡ k = cc in
+      let later : map f v ≡ w = cc in
+      let low = All-head (λ k. k < block_count blocks) k w below in
+      All-cons (λ s. s < length blocks) s v (is_symbol blocks s (omega (arith, low, here))) (symbols_of v w later (All-tail (λ k. k < block_count blocks) k w below))
+
+  -- each word of letters is what some word of symbols is read as
+  pub word_for : Covers f (block_count blocks) → (w : List ℕ) → Below (block_count blocks) w → (v : List ℕ) × (map f v ≡ w)
+  word_for covers [] below = ([], refl)
+  word_for covers (k ∷ w) below =
+      let s = covers k (All-head (λ k. k < block_count blocks) k w below) in
+      let rest = word_for covers w (All-tail (λ k. k < block_count blocks) k w below) in
+      (s.0 ∷ rest.0, λ i. s.1 i ∷ rest.1 i)

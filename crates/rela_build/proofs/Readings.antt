@@ -1,0 +1,52 @@
+-- Symbols and their letters.
+use Rattle.std.proofs.Common.{◌≡◌, ℕ, suc, ◌+◌, ◌<◌, ◌≤◌, Bool, true, List, [], ◌∷◌, length, get_or, inl, inr, ◌∙◌, arith}
+use Rattle.std.proofs.lemmas.Bool.{cases_lt}
+use Rattle.std.proofs.lemmas.List.{get_or_default, get_or_past}
+use Rattle.rela_labels.specs.Letters.{has}
+use Rattle.rela_labels.specs.Partition.{block_of, block_count, IsPartition}
+use Rattle.rela_labels.proofs.LettersOfWords.{has_below}
+use Rattle.rela_labels.proofs.BlocksInOrder.{all_within_count}
+use Rattle.rela_trans.specs.Composition.{Covers}
+use Rattle.rela_build.specs.Reading.{read_by}
+
+pub read_symbol : (blocks : List ℕ) (s : ℕ) → s < length blocks → read_by blocks s ≡ block_of blocks s
+read_symbol blocks s below = get_or_default blocks s (block_count blocks) 0 below
+
+pub read_past : (blocks : List ℕ) (s : ℕ) → length blocks ≤ s → read_by blocks s ≡ block_count blocks
+read_past blocks s past = get_or_past blocks s (block_count blocks) past
+
+pub read_below : (blocks : List ℕ) (s : ℕ) → s < length blocks → read_by blocks s < block_count blocks
+read_below blocks s below = all_within_count blocks s (block_count blocks) below
+
+-- only a symbol has a letter
+pub is_symbol : (blocks : List ℕ) (s : ℕ) → read_by blocks s < block_count blocks → s < length blocks
+is_symbol blocks s letter =
+    elim (cases_lt s (length blocks)) [
+      | inl below ↦ below
+      | inr past ↦ absurd (omega (arith, letter, read_past blocks s past))
+    ]
+
+pub is_symbol_of : (blocks : List ℕ) (set : List Bool) (s : ℕ) → length set ≡ block_count blocks → has set (read_by blocks s) ≡ true → s < length blocks
+is_symbol_of blocks set s size among =
+    let letter : read_by blocks s < length set = has_below set (read_by blocks s) among in
+    is_symbol blocks s (omega (arith, letter, size))
+
+some_block_from : (blocks : List ℕ) (k : ℕ) → k < block_count blocks → (s : ℕ) × (s < length blocks) × (k ≤ get_or blocks s 0)
+unfolding block_count
+some_block_from [] k below = absurd (omega arith)
+some_block_from (b ∷ others) k below =
+    elim (cases_lt k (b + 1)) [
+      | inl first ↦ (0, omega arith, omega arith)
+      | inr rest ↦ let found = some_block_from others k (omega arith) in (suc found.0, omega (arith, found.1), found.2)
+    ]
+
+-- each letter is the letter of a symbol
+pub covered : (blocks : List ℕ) → IsPartition blocks → Covers (read_by blocks) (block_count blocks)
+covered blocks is k below =
+    let found = some_block_from blocks k below in
+    elim (cases_lt k (block_of blocks found.0)) [
+      | inl less ↦
+          let earlier = is.by_least found.0 k found.1 less in
+          (earlier.0, read_symbol blocks earlier.0 (omega (arith, earlier.1, found.1)) ∙ earlier.2)
+      | inr same ↦ (found.0, read_symbol blocks found.0 found.1 ∙ omega (arith, found.2, same))
+    ]
