@@ -1,8 +1,8 @@
 -- The devices and the prefixes of the tables, by the places of the tables.
-use Rattle.std.proofs.Common.{◌≡◌, ◌∙◌, refl, sym, ap, subst, ℕ, zero, suc, ◌+◌, ◌<◌, ◌≤◌, Bool, true, false, ◌||◌, not, cond, eqb, ltb, List, [], ◌∷◌, ◌++◌, length, map, get_or, take, drop, Option, Some, None, arith}
+use Rattle.std.proofs.Common.{◌≡◌, ◌∙◌, refl, sym, ap, subst, ℕ, zero, suc, ◌+◌, ◌<◌, ◌≤◌, Bool, true, false, not, cond, ltb, List, [], ◌∷◌, ◌++◌, length, map, get_or, take, drop, Option, Some, None, arith}
 use Rattle.std.specs.Prelude.{find, ◌==◌, nat_eq, slice_get, position, option_map}
-use Rattle.std.specs.Option.{option_map_or, option_copied}
-use Rattle.std.specs.List.{All, Contains, AllByRecursion, IsDistinct, list_any, position_or_len}
+use Rattle.std.specs.Option.{option_map_or}
+use Rattle.std.specs.List.{All, AllByRecursion, IsDistinct, list_any, position_or_len}
 use Rattle.std.proofs.lemmas.Bool.{eq-eqb, eqb-true, ltb-true, ltb-false, false_from_ne_true}
 use Rattle.std.proofs.lemmas.List.{length-map, map-append, drop_more, take_more, take-append-drop}
 use Rattle.std.proofs.lemmas.List.Folds.{find_at}
@@ -10,8 +10,8 @@ use Rattle.std.proofs.lemmas.Option.{slice_get-map, slice_get_within, slice_get_
 use Rattle.std.proofs.lemmas.List.Elements.{All-nil, All-cons, All-head, All-tail}
 use Rattle.rela_flows.specs.declared.prefix.Ipv4Prefix.{Ipv4Prefix}
 use Rattle.rela_prefixes.specs.Holding.{Holds}
-use Rattle.rela_prefixes.specs.Longest.{IsLongest, Longest, LongestWanted}
-use Rattle.rela_tables.specs.Chosen.{Chosen, ChosenOf, IsChosen}
+use Rattle.rela_prefixes.specs.Longest.{Longest, LongestWanted}
+use Rattle.rela_tables.specs.Chosen.{Chosen, ChosenOf}
 use Rattle.rela_tables.specs.Distinct.{devices_of}
 use Rattle.rela_tables.specs.Forwarding.{Forwarding, routes_of}
 use Rattle.rela_tables.specs.declared.route.Route.{Route}

@@ -1,16 +1,16 @@
 -- All addresses of a class choose alike.
-use Rattle.std.proofs.Common.{◌≡◌, ◌∙◌, refl, sym, ap, subst, ℕ, ◌+◌, ◌*◌, ◌^◌, ◌<◌, ◌≤◌, ◌↔◌, Bool, true, false, cond, List, [], ◌∷◌, ◌++◌, length, map, get_or, Option, Some, None, ⊎_elim, arith}
+use Rattle.std.proofs.Common.{◌≡◌, ◌∙◌, ap, ℕ, ◌*◌, ◌^◌, ◌<◌, ◌≤◌, Bool, true, false, cond, List, [], ◌∷◌, ◌++◌, length, get_or, Option, Some, None, ⊎_elim, arith}
 use Rattle.std.specs.Prelude.{find, ◌==◌}
 use Rattle.std.specs.Option.{option_map_or}
-use Rattle.std.specs.List.{All, Contains, flat_map}
+use Rattle.std.specs.List.{All}
 use Rattle.std.proofs.lemmas.Bool.{cases_lt}
-use Rattle.std.proofs.lemmas.List.{length-append, length-map, map-append}
-use Rattle.std.proofs.lemmas.List.Elements.{All-nil, All-cons, All-head, All-tail, All-contains, All-weaker, All-contains_itself}
+use Rattle.std.proofs.lemmas.List.{length-append, length-map}
+use Rattle.std.proofs.lemmas.List.Elements.{All-nil, All-cons, All-head, All-tail, All-contains, All-weaker}
 use Rattle.rela_flows.specs.declared.prefix.Ipv4Prefix.{Ipv4Prefix}
 use Rattle.rela_prefixes.specs.Classes.{AreClasses, IsClass}
 use Rattle.rela_prefixes.specs.Holding.{Holds, IsStrictlyWithin}
 use Rattle.rela_prefixes.proofs.Nesting.{all_held, first_held, within_from_first}
-use Rattle.rela_tables.specs.Chosen.{Chosen, ChosenOf, IsChosen}
+use Rattle.rela_tables.specs.Chosen.{ChosenOf}
 use Rattle.rela_tables.specs.Distinct.{AreTables, IsTable}
 use Rattle.rela_tables.specs.Forwarding.{Forwarding, routes_of}
 use Rattle.rela_tables.specs.declared.route.Route.{Route}

@@ -1,5 +1,5 @@
 -- The prefixes of the routes of some tables.
-use Rattle.std.specs.Prelude.{ℕ, List, ◌++◌, map}
+use Rattle.std.specs.Prelude.{List, ◌++◌, map}
 use Rattle.std.specs.List.{flat_map}
 use Rattle.rela_flows.specs.declared.prefix.Ipv4Prefix.{Ipv4Prefix}
 use Rattle.rela_tables.specs.Forwarding.{Forwarding}

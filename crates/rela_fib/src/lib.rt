@@ -4,6 +4,11 @@
 
 mod choices;
 mod classes;
+mod graph;
+mod nodes;
+mod numbers;
 
 pub use choices::Choices;
 pub use classes::address_classes;
+pub use graph::{ForwardingGraph, graph_at, places_of};
+pub use nodes::nodes_of;

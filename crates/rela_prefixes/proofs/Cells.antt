@@ -1,9 +1,8 @@
 -- A prefix as a range of addresses, and its two halves.
-use Rattle.std.proofs.Common.{◌≡◌, ◌∙◌, sym, ap, subst, ℕ, ◌+◌, ◌-◌, ◌*◌, ◌/◌, ◌%◌, ◌^◌, ◌<◌, ◌≤◌, arith}
+use Rattle.std.proofs.Common.{◌≡◌, ◌∙◌, sym, ap, ℕ, ◌+◌, ◌-◌, ◌*◌, ◌/◌, ◌%◌, ◌^◌, ◌<◌, ◌≤◌, arith}
 use Rattle.std.proofs.lemmas.Nat.{pow-add, pow_pos, div-add-mod', div-mul-add, mod-mul-add, mod_below}
-use Rattle.rela_flows.specs.Address.{AgreeInFirst}
 use Rattle.rela_flows.specs.declared.prefix.Ipv4Prefix.{Ipv4Prefix}
-use Rattle.rela_flows.proofs.FirstBits.{IsBlock, own_number, block_fits}
+use Rattle.rela_flows.proofs.FirstBits.{own_number, block_fits}
 use Rattle.rela_flows.proofs.PrefixSets.{block4}
 use Rattle.rela_prefixes.specs.Holding.{Holds}
 

@@ -1,21 +1,19 @@
 -- What is known of a cell, of its halves, and of the leaf that it is where nothing cuts it.
-use Rattle.std.proofs.Common.{◌≡◌, ◌≢◌, ◌∙◌, refl, sym, ap, subst, ℕ, zero, suc, ◌+◌, ◌-◌, ◌^◌, ◌<◌, ◌≤◌, ◌↔◌, ◌⊎◌, ⊎_elim, inl, inr, Bool, true, false, not, ◌&&◌, cond, eqb, ltb, List, [], ◌∷◌, ◌++◌, length, get_or, Option, Some, None, IfSome, IfNone, arith}
+use Rattle.std.proofs.Common.{◌≡◌, ◌≢◌, ◌∙◌, sym, ap, subst, ℕ, zero, suc, ◌<◌, ◌≤◌, ◌↔◌, ◌⊎◌, ⊎_elim, inl, inr, Bool, true, false, cond, List, [], ◌∷◌, length, get_or, Option, Some, None, IfSome, IfNone, arith}
 use Rattle.std.specs.Prelude.{slice_get}
-use Rattle.std.specs.List.{All, Any, Contains, filter}
+use Rattle.std.specs.List.{All, Contains, filter}
 use Rattle.std.specs.Option.{option_or}
-use Rattle.std.proofs.lemmas.Bool.{cases_lt, eq-eqb, eqb-true, lt-ltb, le-ltb, ltb-true, ltb-false, false≢true}
-use Rattle.std.proofs.lemmas.List.Elements.{All-contains, All-filter, filter_passes, Contains-append_right}
+use Rattle.std.proofs.lemmas.Bool.{cases_lt}
+use Rattle.std.proofs.lemmas.List.Elements.{All-contains, Contains-append_right}
 use Rattle.std.proofs.lemmas.Option.{slice_get-get_or, slice_get_within, get_or_from_slice_get}
 use Rattle.rela_flows.specs.declared.prefix.Ipv4Prefix.{Ipv4Prefix}
-use Rattle.rela_prefixes.specs.declared.leaf.Leaf.{Leaf}
 use Rattle.rela_prefixes.specs.declared.leaf.Numbered.{Numbered}
-use Rattle.rela_prefixes.specs.Classes.{IsClass, IsCut, IsParent}
 use Rattle.rela_prefixes.specs.Holding.{Holds, IsStrictlyWithin}
-use Rattle.rela_prefixes.specs.Inside.{AreInside, IsAbove, IsInside, IsKnown, IsNumbered, IsReached, LongestAbove, middle_of}
+use Rattle.rela_prefixes.specs.Inside.{AreInside, IsAbove, IsKnown, IsNumbered}
 use Rattle.rela_prefixes.specs.Leaves.{IsLeaf}
-use Rattle.rela_prefixes.specs.Longest.{IsLongest, Longest, LongestWanted}
+use Rattle.rela_prefixes.specs.Longest.{Longest, LongestWanted}
 use Rattle.rela_prefixes.specs.Split.{is_low, is_high, IsHere, NoneHere}
-use Rattle.rela_prefixes.proofs.Cells.{size, from_first, before_end, holds_from, holds_own, half_is_size, two_halves}
+use Rattle.rela_prefixes.proofs.Cells.{holds_own}
 use Rattle.rela_prefixes.proofs.Nesting.{all_held, first_held, within_from_first, first_of_within}
 use Rattle.rela_prefixes.proofs.Splitting.{low_below, high_above}
 

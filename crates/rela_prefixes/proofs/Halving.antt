@@ -1,7 +1,6 @@
 -- What is known of the halves of a cell, and the leaves of a cell from those of its halves.
-use Rattle.std.proofs.Common.{◌≡◌, ◌≢◌, ◌∙◌, refl, sym, ap, subst, ℕ, ◌+◌, ◌-◌, ◌^◌, ◌<◌, ◌≤◌, ◌↔◌, ◌⊎◌, ⊎_elim, inl, inr, Bool, true, false, not, ◌&&◌, ◌||◌, cond, eqb, ltb, List, [], ◌∷◌, ◌++◌, length, map, get_or, Option, Some, None, IfSome, IfNone, append_assoc, arith}
-use Rattle.std.specs.Prelude.{slice_get}
-use Rattle.std.specs.List.{All, Any, Contains, filter}
+use Rattle.std.proofs.Common.{◌≡◌, ◌∙◌, refl, sym, ap, subst, ℕ, ◌+◌, ◌-◌, ◌^◌, ◌<◌, ◌≤◌, ⊎_elim, inr, Bool, true, false, not, ◌&&◌, ◌||◌, cond, eqb, ltb, List, [], ◌∷◌, ◌++◌, length, get_or, Option, IfSome, IfNone, append_assoc, arith}
+use Rattle.std.specs.List.{All, Contains, filter}
 use Rattle.std.specs.Option.{option_or}
 use Rattle.std.proofs.lemmas.Bool.{cases_lt, eq-eqb, eqb-true, lt-ltb, ltb-true, ltb-false}
 use Rattle.std.proofs.lemmas.List.{map-append}
@@ -11,15 +10,15 @@ use Rattle.rela_flows.specs.declared.prefix.Ipv4Prefix.{Ipv4Prefix}
 use Rattle.rela_prefixes.specs.declared.leaf.Halves.{Halves}
 use Rattle.rela_prefixes.specs.declared.leaf.Leaf.{Leaf}
 use Rattle.rela_prefixes.specs.declared.leaf.Numbered.{Numbered}
-use Rattle.rela_prefixes.specs.Classes.{Adjoin, IsCut, IsParent}
+use Rattle.rela_prefixes.specs.Classes.{Adjoin, IsCut}
 use Rattle.rela_prefixes.specs.Holding.{Holds, IsStrictlyWithin}
-use Rattle.rela_prefixes.specs.Inside.{AreInside, IsAbove, IsInside, IsKnown, IsNumbered, IsReached, LongestAbove, middle_of}
-use Rattle.rela_prefixes.specs.Leaves.{AreLeaves, HasLeaves, IsLeaf, cells}
+use Rattle.rela_prefixes.specs.Inside.{AreInside, IsAbove, IsInside, IsKnown, IsNumbered, LongestAbove, middle_of}
+use Rattle.rela_prefixes.specs.Leaves.{HasLeaves, IsLeaf, cells}
 use Rattle.rela_prefixes.specs.Longest.{LongestWanted}
-use Rattle.rela_prefixes.specs.Split.{is_low, is_high, is_uncut, IsHere, NoneHere}
+use Rattle.rela_prefixes.specs.Split.{is_low, is_high, IsHere, NoneHere}
 use Rattle.rela_prefixes.proofs.Cells.{size, from_first, before_end, holds_from, holds_own, half_is_size, two_halves}
 use Rattle.rela_prefixes.proofs.Cutting.{UpTo, longest_same, longest_up_to, Contains-filter, leaf_is, uncut_when_empty, uncut_when_one}
-use Rattle.rela_prefixes.proofs.Nesting.{all_held, first_held, within_from_first}
+use Rattle.rela_prefixes.proofs.Nesting.{all_held, within_from_first}
 use Rattle.rela_prefixes.proofs.Splitting.{low_below, high_above}
 
 pub middle_is : (cell : Ipv4Prefix) → cell.length < 32 → middle_of cell ≡ cell.address + 2 ^ (31 - cell.length)

@@ -1,10 +1,10 @@
 -- How prefixes lie to one another.
-use Rattle.std.proofs.Common.{◌≡◌, ◌∙◌, sym, ap, subst, ℕ, ◌+◌, ◌-◌, ◌/◌, ◌^◌, ◌<◌, ◌≤◌, arith}
+use Rattle.std.proofs.Common.{◌≡◌, ◌∙◌, sym, ℕ, ◌<◌, ◌≤◌, arith}
 use Rattle.rela_flows.specs.declared.prefix.Ipv4Prefix.{Ipv4Prefix}
 use Rattle.rela_flows.proofs.FirstBits.{coarser, covered}
 use Rattle.rela_flows.proofs.SamePrefix.{same4}
 use Rattle.rela_prefixes.specs.Holding.{Holds, IsStrictlyWithin}
-use Rattle.rela_prefixes.proofs.Cells.{size, from_first, before_end, holds_own}
+use Rattle.rela_prefixes.proofs.Cells.{from_first, holds_own}
 
 -- a prefix that holds the first address of a longer one holds all of it
 pub all_held : (p q : Ipv4Prefix) → q.length ≤ p.length → Holds q p.address → (a : ℕ) → Holds p a → Holds q a

@@ -1,18 +1,17 @@
 -- Leaves that follow one another: where an address lies, and which classes they are.
-use Rattle.std.proofs.Common.{◌≡◌, ◌∙◌, refl, sym, ap, subst, ℕ, zero, suc, ◌+◌, ◌-◌, ◌^◌, ◌<◌, ◌≤◌, ◌⊎◌, ⊎_elim, inl, inr, Bool, true, false, leb, List, [], ◌∷◌, ◌++◌, length, map, get_or, Option, Some, None, arith}
+use Rattle.std.proofs.Common.{◌≡◌, ◌∙◌, refl, sym, ap, subst, ℕ, zero, suc, ◌+◌, ◌-◌, ◌^◌, ◌<◌, ◌≤◌, ⊎_elim, inl, List, [], ◌∷◌, ◌++◌, length, get_or, Option, Some, None, arith}
 use Rattle.std.specs.Prelude.{slice_get, option_map}
-use Rattle.std.specs.List.{All, AllWithin, Any, Contains}
+use Rattle.std.specs.List.{All, Contains}
 use Rattle.std.specs.List.Sorted.{IsNonDecreasingBy, IsPartitionPoint}
 use Rattle.std.proofs.lemmas.Bool.{cases_lt}
-use Rattle.std.proofs.lemmas.List.{length-map}
 use Rattle.std.proofs.lemmas.List.Elements.{All-cons, All-map, All-weaker}
 use Rattle.std.proofs.lemmas.Option.{slice_get-map, slice_get-get_or, slice_get_within, get_or_from_slice_get, none-some, same_Some}
 use Rattle.rela_flows.specs.declared.prefix.Ipv4Prefix.{Ipv4Prefix}
 use Rattle.rela_prefixes.specs.declared.leaf.Leaf.{Leaf}
 use Rattle.rela_prefixes.specs.declared.leaf.Numbered.{Numbered}
-use Rattle.rela_prefixes.specs.Classes.{Adjoin, AreClasses, IsClass, IsCut, IsInOne, IsParent}
+use Rattle.rela_prefixes.specs.Classes.{Adjoin, AreClasses, IsClass, IsInOne, IsParent}
 use Rattle.rela_prefixes.specs.Holding.{Holds, IsStrictlyWithin}
-use Rattle.rela_prefixes.specs.Inside.{AreInside, AreNumbered, IsAbove, IsInside, IsKnown, IsNumbered}
+use Rattle.rela_prefixes.specs.Inside.{AreNumbered, IsAbove, IsInside, IsKnown, IsNumbered}
 use Rattle.rela_prefixes.specs.Leaves.{AreLeaves, HasLeaves, IsLeaf, cells}
 use Rattle.rela_prefixes.specs.Longest.{Longest, LongestWanted}
 use Rattle.rela_prefixes.proofs.Cells.{size, from_first, before_end, holds_from, holds_own}

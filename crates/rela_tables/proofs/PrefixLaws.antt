@@ -1,5 +1,5 @@
 -- What a text answers as an IPv4 prefix, from what it is read as.
-use Rattle.std.proofs.Common.{◌≡◌, ◌∙◌, ℕ, List, Option, Some, None, Result, Ok, Err, ◌↔◌, refl, sym, ap, subst}
+use Rattle.std.proofs.Common.{◌≡◌, ◌∙◌, ℕ, List, Option, Some, None, Result, Ok, Err, ◌↔◌, refl, sym, ap}
 use Rattle.rela_json.specs.declared.error.LoadError.{LoadError}
 use Rattle.rela_json.specs.declared.error.LoadError.TheVariants.{BadPrefix}
 use Rattle.rela_flows.specs.Notation.{IsTextOf}

@@ -1,10 +1,9 @@
 -- What routes, tables and a file answer, from what their parts answer.
-use Rattle.std.proofs.Common.{◌≡◌, ◌≢◌, ◌∙◌, ℕ, ◌+◌, ◌<◌, ◌≤◌, Bool, true, false, cond, List, [], ◌∷◌, ◌++◌, length, map, Option, Some, None, Result, Ok, Err, refl, sym, ap, subst, arith, nat_eq}
-use Rattle.std.specs.Prelude.{IfOk, IfErr}
+use Rattle.std.proofs.Common.{◌≡◌, ◌≢◌, ℕ, ◌+◌, true, false, List, [], ◌∷◌, ◌++◌, Option, Some, None, Result, Ok, Err, refl, sym, ap, subst}
 use Rattle.std.specs.List.{list_any}
 use Rattle.serde_json.specs.Data.{Data}
 use Rattle.rela_json.specs.declared.error.LoadError.{LoadError}
-use Rattle.rela_json.specs.declared.error.LoadError.TheVariants.{BadPrefix, NotJson, Memory, RepeatedEntry}
+use Rattle.rela_json.specs.declared.error.LoadError.TheVariants.{NotJson, Memory, RepeatedEntry}
 use Rattle.rela_json.specs.declared.error.ReadJsonError.{ReadJsonError}
 use Rattle.rela_json.specs.declared.error.ReadJsonError.TheVariants as read
 use Rattle.rela_json.specs.LoadErrors.{load_error}

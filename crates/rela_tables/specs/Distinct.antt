@@ -2,7 +2,6 @@
 use Rattle.std.specs.Prelude.{ℕ, ◌≤◌, ◌==◌, ◌&&◌, Bool, List, length, map, nat_eq}
 use Rattle.std.specs.List.{All, IsDistinct}
 use Rattle.rela_flows.specs.declared.prefix.Ipv4Prefix.{Ipv4Prefix}
-use Rattle.rela_tables.specs.Forwarding.{Forwarding}
 use Rattle.rela_tables.specs.declared.route.Route.{Route}
 use Rattle.rela_tables.specs.declared.table.Table.{Table}
 

@@ -1,5 +1,5 @@
 -- Which tables speak of locations of a network.
-use Rattle.std.specs.Prelude.{ℕ, ◌<◌, List, length, Option, IfSome}
+use Rattle.std.specs.Prelude.{ℕ, ◌<◌, List, length, IfSome}
 use Rattle.std.specs.List.{All}
 use Rattle.rela_names.specs.declared.level.Level.TheVariants.{Interface, Device}
 use Rattle.rela_locations.specs.Network.{Network, alphabet_of}

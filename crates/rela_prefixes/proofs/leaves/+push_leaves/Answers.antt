@@ -1,4 +1,4 @@
-use Rattle.std.proofs.Common.{◌≡◌, ◌∙◌, sym, refl, true, false, Result, Ok, Err, OnOk, arith}
+use Rattle.std.proofs.Common.{◌∙◌, sym, refl}
 use Rattle.rela_prefixes.proofs.Halving.{IsParted, IsLowHalf, IsHighHalf, leaf_added, halves_added, short_when}
 use Rattle.rela_prefixes.proofs.leaves.+push_leaves.Goals as goal
 

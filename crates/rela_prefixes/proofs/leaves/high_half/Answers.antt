@@ -1,4 +1,4 @@
-use Rattle.std.proofs.Common.{◌≡◌, ◌+◌, ◌%◌, ◌-◌, ◌^◌, sym, subst, arith, rules}
+use Rattle.std.proofs.Common.{◌≡◌, ◌+◌, ◌%◌, sym, subst, arith}
 use Rattle.rela_prefixes.proofs.Cells.{size, middle_zeros, middle_fits}
 use Rattle.rela_prefixes.proofs.leaves.high_half.Goals as goal
 

@@ -1,6 +1,5 @@
 use Rattle.std.proofs.Common.{arith}
 use Rattle.rela_prefixes.proofs.Cells.{first_zeros}
-use Rattle.rela_prefixes.proofs.Nesting.{same_prefix}
 use Rattle.rela_prefixes.proofs.leaves.low_half.Goals as goal
 
 pub invariant_of-result : goal.invariant_of-result

@@ -1,6 +1,6 @@
-use Rattle.std.proofs.Common.{◌≡◌, ◌∙◌, ◌+◌, sym, ap, take, ◌++◌, ◌∷◌, [], rules, arith}
+use Rattle.std.proofs.Common.{◌≡◌, ◌∙◌, ◌+◌, sym, ap, take, ◌++◌, ◌∷◌, []}
 use Rattle.std.proofs.lemmas.List.{take_more}
-use Rattle.rela_prefixes.proofs.Splitting.{IsSplit, split_none, split_here, split_low, split_high}
+use Rattle.rela_prefixes.proofs.Splitting.{split_none, split_here, split_low, split_high}
 use Rattle.rela_prefixes.proofs.split.split.Goals as goal
 use Rattle.rela_prefixes.proofs.split.split.Goals.{then-numbered-length, else-numbered-length+then-numbered-middle+in_ok-push, else-numbered-length+else-numbered-middle+in_ok-push-2}
 

@@ -1,4 +1,3 @@
-use Rattle.std.proofs.Common.{subst}
 use Rattle.rela_names.specs.declared.level.Level.TheVariants.{Device}
 use Rattle.rela_locations.specs.Network.{alphabet_of}
 use Rattle.rela_snapshot.proofs.Places.{is_place, found_within}

@@ -4,7 +4,7 @@ use Rattle.rela_tables.specs.Distinct.{IsTable}
 use Rattle.rela_tables.specs.Located.{IsTableIn}
 use Rattle.rela_tables.proofs.Kept.{All-more, devices_more, count_more, as_many, are_tables, few_more, room_more}
 use Rattle.rela_tables.proofs.Loops.{left_next, left_none}
-use Rattle.rela_tables.proofs.WalkLaws.{no_tables_yet, table_ends, table_goes_on, all_tables}
+use Rattle.rela_tables.proofs.WalkLaws.{table_ends, table_goes_on, all_tables}
 use Rattle.rela_tables.proofs.table.read_tables.Goals as goal
 
 pub returns-in_err-table-clause-fault : goal.returns-in_err-table-clause-fault

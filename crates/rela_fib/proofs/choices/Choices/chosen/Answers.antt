@@ -1,5 +1,4 @@
-use Rattle.std.proofs.Common.{◌≡◌, None, subst, arith}
-use Rattle.std.specs.Option.{option_copied}
+use Rattle.std.proofs.Common.{None, subst}
 use Rattle.std.specs.Prelude.{Some}
 use Rattle.rela_tables.specs.Chosen.{Chosen}
 use Rattle.rela_fib.proofs.Indexing.{no_device, is_place, place_none, place_routes, place_bound, place_route}

@@ -1,8 +1,5 @@
 use Rattle.std.proofs.Common.{◌-◌, ◌^◌, sym, subst, arith}
-use Rattle.std.specs.List.Sorted.{IsNonDecreasingBy}
-use Rattle.rela_prefixes.specs.declared.leaf.Leaf.{Leaf}
 use Rattle.rela_prefixes.specs.Leaves.{AreLeaves}
-use Rattle.rela_prefixes.specs.Longest.{Longest}
 use Rattle.rela_prefixes.proofs.Order.{rising, found_at, longest_at}
 use Rattle.rela_prefixes.proofs.table.PrefixTable.longest.Goals as goal
 
