@@ -1,0 +1,3 @@
+pub mod Uniform
+pub mod Indexing
+pub mod Graphs

@@ -1,0 +1,6 @@
+pub mod Cells
+pub mod Nesting
+pub mod Splitting
+pub mod Cutting
+pub mod Halving
+pub mod Order

@@ -1,0 +1,36 @@
+//! The classes of addresses that some prefixes cut.
+
+ghost use Rattle.std.specs.Prelude.{◌≡◌, ◌<◌, ◌^◌, IfOk, length};
+ghost use Rattle.rela_prefixes.specs.Classes.{AreClasses};
+ghost use Rattle.rela_prefixes.specs.Leaves.{cells};
+
+use crate::leaf::Leaf;
+use crate::table::leaves_of;
+use rela_flows::Ipv4Prefix;
+use std::alloc::{AllocError, Global};
+
+/// The classes of addresses that these prefixes cut, in the order of their addresses.
+///
+/// A class is a prefix of which no given one is a proper part, and which either is all addresses, or
+/// whose parent, one bit shorter, has some given prefix as a proper part. Each address lies in just
+/// one class, and each given prefix holds all addresses of a class or none. Time and space are linear
+/// in the number of prefixes times the 32 bits of an address.
+///
+/// # Errors
+///
+/// Only where memory is wanted.
+pub fn classes_of(alloc: Global, prefixes: &[Ipv4Prefix]) -> Result<Vec<Ipv4Prefix>, AllocError>
+    requires { length prefixes.now < 2 ^ 32 }
+    ensures { IfOk result (λ classes. AreClasses prefixes.now classes.items) }
+{
+    let leaves = leaves_of(alloc, prefixes)?;
+    let classes = cells_of(alloc, leaves.as_slice())?;
+    Ok(classes)
+}
+
+/// The addresses of these leaves.
+fn cells_of(alloc: Global, leaves: &[Leaf]) -> Result<Vec<Ipv4Prefix>, AllocError>
+    ensures { IfOk result (λ found. found.items ≡ cells leaves.now) }
+{
+    leaves.iter().map(|leaf| leaf.cell).collect(alloc)
+}

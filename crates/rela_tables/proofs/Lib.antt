@@ -1,0 +1,4 @@
+pub mod Loops
+pub mod WalkLaws
+pub mod PrefixLaws
+pub mod Kept

@@ -1,0 +1,10 @@
+pub mod Forwarding
+pub mod Chosen
+pub mod Located
+pub mod Distinct
+pub mod RouteParts
+pub mod Routes
+pub mod Entries
+pub mod Starts
+pub mod TableParts
+pub mod Load

@@ -1,0 +1,13 @@
+//! The forwarding tables of a network's devices, read from a JSON file.
+#![tactic(auto)]
+
+mod parts;
+mod route;
+mod starts;
+mod symbols;
+mod table;
+mod tables;
+
+pub use route::{MAX_ROUTES, Route};
+pub use table::{MAX_TABLES, Table};
+pub use tables::Tables;

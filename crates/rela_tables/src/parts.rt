@@ -1,0 +1,70 @@
+//! The parts of a JSON value, each with the rule that it breaks where it is of another kind.
+
+ghost use Rattle.std.specs.Prelude.{◌≡◌, ◌≤◌, Ok, Err, Some, IfOk, IfErr, length, map, option_map};
+ghost use Rattle.serde_json.specs.View.{view};
+ghost use Rattle.rela_snapshot.specs.Parts.{part_of, string_of, entries_of, whole_number_of, few_entries_of};
+
+use rela_json::{LoadError, Value, array, member, number, text};
+
+/// An object's member, if it has one of that name.
+#[tactic(auto, unfolding(rela_snapshot::specs::Parts::part_of))]
+pub(crate) fn part<'a>(
+    value: &'a Value,
+    name: &str,
+    rule: u8,
+    row: u32,
+) -> Result<Option<&'a Value>, LoadError>
+    ensures found { IfOk result (λ m. part_of name.now rule row (view value.now) ≡ Ok (option_map (λ v. view v.now) m)) }
+    ensures fault { IfErr result (λ e. part_of name.now rule row (view value.now) ≡ Err e) }
+{
+    member(value, name).map_err(|_| LoadError::WrongShape { rule, row })
+}
+
+/// The bytes of a string that has to be there.
+#[tactic(auto, unfolding(rela_snapshot::specs::Parts::string_of))]
+pub(crate) fn string(value: Option<&Value>, rule: u8, row: u32) -> Result<&[u8], LoadError>
+    ensures found { IfOk result (λ bytes. string_of rule row (option_map (λ v. view v.now) value.entry) ≡ Ok bytes.now) }
+    ensures fault { IfErr result (λ e. string_of rule row (option_map (λ v. view v.now) value.entry) ≡ Err e) }
+{
+    let value = value.ok_or(LoadError::WrongShape { rule, row })?;
+    text(value).map_err(|_| LoadError::WrongShape { rule, row })
+}
+
+/// The entries of an array that has to be there.
+#[tactic(auto, unfolding(rela_snapshot::specs::Parts::entries_of))]
+pub(crate) fn entries(value: Option<&Value>, rule: u8, row: u32) -> Result<&[Value], LoadError>
+    ensures found { IfOk result (λ vs. entries_of rule row (option_map (λ v. view v.now) value.entry) ≡ Ok (map view vs.now)) }
+    ensures fault { IfErr result (λ e. entries_of rule row (option_map (λ v. view v.now) value.entry) ≡ Err e) }
+{
+    let value = value.ok_or(LoadError::WrongShape { rule, row })?;
+    array(value).map_err(|_| LoadError::WrongShape { rule, row })
+}
+
+/// A whole number that has to be there.
+#[tactic(auto, unfolding(rela_snapshot::specs::Parts::whole_number_of))]
+pub(crate) fn whole_number(value: Option<&Value>, rule: u8, row: u32) -> Result<u64, LoadError>
+    ensures found { IfOk result (λ n. whole_number_of rule row (option_map (λ v. view v.now) value.entry) ≡ Ok n) }
+    ensures fault { IfErr result (λ e. whole_number_of rule row (option_map (λ v. view v.now) value.entry) ≡ Err e) }
+{
+    let value = value.ok_or(LoadError::WrongShape { rule, row })?;
+    number(value).map_err(|_| LoadError::WrongShape { rule, row })
+}
+
+/// The entries of an array that has to be there and has no more than so many.
+#[tactic(auto, unfolding(rela_snapshot::specs::Parts::few_entries_of))]
+pub(crate) fn few_entries(
+    value: Option<&Value>,
+    most: usize,
+    rule: u8,
+    row: u32,
+) -> Result<&[Value], LoadError>
+    ensures found { IfOk result (λ vs. few_entries_of most rule row (option_map (λ v. view v.now) value.entry) ≡ Ok (map view vs.now)) }
+    ensures few { IfOk result (λ vs. length vs.now ≤ most) }
+    ensures fault { IfErr result (λ e. few_entries_of most rule row (option_map (λ v. view v.now) value.entry) ≡ Err e) }
+{
+    let found = entries(value, rule, row)?;
+    if most < found.len() {
+        return Err(LoadError::TooMany { row });
+    }
+    Ok(found)
+}
