@@ -331,7 +331,8 @@ class SmallInput:
         paths = [self.path(self.depth) for _ in range(count)]
         zone = self.one([".*", f"{self.symbol()} .*", f".* {self.symbol()} .*"])
         zone = self.one([zone, self.path(self.depth)])
-        return f"{{ {zone} : {modifier}{f'({chr(44).join(paths)})' if paths else ''} }}"
+        inside = f"({', '.join(paths)})" if paths else ""
+        return f"{{ {zone} : {modifier}{inside} }}"
 
     def path(self, depth):
         """A path expression, in parentheses where it has parts."""
