@@ -37,6 +37,7 @@ from inputs import LEVELS, Graph, Locations, SmallInput, Spec, Term, read_snapsh
 
 FILES = ["before.json", "after.json", "locations.json", "spec.txt"]
 MOST_GIVEN, MOST_RANDOM = 4_000_000, 5_000
+SECONDS = 300
 
 
 class TooLarge(Exception):
@@ -448,7 +449,11 @@ def differences(program, folder, rows):
     found = []
     for limit in range(1, 101):
         words = [program, "check", "--states", str(limit), *FILES]
-        done = subprocess.run(words, cwd=folder, capture_output=True, timeout=60, check=False)
+        try:
+            done = subprocess.run(words, cwd=folder, capture_output=True, timeout=SECONDS)
+        except subprocess.TimeoutExpired:
+            found.append(f"limit {limit}: no answer within {SECONDS} seconds")
+            continue
         report = done.stdout.decode("latin-1")
         found += [f"limit {limit}: {f}" for f in faults(rows, limit, report, done.returncode)]
     return found
