@@ -4,7 +4,7 @@ ghost use Rattle.std.specs.Prelude.{◌≤◌, IfOk};
 ghost use Rattle.rela_flows.specs.Selects.{depth};
 
 use rela_flows::{FlowClass, Ipv4Prefix, Ipv6Prefix, PlannedRow, Predicate, Prefix, plan, selects};
-use rela_names::{List, Name};
+use rela_names::{List, Name, NameError};
 use std::alloc::{AllocError, Global};
 use std::test::Fail;
 
@@ -47,35 +47,49 @@ fn refuses_what_is_no_prefix(rt: HostRuntime) {
     }
 }
 
-fn prefix(text: &[u8]) -> Result<Prefix, Fail> {
-    Ok(Prefix::parse(text).ok_or("no prefix")?)
+/// Whether the one prefix lies within the other, and whether they overlap.
+fn compared(one: &[u8], other: &[u8]) -> Option<[bool; 2]> {
+    let one = Prefix::parse(one)?;
+    let other = Prefix::parse(other)?;
+    Some([one.within(&other), one.overlaps(&other)])
 }
 
 #[test]
-fn compares_prefixes(rt: HostRuntime) -> Result<(), Fail> {
-    let wide = prefix(b"10.0.0.0/8")?;
-    let narrow = prefix(b"10.1.0.0/16")?;
-    let apart = prefix(b"11.0.0.0/8")?;
-    let six = prefix(b"a00::/8")?;
-    assert!(rt; narrow.within(&wide));
-    assert!(rt; wide.within(&wide));
-    assert!(rt; !wide.within(&narrow));
-    assert!(rt; wide.overlaps(&narrow));
-    assert!(rt; !wide.overlaps(&apart));
-    assert!(rt; !wide.overlaps(&six));
-    Ok(())
+fn compares_prefixes(rt: HostRuntime) {
+    for (one, other, found) in [
+        (
+            b"10.1.0.0/16".as_slice(),
+            b"10.0.0.0/8".as_slice(),
+            [true, true],
+        ),
+        (b"10.0.0.0/8", b"10.0.0.0/8", [true, true]),
+        (b"10.0.0.0/8", b"10.1.0.0/16", [false, true]),
+        (b"10.0.0.0/8", b"11.0.0.0/8", [false, false]),
+        (b"10.0.0.0/8", b"a00::/8", [false, false]),
+    ] {
+        assert_eq!(rt; compared(one, other), Some(found), "{one:?} {other:?}");
+    }
+}
+
+/// Whether the prefix lies within all addresses of each family.
+fn within_all(text: &[u8]) -> Option<[bool; 2]> {
+    let prefix = Prefix::parse(text)?;
+    Some([
+        prefix.within(&Prefix::V4(Ipv4Prefix::all())),
+        prefix.within(&Prefix::V6(Ipv6Prefix::all())),
+    ])
 }
 
 #[test]
-fn compares_with_all_addresses(rt: HostRuntime) -> Result<(), Fail> {
-    let four = prefix(b"10.0.0.0/8")?;
-    let six = prefix(b"a00::/8")?;
-    assert!(rt; four.within(&Prefix::V4(Ipv4Prefix::all())));
-    assert!(rt; six.within(&Prefix::V6(Ipv6Prefix::all())));
-    assert!(rt; !four.within(&Prefix::V6(Ipv6Prefix::all())));
+fn compares_with_all_addresses(rt: HostRuntime) {
+    assert_eq!(rt; within_all(b"10.0.0.0/8"), Some([true, false]));
+    assert_eq!(rt; within_all(b"a00::/8"), Some([false, true]));
     assert!(rt; Ipv4Prefix::new(0, 33).is_none());
     assert!(rt; Ipv6Prefix::new(1, 127).is_some());
-    Ok(())
+}
+
+fn prefix(text: &[u8]) -> Result<Prefix, Fail> {
+    Ok(Prefix::parse(text).ok_or("no prefix")?)
 }
 
 fn class_to(alloc: Global, name: &[u8], dst: &[u8]) -> Result<FlowClass, Fail> {
@@ -87,56 +101,97 @@ fn class_to(alloc: Global, name: &[u8], dst: &[u8]) -> Result<FlowClass, Fail> {
     })
 }
 
-fn to_ten() -> Result<Predicate, Fail>
-    ensures { IfOk result (λ p. depth p ≤ 10) }
+fn to(prefix: Prefix) -> Predicate
+    ensures { depth result ≤ 10 }
 {
-    Ok(Predicate::DstIn(prefix(b"10.0.0.0/8")?))
+    Predicate::DstIn(prefix)
 }
 
-fn named(alloc: Global, name: &[u8]) -> Result<Predicate, Fail>
+fn named(alloc: Global, name: &[u8]) -> Result<Predicate, NameError>
     ensures { IfOk result (λ p. depth p ≤ 10) }
 {
     Ok(Predicate::Flow(Name::from_bytes(alloc, name)?))
 }
 
+/// What doesn't hold of the flow f2.
+fn other(alloc: Global) -> Result<Predicate, NameError>
+    ensures { IfOk result (λ p. depth p ≤ 11) }
+{
+    Ok(Predicate::negated(alloc, named(alloc, b"f2")?)?)
+}
+
+/// Whether the flow is selected by this, and not by any of nothing, but by all of nothing.
+fn is_selected(alloc: Global, class: &FlowClass, other: &Predicate) -> bool
+    requires { depth other.now ≤ 11 }
+{
+    let nothing = Predicate::any_of(List::from_vec(Vec::new(alloc)));
+    let anything = Predicate::all_of(List::from_vec(Vec::new(alloc)));
+    selects(other, class) && !selects(&nothing, class) && selects(&anything, class)
+}
+
+fn selects_the_flow(alloc: Global, class: &FlowClass) -> bool {
+    match other(alloc) {
+        Ok(other) => is_selected(alloc, class, &other),
+        Err(_) => false,
+    }
+}
+
 #[test]
 fn selects_by_form(rt: HostRuntime) -> Result<(), Fail> {
-    let alloc = rt.alloc();
-    let class = class_to(alloc, b"f1", b"10.1.0.0/16")?;
-    let other = Predicate::negated(alloc, named(alloc, b"f2")?)?;
-    assert!(rt; selects(&other, &class));
-    let nothing = Predicate::any_of(List::from_vec(Vec::new(alloc)));
-    assert!(rt; !selects(&nothing, &class));
-    let anything = Predicate::all_of(List::from_vec(Vec::new(alloc)));
-    assert!(rt; selects(&anything, &class));
-    assert_eq!(rt; other.copy(alloc)?, other);
+    let class = class_to(rt.alloc(), b"f1", b"10.1.0.0/16")?;
+    assert!(rt; selects_the_flow(rt.alloc(), &class));
     Ok(())
 }
 
-fn plan_of_two(
-    alloc: Global,
-    classes: &[&FlowClass],
-    one: &Predicate,
-    two: &Predicate,
-) -> Result<Vec<PlannedRow>, AllocError>
-    requires one { depth one.now ≤ 10 }
-    requires two { depth two.now ≤ 10 }
-{
-    plan(alloc, classes, &[one, two])
+/// Whether the predicate equals its copy.
+fn is_copied(alloc: Global, predicate: &Predicate) -> bool {
+    match predicate.copy(alloc) {
+        Ok(copy) => copy == *predicate,
+        Err(_) => false,
+    }
 }
 
 #[test]
-fn plans_rows(rt: HostRuntime) -> Result<(), Fail> {
-    let alloc = rt.alloc();
-    let first = class_to(alloc, b"f1", b"10.1.0.0/16")?;
-    let second = class_to(alloc, b"f2", b"192.168.0.0/16")?;
-    let within = to_ten()?;
-    let absent = named(alloc, b"f3")?;
-    let rows = plan_of_two(alloc, &[&first, &second], &absent, &within)?;
+fn copies_a_predicate(rt: HostRuntime) -> Result<(), Fail> {
+    let other = other(rt.alloc())?;
+    assert!(rt; is_copied(rt.alloc(), &other));
+    Ok(())
+}
+
+/// Whether the first class is checked by the second of two predicates, and the second by none.
+fn is_planned(alloc: Global, classes: &[&FlowClass], one: &Predicate, two: &Predicate) -> bool
+    requires one { depth one.now ≤ 10 }
+    requires two { depth two.now ≤ 10 }
+{
     let expected = [
         PlannedRow::Checked { flow: 0, check: 1 },
         PlannedRow::Unselected { flow: 1 },
     ];
-    assert_eq!(rt; rows.as_slice(), expected.as_slice());
+    match plan(alloc, classes, &[one, two]) {
+        Ok(rows) => rows.as_slice() == expected.as_slice(),
+        Err(_) => false,
+    }
+}
+
+/// The same for the flow f3 and for what goes to a prefix.
+fn plans_for(alloc: Global, classes: &[&FlowClass], prefix: Prefix) -> bool {
+    let within = to(prefix);
+    match named(alloc, b"f3") {
+        Ok(absent) => is_planned(alloc, classes, &absent, &within),
+        Err(_) => false,
+    }
+}
+
+fn two_classes(alloc: Global) -> Result<[FlowClass; 2], Fail> {
+    let first = class_to(alloc, b"f1", b"10.1.0.0/16")?;
+    let second = class_to(alloc, b"f2", b"192.168.0.0/16")?;
+    Ok([first, second])
+}
+
+#[test]
+fn plans_rows(rt: HostRuntime) -> Result<(), Fail> {
+    let prefix = prefix(b"10.0.0.0/8")?;
+    let classes = two_classes(rt.alloc())?;
+    assert!(rt; plans_for(rt.alloc(), &[&classes[0], &classes[1]], prefix));
     Ok(())
 }

@@ -1,35 +1,66 @@
 //! The location file of a small network.
 
-use crate::network::network;
+use crate::network::{Question, is_so};
 use rela_json::LoadError;
 use rela_locations::{By, Locations, MemberError};
 use rela_names::{Level, Name, Symbol};
 use std::alloc::Global;
-use std::test::Fail;
 
 fn lifted(locations: &Locations, interface: &[u8], level: Level) -> Option<Symbol> {
     let symbol = locations.alphabet(Level::Interface).find(interface)?;
     Some(locations.lift(symbol, level))
 }
 
-fn members(alloc: Global, level: Level, by: By, name: &[u8]) -> Result<Vec<Symbol>, Fail> {
-    let locations = network(alloc)?;
-    let name = Name::from_bytes(alloc, name)?;
-    Ok(locations.members(alloc, level, by, &name)?)
+/// Where r4:1 lies at each level, and then the group of r4:2.
+#[derive(Drop)]
+struct Lifts;
+
+impl Question for Lifts {
+    fn is_so(&self, _alloc: Global, locations: &Locations) -> bool {
+        let found = [
+            lifted(locations, b"r4:1", Level::Interface),
+            lifted(locations, b"r4:1", Level::Device),
+            lifted(locations, b"r4:1", Level::Group),
+            lifted(locations, b"r4:2", Level::Group),
+        ];
+        found == [Some(4), Some(3), Some(1), None]
+    }
 }
 
 #[test]
-fn lifts_an_interface(rt: HostRuntime) -> Result<(), Fail> {
-    let locations = network(rt.alloc())?;
-    assert_eq!(rt; lifted(&locations, b"r4:1", Level::Interface), Some(4));
-    assert_eq!(rt; lifted(&locations, b"r4:1", Level::Device), Some(3));
-    assert_eq!(rt; lifted(&locations, b"r4:1", Level::Group), Some(1));
-    assert_eq!(rt; lifted(&locations, b"r4:2", Level::Group), None);
-    Ok(())
+fn lifts_an_interface(rt: HostRuntime) {
+    assert!(rt; is_so(rt.alloc(), &Lifts));
+}
+
+/// The members of a name at a level.
+#[derive(Drop)]
+struct Members<'a> {
+    level: Level,
+    by: By,
+    name: &'a [u8],
+    symbols: &'a [Symbol],
+}
+
+impl Members<'_> {
+    fn are_those_of(&self, alloc: Global, locations: &Locations, name: &Name) -> bool {
+        match locations.members(alloc, self.level, self.by, name) {
+            Ok(found) => found.as_slice() == self.symbols,
+            Err(_) => false,
+        }
+    }
+}
+
+impl Question for Members<'_> {
+    fn is_so(&self, alloc: Global, locations: &Locations) -> bool {
+        match Name::from_bytes(alloc, self.name) {
+            Ok(name) => self.are_those_of(alloc, locations, &name),
+            Err(_) => false,
+        }
+    }
 }
 
 #[test]
-fn gives_the_members(rt: HostRuntime) -> Result<(), Fail> {
+fn gives_the_members(rt: HostRuntime) {
     for (level, by, name, symbols) in [
         (
             Level::Interface,
@@ -43,29 +74,50 @@ fn gives_the_members(rt: HostRuntime) -> Result<(), Fail> {
         (Level::Device, By::Tag, b"border", &[0]),
         (Level::Interface, By::Tag, b"border", &[0]),
     ] {
-        assert_eq!(rt; members(rt.alloc(), level, by, name)?.as_slice(), symbols);
+        let question = Members {
+            level,
+            by,
+            name,
+            symbols,
+        };
+        assert!(rt; is_so(rt.alloc(), &question), "{level:?} {by:?} {name:?}");
     }
-    Ok(())
+}
+
+/// Whether the tag is found at the level of devices, and neither above nor as a device.
+fn finds(locations: &Locations, tag: &Name) -> bool {
+    let device = locations.find(Level::Device, By::Tag, tag).is_ok();
+    let group = locations.find(Level::Group, By::Tag, tag);
+    let is_finer = matches!(&group, Err(MemberError::Finer));
+    let none = locations.find(Level::Device, By::Device, tag);
+    let is_unknown = matches!(&none, Err(MemberError::Unknown));
+    device && is_finer && is_unknown
+}
+
+/// The devices of the tag `border`.
+#[derive(Drop)]
+struct Border;
+
+impl Question for Border {
+    fn is_so(&self, alloc: Global, locations: &Locations) -> bool {
+        match Name::from_bytes(alloc, b"border") {
+            Ok(tag) => finds(locations, &tag),
+            Err(_) => false,
+        }
+    }
 }
 
 #[test]
-fn finds_what_is_there(rt: HostRuntime) -> Result<(), Fail> {
-    let locations = network(rt.alloc())?;
-    let tag = Name::from_bytes(rt.alloc(), b"border")?;
-    assert!(rt; locations.find(Level::Device, By::Tag, &tag).is_ok());
-    assert!(rt;
-        matches!(
-            &locations.find(Level::Group, By::Tag, &tag),
-            Err(MemberError::Finer)
-        )
-    );
-    assert!(rt;
-        matches!(
-            &locations.find(Level::Device, By::Device, &tag),
-            Err(MemberError::Unknown)
-        )
-    );
-    Ok(())
+fn finds_what_is_there(rt: HostRuntime) {
+    assert!(rt; is_so(rt.alloc(), &Border));
+}
+
+/// The fault of a short text.
+fn fault(alloc: Global, text: &[u8]) -> Option<LoadError> {
+    if text.len() > 1_000 {
+        return None;
+    }
+    Locations::decode(alloc, text).err()
 }
 
 #[test]
@@ -79,8 +131,6 @@ fn refuses_the_first_fault(rt: HostRuntime) {
             LoadError::RepeatedEntry { row: 1 },
         ),
     ] {
-        assert!(rt; text.len() <= 1_000);
-        let found = Locations::decode(rt.alloc(), text).err();
-        assert_eq!(rt; found, Some(error), "{text:?}");
+        assert_eq!(rt; fault(rt.alloc(), text), Some(error), "{text:?}");
     }
 }

@@ -1,13 +1,11 @@
 //! Snapshots over a small network, and their pairing.
 
-ghost use Rattle.std.specs.Prelude.{◌≤◌, length};
-
-use crate::network::network;
+use crate::network::{Question, is_so};
+use rela_graph::Graph;
 use rela_json::LoadError;
-use rela_snapshot::{PairError, Snapshot, pair};
+use rela_locations::Locations;
+use rela_snapshot::{FlowPair, PairError, Snapshot, pair};
 use std::alloc::Global;
-use std::process::Abort;
-use std::test::Fail;
 
 const NUMBERED: &[u8] =
     b"{\"version\":1,\"flows\":[{\"name\":\"f1\",\"dst\":\"10.0.0.0/24\",\"nodes\":[\"r1:0\",\"r2:0\",\"r4:0\",\"r4:1\"],\"edges\":[[0,1],[1,2],[2,3]],\"starts\":[0],\"delivered\":[3]}]}";
@@ -15,46 +13,82 @@ const NUMBERED: &[u8] =
 const NAMED: &[u8] =
     b"{\"version\":2,\"flows\":[{\"name\":\"f1\",\"dst\":\"2001:db8::/32\",\"nodes\":[{\"id\":\"a\",\"at\":\"r1:0\"},{\"id\":\"b\",\"at\":\"r2:0\"},{\"id\":\"c\",\"at\":\"r4:0\"},{\"id\":\"d\",\"at\":\"r4:1\"}],\"edges\":[[\"a\",\"b\"],[\"b\",\"c\"],[\"c\",\"d\"]],\"starts\":[\"a\"],\"delivered\":[\"d\"]}]}";
 
-fn decoded(alloc: Global, bytes: &[u8]) -> Result<Snapshot, Fail>
-    requires { length bytes.now ≤ 33554432 }
-{
-    let locations = network(alloc)?;
-    Ok(Snapshot::decode(alloc, bytes, &locations)?)
+/// What a short text writes over these locations.
+fn decoded(alloc: Global, text: &[u8], locations: &Locations) -> Result<Snapshot, LoadError> {
+    if text.len() > 1_000 {
+        return Err(LoadError::Memory);
+    }
+    Snapshot::decode(alloc, text, locations)
 }
 
-fn assert_reads(rt: &impl Abort, snapshot: &Snapshot) {
-    assert_eq!(rt; snapshot.flows(), 1);
+/// Whether the graph is r1 to r2 to r4, by both its interfaces.
+fn is_the_path(graph: &Graph) -> bool {
+    let flags = [
+        graph.has_edge(2, 3),
+        !graph.has_edge(3, 2),
+        graph.is_start(0),
+        graph.is_delivered(3),
+        !graph.is_dropped(3),
+    ];
+    match graph.nodes() {
+        [_, _, _, last] => {
+            [last.interface, last.device, last.group] == [4, 3, 1] && flags == [true; 5]
+        }
+        _ => false,
+    }
+}
+
+/// Whether the snapshot is of one flow, named f1 and of the default class, along the path.
+fn is_read(snapshot: &Snapshot) -> bool {
+    if snapshot.flows() != 1 {
+        return false;
+    }
     let class = snapshot.class(0);
-    assert_eq!(rt; class.name.as_bytes(), b"f1".as_slice());
-    assert_eq!(rt; class.class.as_bytes(), b"default".as_slice());
-    let graph = snapshot.graph(0);
-    let nodes = graph.nodes();
-    assert_eq!(rt; nodes.len(), 4);
-    assert_eq!(rt; nodes[3].interface, 4);
-    assert_eq!(rt; nodes[3].device, 3);
-    assert_eq!(rt; nodes[3].group, 1);
-    assert!(rt; graph.has_edge(2, 3));
-    assert!(rt; !graph.has_edge(3, 2));
-    assert!(rt; graph.is_start(0));
-    assert!(rt; graph.is_delivered(3));
-    assert!(rt; !graph.is_dropped(3));
+    class.name.as_bytes() == b"f1".as_slice()
+        && class.class.as_bytes() == b"default".as_slice()
+        && is_the_path(snapshot.graph(0))
+}
+
+/// What a text writes.
+#[derive(Drop)]
+struct Path<'a> {
+    text: &'a [u8],
+}
+
+impl Question for Path<'_> {
+    fn is_so(&self, alloc: Global, locations: &Locations) -> bool {
+        match decoded(alloc, self.text, locations) {
+            Ok(snapshot) => is_read(&snapshot),
+            Err(_) => false,
+        }
+    }
 }
 
 #[test]
-fn reads_numbered_nodes(rt: HostRuntime) -> Result<(), Fail> {
-    assert_reads(&rt, &decoded(rt.alloc(), NUMBERED)?);
-    Ok(())
+fn reads_nodes(rt: HostRuntime) {
+    for text in [NUMBERED, NAMED] {
+        assert!(rt; is_so(rt.alloc(), &Path { text }), "{text:?}");
+    }
+}
+
+/// The first fault of a text.
+#[derive(Drop)]
+struct Faulty<'a> {
+    text: &'a [u8],
+    error: LoadError,
+}
+
+impl Question for Faulty<'_> {
+    fn is_so(&self, alloc: Global, locations: &Locations) -> bool {
+        match decoded(alloc, self.text, locations) {
+            Ok(_) => false,
+            Err(error) => error == self.error,
+        }
+    }
 }
 
 #[test]
-fn reads_named_nodes(rt: HostRuntime) -> Result<(), Fail> {
-    assert_reads(&rt, &decoded(rt.alloc(), NAMED)?);
-    Ok(())
-}
-
-#[test]
-fn refuses_the_first_fault(rt: HostRuntime) -> Result<(), Fail> {
-    let locations = network(rt.alloc())?;
+fn refuses_the_first_fault(rt: HostRuntime) {
     for (text, error) in [
         (b"{".as_slice(), LoadError::NotJson),
         (b"{\"version\":3}", LoadError::BadVersion),
@@ -79,11 +113,8 @@ fn refuses_the_first_fault(rt: HostRuntime) -> Result<(), Fail> {
             LoadError::UnknownNode { row: 0 },
         ),
     ] {
-        assert!(rt; text.len() <= 1_000);
-        let found = Snapshot::decode(rt.alloc(), text, &locations).err();
-        assert_eq!(rt; found, Some(error), "{text:?}");
+        assert!(rt; is_so(rt.alloc(), &Faulty { text, error }), "{text:?}");
     }
-    Ok(())
 }
 
 const EARLIER: &[u8] =
@@ -92,33 +123,75 @@ const EARLIER: &[u8] =
 const LATER: &[u8] =
     b"{\"version\":1,\"flows\":[{\"name\":\"f2\",\"dst\":\"10.0.1.0/24\",\"nodes\":[\"r2:0\"],\"edges\":[],\"starts\":[0]},{\"name\":\"f1\",\"dst\":\"10.0.0.0/24\",\"nodes\":[\"r1:0\",\"r1:0\"],\"edges\":[],\"starts\":[0]}]}";
 
-#[test]
-fn pairs_flows_by_name(rt: HostRuntime) -> Result<(), Fail> {
-    let alloc = rt.alloc();
-    let pairs = pair(alloc, decoded(alloc, EARLIER)?, decoded(alloc, LATER)?)?;
-    assert_eq!(rt; pairs.len(), 3);
-    assert_eq!(rt; pairs[0].class.name.as_bytes(), b"f1".as_slice());
-    assert_eq!(rt; pairs[0].before.nodes().len(), 1);
-    assert_eq!(rt; pairs[0].after.nodes().len(), 2);
-    assert_eq!(rt; pairs[1].class.name.as_bytes(), b"f3".as_slice());
-    assert_eq!(rt; pairs[1].after.nodes().len(), 0);
-    assert_eq!(rt; pairs[2].class.name.as_bytes(), b"f2".as_slice());
-    assert_eq!(rt; pairs[2].before.nodes().len(), 0);
-    assert_eq!(rt; pairs[2].after.nodes().len(), 1);
-    Ok(())
+/// The flows of two short texts, paired.
+fn paired(
+    alloc: Global,
+    before: &[u8],
+    after: &[u8],
+    locations: &Locations,
+) -> Result<Result<Vec<FlowPair>, PairError>, LoadError> {
+    let before = decoded(alloc, before, locations)?;
+    let after = decoded(alloc, after, locations)?;
+    Ok(pair(alloc, before, after))
+}
+
+/// Whether the flow has this name and so many nodes before and after.
+fn is_pair(pair: &FlowPair, name: &[u8], before: usize, after: usize) -> bool {
+    pair.class.name.as_bytes() == name
+        && [pair.before.nodes().len(), pair.after.nodes().len()] == [before, after]
+}
+
+fn are_paired(pairs: &[FlowPair]) -> bool {
+    match pairs {
+        [first, second, third] => {
+            is_pair(first, b"f1", 1, 2)
+                && is_pair(second, b"f3", 0, 0)
+                && is_pair(third, b"f2", 0, 1)
+        }
+        _ => false,
+    }
+}
+
+/// The flows of `EARLIER` and `LATER`.
+#[derive(Drop)]
+struct Pairs;
+
+impl Question for Pairs {
+    fn is_so(&self, alloc: Global, locations: &Locations) -> bool {
+        match paired(alloc, EARLIER, LATER, locations) {
+            Ok(Ok(pairs)) => are_paired(&pairs),
+            _ => false,
+        }
+    }
 }
 
 #[test]
-fn names_the_first_flow_that_differs(rt: HostRuntime) -> Result<(), Fail> {
-    let alloc = rt.alloc();
-    let found = pair(alloc, decoded(alloc, NUMBERED)?, decoded(alloc, NAMED)?).err();
-    let error = found.ok_or("a difference")?;
+fn pairs_flows_by_name(rt: HostRuntime) {
+    assert!(rt; is_so(rt.alloc(), &Pairs));
+}
+
+/// Whether the flow of row 0 differs in its destination.
+fn is_of_destinations(error: &PairError) -> bool {
     match error {
-        PairError::FlowDiffers { row, before, after } => {
-            assert_eq!(rt; row, 0);
-            assert!(rt; before.dst != after.dst);
-        }
-        PairError::Memory => assert!(rt; false),
+        PairError::FlowDiffers { row, before, after } => *row == 0 && before.dst != after.dst,
+        PairError::Memory => false,
     }
-    Ok(())
+}
+
+/// What `NUMBERED` and `NAMED` differ in.
+#[derive(Drop)]
+struct Difference;
+
+impl Question for Difference {
+    fn is_so(&self, alloc: Global, locations: &Locations) -> bool {
+        match paired(alloc, NUMBERED, NAMED, locations) {
+            Ok(Err(error)) => is_of_destinations(&error),
+            _ => false,
+        }
+    }
+}
+
+#[test]
+fn names_the_first_flow_that_differs(rt: HostRuntime) {
+    assert!(rt; is_so(rt.alloc(), &Difference));
 }
