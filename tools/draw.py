@@ -7,7 +7,7 @@ grey, what is only before is red and dashed, what is only after is green. With a
 the path that gives it are laid along the edges as thick lines, each as a shortest walk whose locations give it.
 
 The text for `dot` goes to standard output or to FILE.dot; FILE.svg is the picture. The same input gives the same text.
-Status 0: it is done; 1: `dot` is missing or failed, and the text alone is written; 2: refused, with one line on standard error.
+Status 0: it is done; 1: `dot` failed, or is missing and FILE.dot is written instead; 2: refused, with one line on standard error.
 """
 import argparse, shutil, subprocess, sys, textwrap
 
