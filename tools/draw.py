@@ -11,6 +11,7 @@ Status 0: it is done; 1: `dot` failed, or is missing and FILE.dot is written ins
 """
 import argparse, shutil, subprocess, sys, textwrap
 
+sys.dont_write_bytecode = True
 from flows import paths_of, read_graph, read_homes, read_row, refuse
 
 LOOKS = {"in both": ("#707070", "solid", 1), "only before": ("#D55E00", "dashed", 2), "only after": ("#009E73", "solid", 2)}
