@@ -6,4 +6,3 @@ pub mod Notes
 pub mod PathSets
 pub mod Reading
 pub mod Stops
-pub mod Tables

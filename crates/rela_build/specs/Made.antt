@@ -12,19 +12,15 @@ use Rattle.rela_trans.specs.Runs.{ReachR, Relates}
 use Rattle.rela_build.specs.Lettering.{Lettering}
 use Rattle.rela_build.specs.PathSets.{Paths, scene_of}
 use Rattle.rela_build.specs.Reading.{read_by}
-use Rattle.rela_build.specs.Tables.{IsTable, IsExact}
+use Rattle.rela_rir.specs.Tables.{IsTable, IsExact, OnPairs}
 
 -- the word of symbols, each read as its letter, leads to the state
 abbrev pub Leads : List ℕ → Automaton → ℕ → List ℕ → Type 0
 Leads blocks a q w = Reach a q (map (read_by blocks) w)
 
 -- the pair of words of symbols leads to the state
-abbrev pub LeadsR : List ℕ → Machine → ℕ → List ℕ × List ℕ → Type 0
-LeadsR blocks t q x = ReachR (read_by blocks) t q x.0 x.1
-
--- what reaches a place, of a pair
-abbrev pub at_pair : (Place → List ℕ → List ℕ → Type 0) → Place → List ℕ × List ℕ → Type 0
-at_pair at p x = at p x.0 x.1
+abbrev pub LeadsR : List ℕ → Machine → ℕ → List ℕ → List ℕ → Type 0
+LeadsR blocks t q u v = ReachR (read_by blocks) t q u v
 
 -- An automaton whose letters are the blocks: the words of symbols that it accepts are those of the set, and its table
 -- is one of these places. Where `exactly` holds the table turns round.
@@ -42,8 +38,8 @@ pub record IsBuiltR (exactly : Type 0) (blocks : List ℕ) (pairs : List ℕ →
   pub letters : t.letters ≡ block_count blocks
   pub relation : (u v : List ℕ) → Relates (read_by blocks) t u v ↔ pairs u v
   pub table : Place → Option ℕ
-  pub placed : IsTable (LeadsR blocks t) (at_pair at) apart table
-  pub exact : exactly → IsExact (machine_states t) (LeadsR blocks t) (at_pair at) table
+  pub placed : IsTable (OnPairs (LeadsR blocks t)) (OnPairs at) apart table
+  pub exact : exactly → IsExact (machine_states t) (OnPairs (LeadsR blocks t)) (OnPairs at) table
 
 -- the automaton is that of the path term, over these letters, where the path sets are these
 unfoldable pub IsMade : Type 0 → Lettering → Paths → PathTerm → Automaton → Type 0

@@ -1,8 +1,7 @@
 pub mod Reading
-pub mod Named
+pub mod Scenes
 pub mod Blocks
 pub mod Sides
 pub mod Compilation
-pub mod Lettering
 pub mod RowOf
 pub mod Seen
