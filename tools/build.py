@@ -4,9 +4,9 @@
     tools/build.py LOGS
 
 A crate's turn comes once those below it are proved. Of the crates whose turn it is, the one with the most text on a chain
-of crates above it goes first, while there are processors and memory. It gets a fair share of the idle processors, and two
-at least where its chain is more text than each processor has left. Where a build was cut off, or one crate failed, the
-next goes on from what was proved.
+of crates above it goes first, while there are processors and memory. Where a chain is more text than each processor has
+left, its crates get all idle processors but one, two at least, and the others one each; else each gets a fair share. Where
+a build was cut off, or one crate failed, the next goes on from what was proved.
 
 Each crate that is proved has a line on standard error, and what `rt` says of a crate goes to LOGS/NAME.log. The status is 0
 where the program is built, 1 where it isn't, and 128 and a signal's number where that ended the build. It needs Python
@@ -59,8 +59,7 @@ class Build:
         for at, crate in enumerate(ready):
             idle = self.processors - sum(it.jobs for it in self.lanes)
             room = self.memory - sum(it.memory for it in self.lanes)
-            is_long = crate.chain * self.processors > sum(it.text for it in unproved)
-            jobs = min(max(idle // (len(ready) - at), 1 + is_long), idle, MOST_JOBS)
+            jobs = min(self.share(crate, unproved, len(ready) - at, idle), idle, MOST_JOBS)
             jobs = next((it for it in range(jobs, 1, -1) if crate.memory(it) <= room), 1)
             # (what was killed has nothing beside it)
             if idle < 1 or any(it.crate.was_killed for it in self.lanes):
@@ -68,6 +67,14 @@ class Build:
             if not self.lanes or (crate.memory(jobs) <= room and not crate.was_killed):
                 self.left.remove(crate)
                 self.lanes.append(Lane(crate, 1 if crate.was_killed else jobs, f"{self.logs}/{crate.name}.log"))
+
+    def share(self, crate, unproved, ready, idle):
+        """Returns how many of the idle processors a crate gets, where so many crates are ready."""
+        text = sum(it.text for it in unproved)
+        is_long = lambda it: it.chain * self.processors > text
+        if is_long(crate):
+            return max(idle // ready, 2, idle - 1)
+        return 1 if any(is_long(it) for it in unproved) else idle // ready
 
     def prove(self):
         """Proves all libraries, and returns the first that isn't proved, if any."""
