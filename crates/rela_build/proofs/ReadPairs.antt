@@ -8,6 +8,9 @@ use Rattle.rela_trans.specs.Relations.{PairJoins, PairRepeats}
 abbrev pub Same : Relation → Relation → Type 0
 Same R S = (u v : List ℕ) → R u v ↔ S u v
 
+pub same_as : (R S T : Relation) → Same R S → Same S T → Same R T
+same_as R S T one two u v = (λ h. (two u v).0 ((one u v).0 h), λ h. (one u v).1 ((two u v).1 h))
+
 pub pairs_joined : (A B R S : Relation) → Same A R → Same B S → Same (PairJoins A B) (PairConcatenation R S)
 pairs_joined A B R S a b u v = (
   λ j. record {
