@@ -1,5 +1,5 @@
 -- What is inside terms, form by form: counted terms with many places, and the parts of complements.
-use Rattle.std.proofs.Common.{◌≡◌, ℕ, ◌⊎◌, inl, inr, List, [], ◌∷◌, ◌++◌, sym, ap, ◌∙◌}
+use Rattle.std.proofs.Common.{◌≡◌, ℕ, ◌⊎◌, inl, inr, [], ◌∷◌, ◌++◌, sym, ap, ◌∙◌}
 use Rattle.rela_rir.specs.Complements.{complemented_parts, complemented_parts_r}
 use Rattle.rela_rir.specs.Limit.{Reached, ReachedR, ReachedInside, ReachedInsideR}
 use Rattle.rela_rir.specs.Places.{Scene}

@@ -8,9 +8,8 @@ use Rattle.rela_nfa.specs.Languages.{IsLetterOf}
 use Rattle.rela_nfa.specs.Runs.{Reach, Accepts}
 use Rattle.rela_nfa.proofs.Parts.{state_of_reach}
 use Rattle.rela_rir.specs.Built.{OneState, LetterStates, StarStates}
-use Rattle.rela_rir.specs.Places.{Place, Start, End, Begin, Places, Tells, EmptyPlaces, LetterPlaces, PathSetPlaces, PartsApart, NoParts}
+use Rattle.rela_rir.specs.Places.{Place, Start, End, Begin, EmptyPlaces, LetterPlaces, PathSetPlaces, PartsApart, NoParts}
 use Rattle.rela_rir.specs.Tables.{IsTable, IsExact}
-use Rattle.rela_rir.specs.Words.{WordSet}
 use Rattle.rela_rir.proofs.ExactTables as exact
 use Rattle.rela_rir.proofs.FormTables.{same, begun, BegunAt, with_start}
 use Rattle.rela_rir.proofs.LeafTables as leaf

@@ -9,7 +9,7 @@ use Rattle.rela_pairs.specs.declared.pair.Pair.{Pair}
 use Rattle.rela_rir.specs.Meaning.{In, InR}
 use Rattle.rela_rir.specs.Places.{Scene}
 use Rattle.rela_rir.specs.Tables.{OnPairs, ReachByMiddle}
-use Rattle.rela_rir.specs.Words.{Relation, PairConcatenation, PairStar, Composition}
+use Rattle.rela_rir.specs.Words.{PairConcatenation, PairStar, Composition}
 use Rattle.rela_rir.specs.declared.term.PathTerm.{PathTerm}
 use Rattle.rela_rir.specs.declared.term.RelTerm.{RelTerm}
 use Rattle.rela_rir.specs.declared.term.RelTerm.TheVariants as R
@@ -175,6 +175,6 @@ module _ (E : Type 0) (l : Lettering) (paths : Paths) where
       (built.composed m E x y (machine_states a) (machine_states b) (L a) (L b) (L u) (placed_r E l paths x a one) (placed_r E l paths y b two) (map two_of pairs)
       (numbered pairs (OnPairs (ReachByMiddle (L a) (L b))) (OnPairs (L u)) composes.distinct
       (λ s z (middle, first, second).
-          composes.all s (map f z.0, map f z.1, (map f middle, letters_reached f a s.left z.0 middle first, letters_reached f b s.right middle z.1 second)))
+      composes.all s (map f z.0, map f z.1, (map f middle, letters_reached f a s.left z.0 middle first, letters_reached f b s.right middle z.1 second)))
       (λ k z h. let less = below u ok k z h in omega (arith, less, composes.count))
       (λ k s at z. composes.reached f covers_a k s at z.0 z.1))))

@@ -1,5 +1,5 @@
 -- Relations between words that are told piece by piece.
-use Rattle.std.proofs.Common.{◌≡◌, ℕ, ◌↔◌, List, [], ◌∷◌}
+use Rattle.std.proofs.Common.{ℕ, ◌↔◌, List, [], ◌∷◌}
 use Rattle.std.specs.List.{AllZip}
 use Rattle.rela_rir.specs.Words.{Relation, PairConcatenation, PairStar}
 use Rattle.rela_trans.specs.Relations.{PairJoins, PairRepeats}
