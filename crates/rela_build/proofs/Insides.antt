@@ -1,94 +1,61 @@
 -- What is inside terms, form by form: counted terms with many places, and the parts of complements.
-use Rattle.std.proofs.Common.{◌≡◌, ℕ, ◌⊎◌, inl, inr, List, [], ◌∷◌, ◌++◌, refl, sym, ap, ◌∙◌, subst}
+use Rattle.std.proofs.Common.{◌≡◌, ℕ, ◌⊎◌, inl, inr, [], ◌∷◌, ◌++◌, sym, ap, ◌∙◌}
 use Rattle.rela_rir.specs.Complements.{complemented_parts, complemented_parts_r}
-use Rattle.rela_rir.specs.Limit.{Reached, ReachedR, ReachedInside, ReachedInsideR, SomeSubterm, SomeSubtermR, LayerSome, LayerSomeR, LayerIsCounted, LayerIsCountedR}
+use Rattle.rela_rir.specs.Limit.{Reached, ReachedR, ReachedInside, ReachedInsideR}
 use Rattle.rela_rir.specs.Places.{Scene}
 use Rattle.rela_rir.specs.declared.term.PathTerm.{PathTerm}
 use Rattle.rela_rir.specs.declared.term.RelTerm.{RelTerm}
 use Rattle.rela_rir.specs.declared.term.PathTerm.TheOpen as F
 use Rattle.rela_rir.specs.declared.term.PathTerm.TheVariants as P
 use Rattle.rela_rir.specs.declared.term.RelTerm.TheVariants as R
-use Rattle.rela_rir.specs.declared.term.PathTerm.TheViews.{roll-PathTerm, roll-RelTerm, out-PathTerm, out-RelTerm, out-roll-PathTerm, out-roll-RelTerm}
 use Rattle.rela_rir.proofs.ComplementForms.{parts_roll, parts_roll_r}
-use Rattle.rela_rir.proofs.Subterms.{some_roll, some_roll_r}
+use Rattle.rela_rir.proofs.InsideForms.{counted, counted_r, uncounted, uncounted_r}
 
 module _ (m : Scene) (k : ℕ) where
-  abbrev P_ : PathTerm → Type 0
-  P_ t = LayerIsCounted (out-PathTerm t) × Reached m t k
+  pub in_union : (x y : PathTerm) → ReachedInside m k x ⊎ ReachedInside m k y → ReachedInside m k (P.Union x y)
+  in_union x y some = (uncounted m k (F.PathTerm::Union x y) (P.Union x y) (P.rolls-Union x y) (λ never. never)).1 some
 
-  abbrev R_ : RelTerm → Type 0
-  R_ r = LayerIsCountedR (out-RelTerm r) × ReachedR m r k
-
-  abbrev Layer : F.PathTerm-F PathTerm RelTerm → Type 0
-  Layer z = LayerSome (ReachedInside m k) (ReachedInsideR m k) z
-
-  abbrev LayerR : F.RelTerm-F PathTerm RelTerm → Type 0
-  LayerR z = LayerSomeR (ReachedInside m k) (ReachedInsideR m k) z
-
-  -- inside a part, and so inside the whole
-  in_part : (t : PathTerm) (z : F.PathTerm-F PathTerm RelTerm) → roll-PathTerm z ≡ t → Layer z → ReachedInside m k t
-  in_part t z is some = subst (λ (u : PathTerm). ReachedInside m k u) is (subst (λ (T : Type 0). T) (sym (some_roll P_ R_ z)) (inr some))
-
-  in_part_r : (t : RelTerm) (z : F.RelTerm-F PathTerm RelTerm) → roll-RelTerm z ≡ t → LayerR z → ReachedInsideR m k t
-  in_part_r t z is some = subst (λ (u : RelTerm). ReachedInsideR m k u) is (subst (λ (T : Type 0). T) (sym (some_roll_r P_ R_ z)) (inr some))
-
-  -- at the whole
-  at_whole : (t : PathTerm) (z : F.PathTerm-F PathTerm RelTerm) → roll-PathTerm z ≡ t → LayerIsCounted z → Reached m t k → ReachedInside m k t
-  at_whole t z is counted reached =
-      subst (λ (u : PathTerm). ReachedInside m k u) is
-      (subst (λ (T : Type 0). T) (sym (some_roll P_ R_ z))
-      (inl (subst (λ (y : F.PathTerm-F PathTerm RelTerm). LayerIsCounted y) (sym (out-roll-PathTerm z)) counted, subst (λ (u : PathTerm). Reached m u k) (sym is) reached)))
-
-  at_whole_r : (t : RelTerm) (z : F.RelTerm-F PathTerm RelTerm) → roll-RelTerm z ≡ t → LayerIsCountedR z → ReachedR m t k → ReachedInsideR m k t
-  at_whole_r t z is counted reached =
-      subst (λ (u : RelTerm). ReachedInsideR m k u) is
-      (subst (λ (T : Type 0). T) (sym (some_roll_r P_ R_ z))
-      (inl (subst (λ (y : F.RelTerm-F PathTerm RelTerm). LayerIsCountedR y) (sym (out-roll-RelTerm z)) counted, subst (λ (u : RelTerm). ReachedR m u k) (sym is) reached)))
-
-  pub in_union : (x : PathTerm) (y : PathTerm) → ReachedInside m k x ⊎ ReachedInside m k y → ReachedInside m k (P.Union x y)
-  in_union x y some = in_part (P.Union x y) (F.PathTerm::Union x y) (P.rolls-Union x y) some
-
-  pub in_concat : (x : PathTerm) (y : PathTerm) → ReachedInside m k x ⊎ ReachedInside m k y → ReachedInside m k (P.Concat x y)
-  in_concat x y some = in_part (P.Concat x y) (F.PathTerm::Concat x y) (P.rolls-Concat x y) some
+  pub in_concat : (x y : PathTerm) → ReachedInside m k x ⊎ ReachedInside m k y → ReachedInside m k (P.Concat x y)
+  in_concat x y some = (uncounted m k (F.PathTerm::Concat x y) (P.Concat x y) (P.rolls-Concat x y) (λ never. never)).1 some
 
   pub in_star : (x : PathTerm) → ReachedInside m k x → ReachedInside m k (P.Star x)
-  in_star x some = in_part (P.Star x) (F.PathTerm::Star x) (P.rolls-Star x) some
+  in_star x some = (uncounted m k (F.PathTerm::Star x) (P.Star x) (P.rolls-Star x) (λ never. never)).1 some
 
-  pub in_meet : (x : PathTerm) (y : PathTerm) → ReachedInside m k x ⊎ ReachedInside m k y → ReachedInside m k (P.Meet x y)
-  in_meet x y some = in_part (P.Meet x y) (F.Meet x y) (P.rolls-Meet x y) some
+  pub in_meet : (x y : PathTerm) → ReachedInside m k x ⊎ ReachedInside m k y → ReachedInside m k (P.Meet x y)
+  in_meet x y some = (counted m k (F.Meet x y) (P.Meet x y) (P.rolls-Meet x y) tt).1 (inr some)
 
   pub in_complement : (x : PathTerm) → ReachedInside m k x → ReachedInside m k (P.Complement x)
-  in_complement x some = in_part (P.Complement x) (F.Complement x) (P.rolls-Complement x) some
+  in_complement x some = (counted m k (F.Complement x) (P.Complement x) (P.rolls-Complement x) tt).1 (inr some)
 
-  pub in_image : (x : PathTerm) (y : RelTerm) → ReachedInside m k x ⊎ ReachedInsideR m k y → ReachedInside m k (P.Image x y)
-  in_image x y some = in_part (P.Image x y) (F.Image x y) (P.rolls-Image x y) some
+  pub in_image : (x : PathTerm) (r : RelTerm) → ReachedInside m k x ⊎ ReachedInsideR m k r → ReachedInside m k (P.Image x r)
+  in_image x r some = (counted m k (F.Image x r) (P.Image x r) (P.rolls-Image x r) tt).1 (inr some)
 
   pub in_identity_r : (x : PathTerm) → ReachedInside m k x → ReachedInsideR m k (R.Identity x)
-  in_identity_r x some = in_part_r (R.Identity x) (F.Identity x) (R.rolls-Identity x) some
+  in_identity_r x some = (uncounted_r m k (F.Identity x) (R.Identity x) (R.rolls-Identity x) (λ never. never)).1 some
 
-  pub in_product_r : (x : PathTerm) (y : PathTerm) → ReachedInside m k x ⊎ ReachedInside m k y → ReachedInsideR m k (R.Product x y)
-  in_product_r x y some = in_part_r (R.Product x y) (F.Product x y) (R.rolls-Product x y) some
+  pub in_product_r : (x y : PathTerm) → ReachedInside m k x ⊎ ReachedInside m k y → ReachedInsideR m k (R.Product x y)
+  in_product_r x y some = (uncounted_r m k (F.Product x y) (R.Product x y) (R.rolls-Product x y) (λ never. never)).1 some
 
-  pub in_union_r : (x : RelTerm) (y : RelTerm) → ReachedInsideR m k x ⊎ ReachedInsideR m k y → ReachedInsideR m k (R.Union x y)
-  in_union_r x y some = in_part_r (R.Union x y) (F.RelTerm::Union x y) (R.rolls-Union x y) some
+  pub in_union_r : (r s : RelTerm) → ReachedInsideR m k r ⊎ ReachedInsideR m k s → ReachedInsideR m k (R.Union r s)
+  in_union_r r s some = (uncounted_r m k (F.RelTerm::Union r s) (R.Union r s) (R.rolls-Union r s) (λ never. never)).1 some
 
-  pub in_concat_r : (x : RelTerm) (y : RelTerm) → ReachedInsideR m k x ⊎ ReachedInsideR m k y → ReachedInsideR m k (R.Concat x y)
-  in_concat_r x y some = in_part_r (R.Concat x y) (F.RelTerm::Concat x y) (R.rolls-Concat x y) some
+  pub in_concat_r : (r s : RelTerm) → ReachedInsideR m k r ⊎ ReachedInsideR m k s → ReachedInsideR m k (R.Concat r s)
+  in_concat_r r s some = (uncounted_r m k (F.RelTerm::Concat r s) (R.Concat r s) (R.rolls-Concat r s) (λ never. never)).1 some
 
-  pub in_star_r : (x : RelTerm) → ReachedInsideR m k x → ReachedInsideR m k (R.Star x)
-  in_star_r x some = in_part_r (R.Star x) (F.RelTerm::Star x) (R.rolls-Star x) some
+  pub in_star_r : (r : RelTerm) → ReachedInsideR m k r → ReachedInsideR m k (R.Star r)
+  in_star_r r some = (uncounted_r m k (F.RelTerm::Star r) (R.Star r) (R.rolls-Star r) (λ never. never)).1 some
 
-  pub in_compose_r : (x : RelTerm) (y : RelTerm) → ReachedInsideR m k x ⊎ ReachedInsideR m k y → ReachedInsideR m k (R.Compose x y)
-  in_compose_r x y some = in_part_r (R.Compose x y) (F.Compose x y) (R.rolls-Compose x y) some
+  pub in_compose_r : (r s : RelTerm) → ReachedInsideR m k r ⊎ ReachedInsideR m k s → ReachedInsideR m k (R.Compose r s)
+  in_compose_r r s some = (counted_r m k (F.Compose r s) (R.Compose r s) (R.rolls-Compose r s) tt).1 (inr some)
 
-  pub at_meet : (x : PathTerm) (y : PathTerm) → Reached m (P.Meet x y) k → ReachedInside m k (P.Meet x y)
-  at_meet x y reached = at_whole (P.Meet x y) (F.Meet x y) (P.rolls-Meet x y) tt reached
+  pub at_meet : (x y : PathTerm) → Reached m (P.Meet x y) k → ReachedInside m k (P.Meet x y)
+  at_meet x y reached = (counted m k (F.Meet x y) (P.Meet x y) (P.rolls-Meet x y) tt).1 (inl reached)
 
-  pub at_image : (x : PathTerm) (y : RelTerm) → Reached m (P.Image x y) k → ReachedInside m k (P.Image x y)
-  at_image x y reached = at_whole (P.Image x y) (F.Image x y) (P.rolls-Image x y) tt reached
+  pub at_image : (x : PathTerm) (r : RelTerm) → Reached m (P.Image x r) k → ReachedInside m k (P.Image x r)
+  at_image x r reached = (counted m k (F.Image x r) (P.Image x r) (P.rolls-Image x r) tt).1 (inl reached)
 
-  pub at_compose_r : (x y : RelTerm) → ReachedR m (R.Compose x y) k → ReachedInsideR m k (R.Compose x y)
-  at_compose_r x y reached = at_whole_r (R.Compose x y) (F.Compose x y) (R.rolls-Compose x y) tt reached
+  pub at_compose_r : (r s : RelTerm) → ReachedR m (R.Compose r s) k → ReachedInsideR m k (R.Compose r s)
+  at_compose_r r s reached = (counted_r m k (F.Compose r s) (R.Compose r s) (R.rolls-Compose r s) tt).1 (inl reached)
 
 -- ---- the parts of complements
 

@@ -1,59 +1,129 @@
 -- Automata of single symbols and of no paths, from what their calls tell.
-use Rattle.std.proofs.Common.{◌≡◌, ℕ, ◌+◌, ◌≤◌, ◌↔◌, Bool, List, [], ◌∷◌, length, map, take, refl, sym, ap, ◌∙◌, subst}
+use Rattle.std.proofs.Common.{◌≡◌, ℕ, ◌+◌, ◌<◌, ◌≤◌, ◌↔◌, Bool, List, [], ◌∷◌, length, map, take, refl, sym, ap, ◌∙◌, subst, arith}
+use Rattle.std.specs.Prelude.{Option, None}
+use Rattle.std.proofs.lemmas.Option.{none-some}
 use Rattle.rela_labels.specs.Partition.{block_count}
 use Rattle.rela_nfa.specs.Automaton.{Automaton, IsAutomaton, states}
 use Rattle.rela_nfa.specs.Languages.{IsLetterOf}
 use Rattle.rela_nfa.specs.Runs.{Reach, Accepts}
-use Rattle.rela_rir.specs.Places.{Place, Start, End, Begin, Left, Right, Inner, Both, Seen, Node, LetterPlaces, PathSetPlaces, PartsApart, NoParts}
-use Rattle.rela_build.specs.Made.{IsBuilt, IsLetterAutomaton}
+use Rattle.rela_nfa.proofs.Parts.{state_of_reach}
+use Rattle.rela_rir.specs.Built.{OneState, LetterStates, StarStates}
+use Rattle.rela_rir.specs.Places.{Place, Start, End, Begin, EmptyPlaces, LetterPlaces, PathSetPlaces, PartsApart, NoParts}
+use Rattle.rela_rir.specs.Tables.{IsTable, IsExact}
+use Rattle.rela_rir.proofs.ExactTables as exact
+use Rattle.rela_rir.proofs.FormTables.{same, begun, BegunAt, with_start}
+use Rattle.rela_rir.proofs.LeafTables as leaf
+use Rattle.rela_rir.proofs.Tables.{table_of_same, exact_of_same}
+use Rattle.rela_build.specs.Made.{Leads, IsBuilt, IsLetterAutomaton}
 use Rattle.rela_build.specs.PathSets.{no_paths}
 use Rattle.rela_build.specs.Reading.{read_by, HoldsJust}
-use Rattle.rela_build.proofs.FewForms as few
-use Rattle.rela_build.proofs.FewTables.{begin_table, single_begin}
 use Rattle.rela_build.proofs.MadeTerms.{well}
+use Rattle.rela_build.proofs.ReadWords.{read_as, no_letters, OneOf, letter, own}
 
-pub of_class : (blocks : List ℕ) (P : ℕ → Type 0) (set : List Bool) (u w : Automaton) (n : ℕ) → w ≡ u → IsAutomaton w → HoldsJust blocks P set → n ≡ block_count blocks
-    → u.letters ≡ n → states u ≡ 2 → ((v : List ℕ) → Reach u 0 v ↔ (v ≡ [])) → ((v : List ℕ) → Reach u 1 v ↔ IsLetterOf set v)
-    → ((v : List ℕ) → Accepts u v ↔ IsLetterOf set v) → IsLetterAutomaton blocks P w
-unfolding IsLetterAutomaton
-of_class blocks P set u w n same ok just size letters count start end language =
-    well (IsLetterAutomaton blocks P) u w same ok (λ ok. few.class (Unit {0}) blocks P set u n just ok size letters count start end language)
+module _ (blocks : List ℕ) where
+  abbrev f : ℕ → ℕ
+  f = read_by blocks
 
-pub of_no_class : (blocks : List ℕ) (P : ℕ → Type 0) (u w : Automaton) (n : ℕ) → w ≡ u → IsAutomaton w → ((s : ℕ) → ¬ P s) → n ≡ block_count blocks
-    → u.letters ≡ n → states u ≡ 1 → ((v : List ℕ) → Reach u 0 v ↔ (v ≡ [])) → ((v : List ℕ) → ¬ Accepts u v) → IsLetterAutomaton blocks P w
-unfolding IsLetterAutomaton
-of_no_class blocks P u w n same ok never size letters count start language =
-    well (IsLetterAutomaton blocks P) u w same ok (λ ok. few.no_class (Unit {0}) blocks P u n never ok size letters count start language)
+  below : (a : Automaton) (n : ℕ) → IsAutomaton a → states a ≡ n → (q : ℕ) (w : List ℕ) → Leads blocks a q w → q < n
+  below a n ok count q w h = let less = state_of_reach a ok q (map f w) h in omega (arith, less, count)
 
-one_words : (blocks : List ℕ) (s : ℕ) (a : Automaton) → IsBuilt (Unit {0}) blocks (λ w. w ≡ s ∷ []) (LetterPlaces (λ t. t ≡ s)) (PartsApart NoParts NoParts) a
-    → IsBuilt (Unit {0}) blocks (λ w. (t : ℕ) × (w ≡ t ∷ []) × (t ≡ s)) (LetterPlaces (λ t. t ≡ s)) (PartsApart NoParts NoParts) a
-one_words blocks s a built = record {
-  automaton = built.automaton;
-  letters = built.letters;
-  language = λ w. (
-    λ h. (s, (built.language w).0 h, refl),
-    λ (t, e, at). (built.language w).1 (e ∙ ap (λ (r : ℕ). r ∷ []) at),
-  );
-  table = built.table;
-  placed = built.placed;
-  exact = built.exact;
-}
+  at_start : (a : Automaton) → ((v : List ℕ) → Reach a 0 v ↔ (v ≡ [])) → (w : List ℕ) → Leads blocks a 0 w ↔ (w ≡ [])
+  at_start a start = read_as f (Reach a 0) (λ w. w ≡ []) (λ w. w ≡ []) start (no_letters f)
 
-pub of_symbol : (blocks : List ℕ) (k s : ℕ) (u w : Automaton) (n : ℕ) → w ≡ u → IsAutomaton w → k ≡ read_by blocks s → ((t : ℕ) → read_by blocks t ≡ k → t ≡ s) → n ≡ block_count blocks
-    → u.letters ≡ n → states u ≡ length (k ∷ []) + 1 → ((q : ℕ) (v : List ℕ) → Reach u q v ↔ ((q ≤ length (k ∷ [])) × (v ≡ take q (k ∷ []))))
-    → ((v : List ℕ) → Accepts u v ↔ (v ≡ k ∷ [])) → IsLetterAutomaton blocks (λ t. t ≡ s) w
-unfolding IsLetterAutomaton
-of_symbol blocks k s u w n same ok is alone size letters count reached language =
-    well (IsLetterAutomaton blocks (λ t. t ≡ s)) u w same ok
-    (λ ok. one_words blocks s u (few.one (Unit {0}) blocks k s u n is alone ok size letters count reached language))
+  -- ---- one symbol
 
-begin_named : (p : Place) (w : List ℕ) → PathSetPlaces no_paths.at_pre p w → Begin ≡ p
-begin_named Begin w h = refl
-begin_named p w h = absurd h
+  letters : (P : ℕ → Type 0) (a : Automaton) (n : ℕ) → IsAutomaton a → n ≡ block_count blocks → a.letters ≡ n → states a ≡ 2
+      → ((v : List ℕ) → Reach a 0 v ↔ (v ≡ [])) → ((w : List ℕ) → Leads blocks a 1 w ↔ OneOf f P w) → ((w : List ℕ) → Accepts a (map f w) ↔ OneOf f P w)
+      → IsLetterAutomaton blocks P a
+  unfolding IsLetterAutomaton
+  letters P a n ok size of count start end language =
+      let are : LetterStates P (Leads blocks a) = record { begin = at_start a start; end = end; count = below a 2 ok count } in
+      record {
+        automaton = ok;
+        letters = of ∙ size;
+        language = language;
+        table = leaf.start_and_end;
+        placed = leaf.letter_states P (Leads blocks a) are;
+        exact = λ e. subst (λ (k : ℕ). IsExact k (Leads blocks a) (LetterPlaces P) leaf.start_and_end) (sym count) (exact.letter_states P (Leads blocks a) are);
+      }
 
-pub of_no_paths : (blocks : List ℕ) (u w : Automaton) (n : ℕ) → w ≡ u → IsAutomaton w → n ≡ block_count blocks → u.letters ≡ n → states u ≡ 1
-    → ((v : List ℕ) → Reach u 0 v ↔ (v ≡ [])) → ((v : List ℕ) → ¬ Accepts u v) → IsBuilt (Unit {0}) blocks no_paths.pre (PathSetPlaces no_paths.at_pre) (PartsApart NoParts NoParts) w
-of_no_paths blocks u w n same ok size letters count start language =
-    well (IsBuilt (Unit {0}) blocks no_paths.pre (PathSetPlaces no_paths.at_pre) (PartsApart NoParts NoParts)) u w same ok
-    (λ ok. few.single (Unit {0}) blocks Begin begin_table single_begin no_paths.pre (PathSetPlaces no_paths.at_pre) (PartsApart NoParts NoParts) u n
-    (λ v. ((λ e. e), λ e. e)) begin_named ok size letters count start (λ v. (language (map (read_by blocks) v), λ h. absurd h)))
+  pub of_class : (P : ℕ → Type 0) (set : List Bool) (u w : Automaton) (n : ℕ) → w ≡ u → IsAutomaton w → HoldsJust blocks P set → n ≡ block_count blocks
+      → u.letters ≡ n → states u ≡ 2 → ((v : List ℕ) → Reach u 0 v ↔ (v ≡ [])) → ((v : List ℕ) → Reach u 1 v ↔ IsLetterOf set v)
+      → ((v : List ℕ) → Accepts u v ↔ IsLetterOf set v) → IsLetterAutomaton blocks P w
+  of_class P set u w n same ok just size of count start end language =
+      let reads = letter f set P just.holds in
+      well (IsLetterAutomaton blocks P) u w same ok
+      (λ ok. letters P u n ok size of count start (read_as f (Reach u 1) (IsLetterOf set) (OneOf f P) end reads) (read_as f (Accepts u) (IsLetterOf set) (OneOf f P) language reads))
+
+  -- the word of the letter k is the word of the symbol s alone
+  one_word : (k s : ℕ) → k ≡ f s → ((t : ℕ) → f t ≡ k → t ≡ s) → (w : List ℕ) → (map f w ≡ k ∷ []) ↔ OneOf f (λ t. t ≡ s) w
+  one_word k s is alone w =
+      let reads = own f k s is alone w in
+      (λ h. (s, reads.0 h, refl), λ (t, e, at). reads.1 (e ∙ ap (λ (r : ℕ). r ∷ []) at))
+
+  pub of_symbol : (k s : ℕ) (u w : Automaton) (n : ℕ) → w ≡ u → IsAutomaton w → k ≡ f s → ((t : ℕ) → f t ≡ k → t ≡ s) → n ≡ block_count blocks
+      → u.letters ≡ n → states u ≡ length (k ∷ []) + 1 → ((q : ℕ) (v : List ℕ) → Reach u q v ↔ ((q ≤ length (k ∷ [])) × (v ≡ take q (k ∷ []))))
+      → ((v : List ℕ) → Accepts u v ↔ (v ≡ k ∷ [])) → IsLetterAutomaton blocks (λ t. t ≡ s) w
+  of_symbol k s u w n same ok is alone size of count reached language =
+      let reads = one_word k s is alone in
+      well (IsLetterAutomaton blocks (λ t. t ≡ s)) u w same ok (λ ok.
+      letters (λ t. t ≡ s) u n ok size of count
+      (λ v. (λ h. ((reached 0 v).0 h).1, λ e. (reached 0 v).1 (omega arith, e)))
+      (λ v. (λ h. (reads v).0 ((reached 1 (map f v)).0 h).1, λ h. (reached 1 (map f v)).1 (omega arith, (reads v).1 h)))
+      (λ v. (λ h. (reads v).0 ((language (map f v)).0 h), λ h. (language (map f v)).1 ((reads v).1 h))))
+
+  -- ---- no symbol
+
+  no_letter_places : (P : ℕ → Type 0) → ((s : ℕ) → ¬ P s) → (p : Place) (w : List ℕ) → EmptyPlaces p w ↔ LetterPlaces P p w
+  no_letter_places P never Start w = same
+  no_letter_places P never End w = ((λ h. absurd h), λ h. absurd (never h.0 h.2))
+  no_letter_places P never p w = same
+
+  pub of_no_class : (P : ℕ → Type 0) (u w : Automaton) (n : ℕ) → w ≡ u → IsAutomaton w → ((s : ℕ) → ¬ P s) → n ≡ block_count blocks
+      → u.letters ≡ n → states u ≡ 1 → ((v : List ℕ) → Reach u 0 v ↔ (v ≡ [])) → ((v : List ℕ) → ¬ Accepts u v) → IsLetterAutomaton blocks P w
+  unfolding IsLetterAutomaton
+  of_no_class P u w n is ok never size of count start language =
+      well (IsLetterAutomaton blocks P) u w is ok (λ ok.
+      let states : OneState (Leads blocks u) = record { begin = at_start u start; count = below u 1 ok count } in
+      record {
+        automaton = ok;
+        letters = of ∙ size;
+        language = λ w. (λ h. absurd (language (map f w) h), λ one. absurd (never one.0 one.2));
+        table = leaf.only_start;
+        placed = table_of_same (λ q w. same) (no_letter_places P never) (λ p r apart. apart) (leaf.one_state (Leads blocks u) states);
+        exact = λ e. subst (λ (k : ℕ). IsExact k (Leads blocks u) (LetterPlaces P) leaf.only_start) (sym count)
+            (exact_of_same (λ q w. same) (no_letter_places P never) (exact.one_state (Leads blocks u) states));
+      })
+
+  -- ---- no path
+
+  abbrev nowhere : Place → Option ℕ
+  nowhere p = None
+
+  nowhere_table : IsTable (λ q w. ⊥) (λ p (w : List ℕ). ⊥) (PartsApart NoParts NoParts) nowhere
+  nowhere_table = record { reached = λ q w. ((λ h. absurd h), λ stands. absurd stands.reached); apart = λ p r k l one two differ. absurd (none-some k one) }
+
+  nowhere_exact : IsExact 0 (λ q w. ⊥) (λ p (w : List ℕ). ⊥) nowhere
+  nowhere_exact = record { below = λ p q entry. absurd (none-some q entry); entered = λ p w at. absurd at; only = λ p q w entry has. has }
+
+  no_path_places : (p : Place) (w : List ℕ) → BegunAt (λ (v : List ℕ). v ≡ []) (λ p w. ⊥) p w ↔ PathSetPlaces no_paths.at_pre p w
+  no_path_places Begin w = same
+  no_path_places p w = same
+
+  pub of_no_paths : (u w : Automaton) (n : ℕ) → w ≡ u → IsAutomaton w → n ≡ block_count blocks → u.letters ≡ n → states u ≡ 1
+      → ((v : List ℕ) → Reach u 0 v ↔ (v ≡ [])) → ((v : List ℕ) → ¬ Accepts u v) → IsBuilt (Unit {0}) blocks no_paths.pre (PathSetPlaces no_paths.at_pre) (PartsApart NoParts NoParts) w
+  of_no_paths u w n is ok size of count start language =
+      well (IsBuilt (Unit {0}) blocks no_paths.pre (PathSetPlaces no_paths.at_pre) (PartsApart NoParts NoParts)) u w is ok (λ ok.
+      let states : StarStates (λ (v : List ℕ). v ≡ []) (λ q w. ⊥) (Leads blocks u) = record {
+        begin = at_start u start;
+        copies = λ q w. ((λ h. let less = below u 1 ok count (1 + q) w h in absurd (omega (arith, less))), λ h. absurd h);
+      } in
+      record {
+        automaton = ok;
+        letters = of ∙ size;
+        language = λ w. (language (map f w), λ h. absurd h);
+        table = begun nowhere;
+        placed = table_of_same (λ q w. same) no_path_places (λ p r apart. apart) (with_start nowhere_table (λ w h. h) states);
+        exact = λ e. subst (λ (k : ℕ). IsExact k (Leads blocks u) (PathSetPlaces no_paths.at_pre) (begun nowhere)) (sym count)
+            (exact_of_same (λ q w. same) no_path_places (exact.with_start nowhere_exact states));
+      })

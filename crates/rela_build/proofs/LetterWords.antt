@@ -1,9 +1,8 @@
 -- Words of letters that automata and transducers read, and words of symbols that are read as them.
-use Rattle.std.proofs.Common.{◌≡◌, ℕ, ◌+◌, ◌<◌, List, [], ◌∷◌, ◌++◌, Bool, true, length, map, Option, None, Some, refl, sym, ap, ◌∙◌, subst, arith}
+use Rattle.std.proofs.Common.{◌≡◌, ℕ, ◌<◌, List, [], ◌∷◌, ◌++◌, Bool, length, map, Option, None, Some, refl, sym, subst, arith}
 use Rattle.std.specs.List.{All}
 use Rattle.std.specs.Option.{option_to_list}
-use Rattle.std.proofs.lemmas.List.Elements.{All-nil, All-cons, All-head, All-tail, All-append, All-contains, All-weaker}
-use Rattle.rela_labels.specs.Letters.{has}
+use Rattle.std.proofs.lemmas.List.Elements.{All-nil, All-cons, All-head, All-tail, All-append, All-contains}
 use Rattle.rela_labels.specs.Partition.{block_count}
 use Rattle.rela_labels.proofs.LettersOfWords.{has_below}
 use Rattle.rela_nfa.specs.Automaton.{Automaton, IsAutomaton, IsMove as IsEdge, moves_of as edges_of, states}
@@ -11,7 +10,7 @@ use Rattle.rela_nfa.specs.Runs.{Reach, Follow, HasStep as HasEdge, Step, spelled
 use Rattle.rela_nfa.proofs.Parts.{moves_ok as edges_ok}
 use Rattle.rela_trans.specs.Composition.{Covers}
 use Rattle.rela_trans.specs.Machine.{Machine, Kind, IsMachine, IsMove, IsSized, machine_states, moves_of}
-use Rattle.rela_trans.specs.Runs.{IsSymbolOf, Does, HasStep, ReachR}
+use Rattle.rela_trans.specs.Runs.{IsSymbolOf, Does, ReachR}
 use Rattle.rela_trans.specs.declared.moves.MoveKind.TheVariants.{Silent, In, Out, Same}
 use Rattle.rela_trans.proofs.Accessors.{moves_ok}
 use Rattle.rela_trans.proofs.Reaching.{reach_each}

@@ -1,28 +1,33 @@
 -- Transducers of relation terms, form by form, from those of their parts and what the calls tell.
-use Rattle.std.proofs.Common.{◌≡◌, ℕ, ◌+◌, ◌<◌, ◌↔◌, ◌⊎◌, List, [], ◌∷◌, map, refl, sym, ap, ◌∙◌, subst}
+use Rattle.std.proofs.Common.{◌≡◌, ℕ, ◌+◌, ◌<◌, ◌↔◌, ◌⊎◌, List, [], length, map, sym, ◌∙◌, subst, inl, inr, arith}
+use Rattle.std.proofs.lemmas.List.{length-map}
 use Rattle.rela_labels.specs.Partition.{block_count}
 use Rattle.rela_nfa.specs.Automaton.{Automaton, states}
 use Rattle.rela_nfa.specs.Runs.{Reach, Accepts}
+use Rattle.rela_nfa.proofs.Parts.{state_of_reach as state_of_word}
 use Rattle.rela_pairs.specs.declared.pair.Pair.{Pair}
 use Rattle.rela_rir.specs.Meaning.{In, InR}
-use Rattle.rela_rir.specs.Places.{Place, Scene, Tells, At, AtR, Apart, ApartR}
-use Rattle.rela_rir.specs.Words.{Relation}
+use Rattle.rela_rir.specs.Places.{Scene}
+use Rattle.rela_rir.specs.Tables.{OnPairs, ReachByMiddle}
+use Rattle.rela_rir.specs.Words.{PairConcatenation, PairStar, Composition}
 use Rattle.rela_rir.specs.declared.term.PathTerm.{PathTerm}
 use Rattle.rela_rir.specs.declared.term.RelTerm.{RelTerm}
 use Rattle.rela_rir.specs.declared.term.RelTerm.TheVariants as R
+use Rattle.rela_rir.proofs.BuiltTerms as built
 use Rattle.rela_rir.proofs.MeaningForms.{in_identity_r, in_product_r, in_union_r, in_concat_r, in_star_r, in_compose_r}
-use Rattle.rela_rir.proofs.PlaceForms.{at_identity_r, at_product_r, at_union_r, at_concat_r, at_star_r, at_compose_r, apart_identity_r, apart_product_r, apart_union_r, apart_concat_r, apart_star_r, apart_compose_r}
 use Rattle.rela_trans.specs.Composition.{Covers, IsComposition}
 use Rattle.rela_trans.specs.Machine.{Machine, IsMachine, machine_states}
 use Rattle.rela_trans.specs.Relations.{PairJoins, PairRepeats}
 use Rattle.rela_trans.specs.Runs.{ReachR, Relates}
+use Rattle.rela_trans.proofs.Parts.{state_of_reach}
+use Rattle.rela_trans.proofs.SymbolLetters.{letters_reached}
 use Rattle.rela_build.specs.Lettering.{Lettering}
-use Rattle.rela_build.specs.Made.{IsBuiltR, IsMade, IsMadeR}
+use Rattle.rela_build.specs.Made.{Leads, LeadsR, IsMade, IsMadeR}
 use Rattle.rela_build.specs.PathSets.{Paths, scene_of}
 use Rattle.rela_build.specs.Reading.{read_by}
-use Rattle.rela_build.proofs.ComposeForms as composing
-use Rattle.rela_build.proofs.PairSums as sums
-use Rattle.rela_build.proofs.TapeForms as tapes
+use Rattle.rela_build.proofs.PairStates.{two_of, numbered}
+use Rattle.rela_build.proofs.PlacedTerms.{placed, placed_r, by_form_r}
+use Rattle.rela_build.proofs.ReadPairs.{same_as, pairs_joined, pairs_repeated}
 
 -- what is well formed is as it was
 pub well : (Is : Machine → Type 0) (u w : Machine) → w ≡ u → IsMachine w → (IsMachine u → Is u) → Is w
@@ -32,43 +37,66 @@ module _ (E : Type 0) (l : Lettering) (paths : Paths) where
   abbrev m : Scene
   m = scene_of l paths
 
+  abbrev f : ℕ → ℕ
+  f = read_by l.blocks
+
+  abbrev L : Machine → ℕ → List ℕ → List ℕ → Type 0
+  L a = LeadsR l.blocks a
+
   abbrev Is : PathTerm → Automaton → Type 0
   Is t a = IsMade E l paths t a
 
   abbrev IsR : RelTerm → Machine → Type 0
   IsR t a = IsMadeR E l paths t a
 
-  by_form : (t u : RelTerm) (X : Relation) (x : Place → Relation) (D : Tells) (a : Machine) → t ≡ u → InR m.setting u ≡ X → AtR m u ≡ x → ApartR m u ≡ D → IsBuiltR E l.blocks X x D a → IsR t a
-  unfolding IsMadeR
-  by_form t u X x D a is pairs places apart built =
-      subst (λ (v : RelTerm). IsR v a) (sym is)
-      (subst (λ (Y : Relation). IsBuiltR E l.blocks Y (AtR m u) (ApartR m u) a) (sym pairs)
-      (subst (λ (y : Place → Relation). IsBuiltR E l.blocks X y (ApartR m u) a) (sym places)
-      (subst (λ (F : Tells). IsBuiltR E l.blocks X x F a) (sym apart) built)))
-
   pub made_letters : (t : RelTerm) (a : Machine) → IsR t a → a.letters ≡ block_count l.blocks
   unfolding IsMadeR
   made_letters t a made = made.letters
 
+  below : (a : Machine) → IsMachine a → (q : ℕ) (z : List ℕ × List ℕ) → L a q z.0 z.1 → q < machine_states a
+  below a ok q z h = state_of_reach f a ok q z.0 z.1 h
+
+  -- ---- on the words of automata
+
   pub identity : (t : RelTerm) (x : PathTerm) (a : Automaton) (u w : Machine) → t ≡ R.Identity x → Is x a → w ≡ u → IsMachine w → u.letters ≡ a.letters → machine_states u ≡ states a
       → ((read : ℕ → ℕ) (q : ℕ) (v o : List ℕ) → ReachR read u q v o ↔ (Reach a q (map read v) × (o ≡ v)))
       → ((read : ℕ → ℕ) (v o : List ℕ) → Relates read u v o ↔ (Accepts a (map read v) × (o ≡ v))) → IsR t w
-  unfolding IsMade IsMadeR
+  unfolding IsMade
   identity t x a u w is one same ok letters count reached relation =
       well (IsR t) u w same ok (λ ok.
-      by_form t (R.Identity x) _ _ _ u is (in_identity_r m.setting x) (at_identity_r m x) (apart_identity_r m x)
-      (tapes.identity E l.blocks (In m.setting x) (At m x) (Apart m x) a u one reached ok letters count relation))
+      by_form_r E l paths t (R.Identity x) (λ v o. (v ≡ o) × In m.setting x v) u (states a) is (in_identity_r m.setting x) ok (letters ∙ one.letters) count
+      (λ v o. (
+        λ h. let both = (relation f v o).0 h in (sym both.1, (one.language v).0 both.0),
+        λ both. (relation f v o).1 ((one.language v).1 both.1, sym both.0),
+      ))
+      (built.identity m E x (states a) (Leads l.blocks a) (L u) (placed E l paths x a one) (λ q v o. (
+        λ h. let both = (reached f q v o).0 h in (sym both.1, both.0),
+        λ both. (reached f q v o).1 (both.1, sym both.0),
+      ))))
 
   pub product : (t : RelTerm) (x y : PathTerm) (a b : Automaton) (u w : Machine) → t ≡ R.Product x y → Is x a → Is y b → w ≡ u → IsMachine w → u.letters ≡ a.letters
       → machine_states u ≡ states a + states b
       → ((read : ℕ → ℕ) (q : ℕ) (v o : List ℕ) → q < states a → ReachR read u q v o ↔ (Reach a q (map read v) × (o ≡ [])))
       → ((read : ℕ → ℕ) (q : ℕ) (v o : List ℕ) → ReachR read u (states a + q) v o ↔ (Accepts a (map read v) × Reach b q (map read o)))
       → ((read : ℕ → ℕ) (v o : List ℕ) → Relates read u v o ↔ (Accepts a (map read v) × Accepts b (map read o))) → IsR t w
-  unfolding IsMade IsMadeR
+  unfolding IsMade
   product t x y a b u w is one two same ok letters count first second relation =
       well (IsR t) u w same ok (λ ok.
-      by_form t (R.Product x y) _ _ _ u is (in_product_r m.setting x y) (at_product_r m x y) (apart_product_r m x y)
-      (tapes.product E l.blocks (In m.setting x) (At m x) (Apart m x) a u one (In m.setting y) (At m y) (Apart m y) b two first second ok letters count relation))
+      by_form_r E l paths t (R.Product x y) (λ v o. In m.setting x v × In m.setting y o) u (states a + states b) is (in_product_r m.setting x y) ok (letters ∙ one.letters) count
+      (λ v o. (
+        λ h. let both = (relation f v o).0 h in ((one.language v).0 both.0, (two.language o).0 both.1),
+        λ both. (relation f v o).1 ((one.language v).1 both.0, (two.language o).1 both.1),
+      ))
+      (built.product m E x y (states a) (states b) (Leads l.blocks a) (Leads l.blocks b) (L u) (placed E l paths x a one) (placed E l paths y b two) (record {
+        count = λ q z h. state_of_word a one.automaton q (map f z.0) h.0;
+        first = λ q z. first f q z.0 z.1;
+        second = λ q z. (
+          λ h. let both = (second f q z.0 z.1).0 h in ((one.language z.0).0 both.0, both.1),
+          λ both. (second f q z.0 z.1).1 ((one.language z.0).1 both.0, both.1),
+        );
+      })))
+
+  -- ---- states side by side
 
   pub union : (t x y : RelTerm) (a b u w : Machine) → t ≡ R.Union x y → IsR x a → IsR y b → w ≡ u → IsMachine w → u.letters ≡ a.letters
       → machine_states u ≡ 1 + machine_states a + machine_states b → ((read : ℕ → ℕ) (v o : List ℕ) → ReachR read u 0 v o ↔ ((v ≡ []) × (o ≡ [])))
@@ -78,8 +106,17 @@ module _ (E : Type 0) (l : Lettering) (paths : Paths) where
   unfolding IsMadeR
   union t x y a b u w is one two same ok letters count start first second relation =
       well (IsR t) u w same ok (λ ok.
-      by_form t (R.Union x y) _ _ _ u is (in_union_r m.setting x y) (at_union_r m x y) (apart_union_r m x y)
-      (sums.union E l.blocks (InR m.setting x) (AtR m x) (ApartR m x) a u one (InR m.setting y) (AtR m y) (ApartR m y) b two start first second ok letters count relation))
+      by_form_r E l paths t (R.Union x y) (λ v o. InR m.setting x v o ⊎ InR m.setting y v o) u (1 + (machine_states a + machine_states b)) is (in_union_r m.setting x y) ok (letters ∙ one.letters) (omega (arith, count))
+      (λ v o. (
+        λ h. elim ((relation f v o).0 h) [ inl left ↦ inl ((one.relation v o).0 left) | inr right ↦ inr ((two.relation v o).0 right) ],
+        λ either. (relation f v o).1 (elim either [ inl left ↦ inl ((one.relation v o).1 left) | inr right ↦ inr ((two.relation v o).1 right) ]),
+      ))
+      (built.union_r m E x y (machine_states a) (machine_states b) (L a) (L b) (L u) (placed_r E l paths x a one) (placed_r E l paths y b two) (record {
+        count = below a one.machine;
+        begin = λ z. start f z.0 z.1;
+        first = λ q z. first f q z.0 z.1;
+        second = λ q z. second f q z.0 z.1;
+      })))
 
   pub concat : (t x y : RelTerm) (a b u w : Machine) → t ≡ R.Concat x y → IsR x a → IsR y b → w ≡ u → IsMachine w → u.letters ≡ a.letters
       → machine_states u ≡ machine_states a + machine_states b
@@ -89,8 +126,15 @@ module _ (E : Type 0) (l : Lettering) (paths : Paths) where
   unfolding IsMadeR
   concat t x y a b u w is one two same ok letters count first second relation =
       well (IsR t) u w same ok (λ ok.
-      by_form t (R.Concat x y) _ _ _ u is (in_concat_r m.setting x y) (at_concat_r m x y) (apart_concat_r m x y)
-      (sums.concat E l.blocks (InR m.setting x) (AtR m x) (ApartR m x) a u one (InR m.setting y) (AtR m y) (ApartR m y) b two first second ok letters count relation))
+      by_form_r E l paths t (R.Concat x y) (λ v o. PairConcatenation (InR m.setting x) (InR m.setting y) v o) u (machine_states a + machine_states b) is (in_concat_r m.setting x y) ok (letters ∙ one.letters) count
+      (same_as (Relates f u) (PairJoins (Relates f a) (Relates f b)) (PairConcatenation (InR m.setting x) (InR m.setting y)) (relation f)
+      (pairs_joined (Relates f a) (Relates f b) (InR m.setting x) (InR m.setting y) one.relation two.relation))
+      (built.joined_r m E x y (machine_states a) (machine_states b) (L a) (L b) (L u) (placed_r E l paths x a one) (placed_r E l paths y b two) (record {
+        count = below a one.machine;
+        first = λ q z. first f q z.0 z.1;
+        second = λ q z. same_as (L u (machine_states a + q)) (PairJoins (Relates f a) (L b q)) (PairConcatenation (InR m.setting x) (L b q)) (second f q)
+            (pairs_joined (Relates f a) (L b q) (InR m.setting x) (L b q) one.relation (λ v o. ((λ h. h), λ h. h))) z.0 z.1;
+      })))
 
   pub star : (t x : RelTerm) (a u w : Machine) → t ≡ R.Star x → IsR x a → w ≡ u → IsMachine w → u.letters ≡ a.letters → machine_states u ≡ 1 + machine_states a
       → ((read : ℕ → ℕ) (v o : List ℕ) → ReachR read u 0 v o ↔ ((v ≡ []) × (o ≡ [])))
@@ -98,15 +142,39 @@ module _ (E : Type 0) (l : Lettering) (paths : Paths) where
       → ((read : ℕ → ℕ) (v o : List ℕ) → Relates read u v o ↔ PairRepeats (Relates read a) v o) → IsR t w
   unfolding IsMadeR
   star t x a u w is one same ok letters count start copies relation =
+      let stars = pairs_repeated (Relates f a) (InR m.setting x) one.relation in
       well (IsR t) u w same ok (λ ok.
-      by_form t (R.Star x) _ _ _ u is (in_star_r m.setting x) (at_star_r m x) (apart_star_r m x)
-      (sums.star E l.blocks (InR m.setting x) (AtR m x) (ApartR m x) a u one start copies ok letters count relation))
+      by_form_r E l paths t (R.Star x) (λ v o. PairStar (InR m.setting x) v o) u (1 + machine_states a) is (in_star_r m.setting x) ok (letters ∙ one.letters) count
+      (same_as (Relates f u) (PairRepeats (Relates f a)) (PairStar (InR m.setting x)) (relation f) stars)
+      (built.star_r m E x (machine_states a) (L a) (L u) (placed_r E l paths x a one) (record {
+        begin = λ z. start f z.0 z.1;
+        copies = λ q z. same_as (L u (1 + q)) (PairJoins (PairRepeats (Relates f a)) (L a q)) (PairConcatenation (PairStar (InR m.setting x)) (L a q)) (copies f q)
+            (pairs_joined (PairRepeats (Relates f a)) (L a q) (PairStar (InR m.setting x)) (L a q) stars (λ v o. ((λ h. h), λ h. h))) z.0 z.1;
+      })))
+
+  -- ---- pairs of states
 
   pub compose : (t x y : RelTerm) (a b u w : Machine) → t ≡ R.Compose x y → Covers (read_by l.blocks) (block_count l.blocks) → IsR x a → IsR y b → w ≡ u → IsMachine w
       → u.letters ≡ a.letters → (pairs : List Pair) × IsComposition a b pairs u
       → ((read : ℕ → ℕ) → Covers read a.letters → (v o : List ℕ) → Relates read u v o ↔ ((middle : List ℕ) × Relates read a v middle × Relates read b middle o)) → IsR t w
   unfolding IsMadeR
-  compose t x y a b u w is covers one two same ok letters pairs relation =
+  compose t x y a b u w is covers one two same ok letters (pairs, composes) relation =
+      let covers_a : Covers f a.letters = subst (Covers f) (sym one.letters) covers in
       well (IsR t) u w same ok (λ ok.
-      by_form t (R.Compose x y) _ _ _ u is (in_compose_r m.setting x y) (at_compose_r m x y) (apart_compose_r m x y)
-      (composing.compose E l.blocks covers (InR m.setting x) (InR m.setting y) (AtR m x) (AtR m y) (ApartR m x) (ApartR m y) a b u one two pairs.0 pairs.1 ok letters relation))
+      by_form_r E l paths t (R.Compose x y) (λ v o. Composition (InR m.setting x) (InR m.setting y) v o) u (length (map two_of pairs)) is (in_compose_r m.setting x y) ok (letters ∙ one.letters)
+      (sym (length-map pairs two_of ∙ composes.count))
+      (λ v o. (
+        λ related.
+            let found = (relation f covers_a v o).0 related in record {
+              middle = found.0;
+              first = (one.relation v found.0).0 found.1;
+              second = (two.relation found.0 o).0 found.2;
+            },
+        λ c. (relation f covers_a v o).1 (c.middle, (one.relation v c.middle).1 c.first, (two.relation c.middle o).1 c.second),
+      ))
+      (built.composed m E x y (machine_states a) (machine_states b) (L a) (L b) (L u) (placed_r E l paths x a one) (placed_r E l paths y b two) (map two_of pairs)
+      (numbered pairs (OnPairs (ReachByMiddle (L a) (L b))) (OnPairs (L u)) composes.distinct
+      (λ s z (middle, first, second).
+      composes.all s (map f z.0, map f z.1, (map f middle, letters_reached f a s.left z.0 middle first, letters_reached f b s.right middle z.1 second)))
+      (λ k z h. let less = below u ok k z h in omega (arith, less, composes.count))
+      (λ k s at z. composes.reached f covers_a k s at z.0 z.1))))

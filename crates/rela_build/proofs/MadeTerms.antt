@@ -1,32 +1,38 @@
 -- Automata of path terms, form by form, from those of their parts and what the calls tell.
-use Rattle.std.proofs.Common.{◌≡◌, ℕ, ◌+◌, ◌<◌, ◌≤◌, ◌↔◌, ◌⊎◌, Bool, List, [], ◌∷◌, map, take, refl, sym, ap, ◌∙◌, subst}
+use Rattle.std.proofs.Common.{◌≡◌, ℕ, ◌+◌, ◌<◌, ◌↔◌, ◌⊎◌, Bool, List, [], ◌∷◌, length, map, refl, sym, ap, ◌∙◌, subst, inl, inr, arith}
+use Rattle.std.proofs.lemmas.List.{length-map}
 use Rattle.rela_labels.specs.Partition.{block_count}
 use Rattle.rela_nfa.specs.Automaton.{Automaton, IsAutomaton, states}
-use Rattle.rela_nfa.specs.Languages.{Joins, Repeats, IsLetterOf}
+use Rattle.rela_nfa.specs.Languages.{Joins, Repeats}
 use Rattle.rela_nfa.specs.Meeting.{IsMeet}
 use Rattle.rela_nfa.specs.Runs.{Reach, Accepts}
+use Rattle.rela_nfa.proofs.Parts.{state_of_reach}
 use Rattle.rela_pairs.specs.declared.pair.Pair.{Pair}
-use Rattle.rela_rir.specs.Meaning.{In}
-use Rattle.rela_rir.specs.Places.{Place, Scene, Tells, At, Apart, LetterPlaces, PathSetPlaces, PartsApart, NoParts}
-use Rattle.rela_rir.specs.Words.{WordSet}
+use Rattle.rela_rir.specs.Built.{OneState, ComplementStates}
+use Rattle.rela_rir.specs.Meaning.{In, InR, IsPathWord}
+use Rattle.rela_rir.specs.Places.{Scene, Places, Tells, At, Apart, LetterPlaces, PathSetPlaces, PartsApart, NoParts}
+use Rattle.rela_rir.specs.Tables.{ReachTogether, ReachFromSource, ToldByState}
+use Rattle.rela_rir.specs.Words.{WordSet, Concatenation, Star, ImageOf}
 use Rattle.rela_rir.specs.declared.term.PathTerm.{PathTerm}
 use Rattle.rela_rir.specs.declared.term.RelTerm.{RelTerm}
 use Rattle.rela_rir.specs.declared.term.PathTerm.TheVariants as P
+use Rattle.rela_rir.proofs.BuiltTerms as built
 use Rattle.rela_rir.proofs.MeaningForms.{in_none, in_empty, in_class, in_one, in_union, in_concat, in_star, in_meet, in_complement, in_pre, in_post, in_image}
-use Rattle.rela_rir.proofs.PlaceForms.{at_none, at_empty, at_class, at_one, at_union, at_concat, at_star, at_meet, at_complement, at_pre, at_post, at_image, apart_none, apart_empty, apart_class, apart_one, apart_union, apart_concat, apart_star, apart_meet, apart_complement, apart_pre, apart_post, apart_image}
+use Rattle.rela_rir.proofs.PlaceForms.{at_class, at_one, at_pre, at_post, apart_class, apart_one, apart_pre, apart_post}
 use Rattle.rela_trans.specs.Composition.{Covers}
 use Rattle.rela_trans.specs.Images.{IsImage}
-use Rattle.rela_trans.specs.Machine.{Machine}
+use Rattle.rela_trans.specs.Machine.{Machine, machine_states}
 use Rattle.rela_trans.specs.Runs.{Relates}
+use Rattle.rela_trans.proofs.SymbolLetters.{letters_reached}
+use Rattle.rela_build.specs.Complement.{IsOver, IsComplement, ReachApart}
 use Rattle.rela_build.specs.Lettering.{Lettering, IsInEntry}
-use Rattle.rela_build.specs.Made.{IsBuilt, IsLetterAutomaton, IsMade, IsMadeR}
+use Rattle.rela_build.specs.Made.{Leads, LeadsR, IsBuilt, IsLetterAutomaton, IsMade, IsMadeR}
 use Rattle.rela_build.specs.Notes.{IsComplementOf}
 use Rattle.rela_build.specs.PathSets.{Paths, scene_of}
 use Rattle.rela_build.specs.Reading.{read_by, HoldsJust}
-use Rattle.rela_build.proofs.FewForms as few
-use Rattle.rela_build.proofs.ImageForms as images
-use Rattle.rela_build.proofs.Meets as meets
-use Rattle.rela_build.proofs.WordSums as sums
+use Rattle.rela_build.proofs.PairStates.{two_of, numbered}
+use Rattle.rela_build.proofs.PlacedTerms.{placed, placed_r, by_form}
+use Rattle.rela_build.proofs.ReadWords.{read_as, no_letters, joined, repeated, over}
 
 -- what is well formed is as it was
 pub well : (Is : Automaton → Type 0) (u w : Automaton) → w ≡ u → IsAutomaton w → (IsAutomaton u → Is u) → Is w
@@ -36,53 +42,72 @@ module _ (E : Type 0) (l : Lettering) (paths : Paths) where
   abbrev m : Scene
   m = scene_of l paths
 
+  abbrev f : ℕ → ℕ
+  f = read_by l.blocks
+
+  abbrev L : Automaton → ℕ → List ℕ → Type 0
+  L a = Leads l.blocks a
+
   abbrev Is : PathTerm → Automaton → Type 0
   Is t a = IsMade E l paths t a
-
-  by_form : (t u : PathTerm) (X : WordSet) (x : Place → WordSet) (D : Tells) (a : Automaton) → t ≡ u → In m.setting u ≡ X → At m u ≡ x → Apart m u ≡ D → IsBuilt E l.blocks X x D a → Is t a
-  unfolding IsMade
-  by_form t u X x D a is words places apart built =
-      subst (λ (v : PathTerm). Is v a) (sym is)
-      (subst (λ (Y : WordSet). IsBuilt E l.blocks Y (At m u) (Apart m u) a) (sym words)
-      (subst (λ (y : Place → WordSet). IsBuilt E l.blocks X y (Apart m u) a) (sym places)
-      (subst (λ (F : Tells). IsBuilt E l.blocks X x F a) (sym apart) built)))
-
-  -- a table that turns round always
-  always : (X : WordSet) (x : Place → WordSet) (D : Tells) (a : Automaton) → IsBuilt (Unit {0}) l.blocks X x D a → IsBuilt E l.blocks X x D a
-  always X x D a built = record {
-    automaton = built.automaton;
-    letters = built.letters;
-    language = built.language;
-    table = built.table;
-    placed = built.placed;
-    exact = λ e. built.exact tt;
-  }
 
   pub made_letters : (t : PathTerm) (a : Automaton) → Is t a → a.letters ≡ block_count l.blocks
   unfolding IsMade
   made_letters t a made = made.letters
 
+  below : (a : Automaton) → IsAutomaton a → (q : ℕ) (w : List ℕ) → L a q w → q < states a
+  below a ok q w h = state_of_reach a ok q (map f w) h
+
+  begun : (a : Automaton) → ((v : List ℕ) → Reach a 0 v ↔ (v ≡ [])) → (w : List ℕ) → L a 0 w ↔ (w ≡ [])
+  begun a start = read_as f (Reach a 0) (λ w. w ≡ []) (λ w. w ≡ []) start (no_letters f)
+
+  -- ---- one state
+
+  one_state : (a : Automaton) → IsAutomaton a → states a ≡ 1 → ((v : List ℕ) → Reach a 0 v ↔ (v ≡ [])) → OneState (L a)
+  one_state a ok count start = record {
+    begin = begun a start;
+    count = λ q w h. let less = below a ok q w h in omega (arith, less, count);
+  }
+
   pub none : (t : PathTerm) (u w : Automaton) (n : ℕ) → t ≡ P.None → w ≡ u → IsAutomaton w → n ≡ block_count l.blocks → u.letters ≡ n → states u ≡ 1
       → ((v : List ℕ) → Reach u 0 v ↔ (v ≡ [])) → ((v : List ℕ) → ¬ Accepts u v) → Is t w
-  unfolding IsMade
   none t u w n is same ok size letters count start language =
-      well (Is t) u w same ok (λ ok. by_form t P.None _ _ _ u is (in_none m.setting) (at_none m) (apart_none m) (few.none E l.blocks u n ok size letters count start language))
+      well (Is t) u w same ok (λ ok.
+      by_form E l paths t P.None (λ w. ⊥) u 1 is (in_none m.setting) ok (letters ∙ size) count (λ w. (language (map f w), λ h. absurd h))
+      (built.none m E (L u) (one_state u ok count start)))
 
   pub empty : (t : PathTerm) (u w : Automaton) (n : ℕ) → t ≡ P.Empty → w ≡ u → IsAutomaton w → n ≡ block_count l.blocks → u.letters ≡ n → states u ≡ 1
       → ((v : List ℕ) → Reach u 0 v ↔ (v ≡ [])) → ((v : List ℕ) → Accepts u v ↔ (v ≡ [])) → Is t w
-  unfolding IsMade
   empty t u w n is same ok size letters count start language =
-      well (Is t) u w same ok (λ ok. by_form t P.Empty _ _ _ u is (in_empty m.setting) (at_empty m) (apart_empty m) (few.empty E l.blocks u n ok size letters count start language))
+      well (Is t) u w same ok (λ ok.
+      by_form E l paths t P.Empty (λ w. w ≡ []) u 1 is (in_empty m.setting) ok (letters ∙ size) count
+      (read_as f (Accepts u) (λ w. w ≡ []) (λ w. w ≡ []) language (no_letters f))
+      (built.empty m E (L u) (one_state u ok count start)))
+
+  -- ---- what is given, with a table that turns round always
+
+  given : (t u : PathTerm) (X : WordSet) (x : Places) (D : Tells) (a : Automaton) → t ≡ u → In m.setting u ≡ X → At m u ≡ x → Apart m u ≡ D → IsBuilt (Unit {0}) l.blocks X x D a → Is t a
+  unfolding IsMade
+  given t u X x D a is words places apart built =
+      subst (λ (v : PathTerm). Is v a) (sym is)
+      (subst (λ (Y : WordSet). IsBuilt E l.blocks Y (At m u) (Apart m u) a) (sym words)
+      (subst (λ (y : Places). IsBuilt E l.blocks X y (Apart m u) a) (sym places)
+      (subst (λ (F : Tells). IsBuilt E l.blocks X x F a) (sym apart) (record {
+        automaton = built.automaton;
+        letters = built.letters;
+        language = built.language;
+        table = built.table;
+        placed = built.placed;
+        exact = λ e. built.exact tt;
+      }))))
 
   pub class : (t : PathTerm) (k : ℕ) (a : Automaton) → t ≡ P.Class k → IsLetterAutomaton l.blocks (IsInEntry l k) a → Is t a
-  unfolding IsMade IsLetterAutomaton
-  class t k a is built =
-      by_form t (P.Class k) _ _ _ a is (in_class m.setting k) (at_class m k) (apart_class m k)
-      (always (λ w. (s : ℕ) × (w ≡ s ∷ []) × IsInEntry l k s) (LetterPlaces (IsInEntry l k)) (PartsApart NoParts NoParts) a built)
-
-  one_words : (s : ℕ) (a : Automaton) → IsLetterAutomaton l.blocks (λ t. t ≡ s) a → IsBuilt E l.blocks (λ w. w ≡ s ∷ []) (LetterPlaces (λ t. t ≡ s)) (PartsApart NoParts NoParts) a
   unfolding IsLetterAutomaton
-  one_words s a built = record {
+  class t k a is built = given t (P.Class k) _ _ _ a is (in_class m.setting k) (at_class m k) (apart_class m k) built
+
+  one_word : (s : ℕ) (a : Automaton) → IsLetterAutomaton l.blocks (λ t. t ≡ s) a → IsBuilt (Unit {0}) l.blocks (λ w. w ≡ s ∷ []) (LetterPlaces (λ t. t ≡ s)) (PartsApart NoParts NoParts) a
+  unfolding IsLetterAutomaton
+  one_word s a built = record {
     automaton = built.automaton;
     letters = built.letters;
     language = λ w. (
@@ -91,22 +116,19 @@ module _ (E : Type 0) (l : Lettering) (paths : Paths) where
     );
     table = built.table;
     placed = built.placed;
-    exact = λ e. built.exact tt;
+    exact = built.exact;
   }
 
   pub one : (t : PathTerm) (s : ℕ) (a : Automaton) → t ≡ P.One s → IsLetterAutomaton l.blocks (λ r. r ≡ s) a → Is t a
-  unfolding IsMade IsLetterAutomaton
-  one t s a is built = by_form t (P.One s) _ _ _ a is (in_one m.setting s) (at_one m s) (apart_one m s) (one_words s a built)
+  one t s a is built = given t (P.One s) _ _ _ a is (in_one m.setting s) (at_one m s) (apart_one m s) (one_word s a built)
 
   pub pre : (t : PathTerm) (a : Automaton) → t ≡ P.Pre → IsBuilt (Unit {0}) l.blocks paths.pre (PathSetPlaces paths.at_pre) (PartsApart NoParts NoParts) a → Is t a
-  unfolding IsMade
-  pre t a is built =
-      by_form t P.Pre _ _ _ a is (in_pre m.setting) (at_pre m) (apart_pre m) (always paths.pre (PathSetPlaces paths.at_pre) (PartsApart NoParts NoParts) a built)
+  pre t a is built = given t P.Pre _ _ _ a is (in_pre m.setting) (at_pre m) (apart_pre m) built
 
   pub post : (t : PathTerm) (a : Automaton) → t ≡ P.Post → IsBuilt (Unit {0}) l.blocks paths.post (PathSetPlaces paths.at_post) (PartsApart NoParts NoParts) a → Is t a
-  unfolding IsMade
-  post t a is built =
-      by_form t P.Post _ _ _ a is (in_post m.setting) (at_post m) (apart_post m) (always paths.post (PathSetPlaces paths.at_post) (PartsApart NoParts NoParts) a built)
+  post t a is built = given t P.Post _ _ _ a is (in_post m.setting) (at_post m) (apart_post m) built
+
+  -- ---- states side by side
 
   pub union : (t x y : PathTerm) (a b u w : Automaton) → t ≡ P.Union x y → Is x a → Is y b → w ≡ u → IsAutomaton w → u.letters ≡ a.letters
       → states u ≡ 1 + states a + states b → ((v : List ℕ) → Reach u 0 v ↔ (v ≡ []))
@@ -115,8 +137,17 @@ module _ (E : Type 0) (l : Lettering) (paths : Paths) where
   unfolding IsMade
   union t x y a b u w is one two same ok letters count start first second language =
       well (Is t) u w same ok (λ ok.
-      by_form t (P.Union x y) _ _ _ u is (in_union m.setting x y) (at_union m x y) (apart_union m x y)
-      (sums.union E l.blocks (In m.setting x) (At m x) (Apart m x) a u one (In m.setting y) (At m y) (Apart m y) b two start first second ok letters count language))
+      by_form E l paths t (P.Union x y) (λ w. In m.setting x w ⊎ In m.setting y w) u (1 + (states a + states b)) is (in_union m.setting x y) ok (letters ∙ one.letters) (omega (arith, count))
+      (λ w. (
+        λ h. elim ((language (map f w)).0 h) [ inl left ↦ inl ((one.language w).0 left) | inr right ↦ inr ((two.language w).0 right) ],
+        λ either. (language (map f w)).1 (elim either [ inl left ↦ inl ((one.language w).1 left) | inr right ↦ inr ((two.language w).1 right) ]),
+      ))
+      (built.union m E x y (states a) (states b) (L a) (L b) (L u) (placed E l paths x a one) (placed E l paths y b two) (record {
+        count = below a one.automaton;
+        begin = begun u start;
+        first = λ q w. first q (map f w);
+        second = λ q w. second q (map f w);
+      })))
 
   pub concat : (t x y : PathTerm) (a b u w : Automaton) → t ≡ P.Concat x y → Is x a → Is y b → w ≡ u → IsAutomaton w → u.letters ≡ a.letters
       → states u ≡ states a + states b → ((q : ℕ) (v : List ℕ) → q < states a → Reach u q v ↔ Reach a q v)
@@ -125,8 +156,15 @@ module _ (E : Type 0) (l : Lettering) (paths : Paths) where
   unfolding IsMade
   concat t x y a b u w is one two same ok letters count first second language =
       well (Is t) u w same ok (λ ok.
-      by_form t (P.Concat x y) _ _ _ u is (in_concat m.setting x y) (at_concat m x y) (apart_concat m x y)
-      (sums.concat E l.blocks (In m.setting x) (At m x) (Apart m x) a u one (In m.setting y) (At m y) (Apart m y) b two first second ok letters count language))
+      by_form E l paths t (P.Concat x y) (λ w. Concatenation (In m.setting x) (In m.setting y) w) u (states a + states b) is (in_concat m.setting x y) ok (letters ∙ one.letters) count
+      (read_as f (Accepts u) (Joins (Accepts a) (Accepts b)) (Concatenation (In m.setting x) (In m.setting y)) language
+      (joined f (Accepts a) (Accepts b) (In m.setting x) (In m.setting y) one.language two.language))
+      (built.joined m E x y (states a) (states b) (L a) (L b) (L u) (placed E l paths x a one) (placed E l paths y b two) (record {
+        count = below a one.automaton;
+        first = λ q w. first q (map f w);
+        second = λ q. read_as f (Reach u (states a + q)) (Joins (Accepts a) (Reach b q)) (Concatenation (In m.setting x) (L b q)) (second q)
+            (joined f (Accepts a) (Reach b q) (In m.setting x) (L b q) one.language (λ v. ((λ h. h), λ h. h)));
+      })))
 
   pub star : (t x : PathTerm) (a u w : Automaton) → t ≡ P.Star x → Is x a → w ≡ u → IsAutomaton w → u.letters ≡ a.letters
       → states u ≡ 1 + states a → ((v : List ℕ) → Reach u 0 v ↔ (v ≡ []))
@@ -134,29 +172,101 @@ module _ (E : Type 0) (l : Lettering) (paths : Paths) where
       → ((v : List ℕ) → Accepts u v ↔ Repeats (Accepts a) v) → Is t w
   unfolding IsMade
   star t x a u w is one same ok letters count start copies language =
+      let stars = repeated f (Accepts a) (In m.setting x) one.language in
       well (Is t) u w same ok (λ ok.
-      by_form t (P.Star x) _ _ _ u is (in_star m.setting x) (at_star m x) (apart_star m x)
-      (sums.star E l.blocks (In m.setting x) (At m x) (Apart m x) a u one start copies ok letters count language))
+      by_form E l paths t (P.Star x) (λ w. Star (In m.setting x) w) u (1 + states a) is (in_star m.setting x) ok (letters ∙ one.letters) count
+      (read_as f (Accepts u) (Repeats (Accepts a)) (Star (In m.setting x)) language stars)
+      (built.star m E x (states a) (L a) (L u) (placed E l paths x a one) (record {
+        begin = begun u start;
+        copies = λ q. read_as f (Reach u (1 + q)) (Joins (Repeats (Accepts a)) (Reach a q)) (Concatenation (Star (In m.setting x)) (L a q)) (copies q)
+            (joined f (Repeats (Accepts a)) (Reach a q) (Star (In m.setting x)) (L a q) stars (λ v. ((λ h. h), λ h. h)));
+      })))
+
+  -- ---- pairs of states
 
   pub meet : (t x y : PathTerm) (a b u w : Automaton) → t ≡ P.Meet x y → Is x a → Is y b → w ≡ u → IsAutomaton w → u.letters ≡ a.letters
       → (pairs : List Pair) × IsMeet a b pairs u → ((v : List ℕ) → Accepts u v ↔ (Accepts a v × Accepts b v)) → Is t w
   unfolding IsMade
-  meet t x y a b u w is one two same ok letters pairs language =
+  meet t x y a b u w is one two same ok letters (pairs, meets) language =
       well (Is t) u w same ok (λ ok.
-      by_form t (P.Meet x y) _ _ _ u is (in_meet m.setting x y) (at_meet m x y) (apart_meet m x y)
-      (meets.meet E l.blocks (In m.setting x) (In m.setting y) (At m x) (At m y) (Apart m x) (Apart m y) a b u one two pairs.0 pairs.1 ok letters language))
-
-  pub complement : (t x : PathTerm) (a u : Automaton) → t ≡ P.Complement x → Is x a → IsComplementOf l E a u → Is t u
-  unfolding IsMade
-  complement t x a u is one of =
-      by_form t (P.Complement x) _ _ _ u is (in_complement m.setting x) (at_complement m x) (apart_complement m x)
-      (meets.complement E l.blocks l.path_symbols (In m.setting x) (At m x) (Apart m x) of.0 a u one of.1 of.2 of.3)
+      by_form E l paths t (P.Meet x y) (λ w. In m.setting x w × In m.setting y w) u (length (map two_of pairs)) is (in_meet m.setting x y) ok (letters ∙ one.letters)
+      (sym (length-map pairs two_of ∙ meets.count))
+      (λ w. (
+        λ h. let both = (language (map f w)).0 h in ((one.language w).0 both.0, (two.language w).0 both.1),
+        λ both. (language (map f w)).1 ((one.language w).1 both.0, (two.language w).1 both.1),
+      ))
+      (built.meet m E x y (states a) (states b) (L a) (L b) (L u) (placed E l paths x a one) (placed E l paths y b two) (map two_of pairs)
+      (numbered pairs (ReachTogether (L a) (L b)) (L u) meets.distinct
+      (λ z w both. meets.all z (map f w, both))
+      (λ k w h. let less = below u ok k w h in omega (arith, less, meets.count))
+      (λ k z at w. meets.reached k z at (map f w)))))
 
   pub image : (t x : PathTerm) (r : RelTerm) (a : Automaton) (s : Machine) (u w : Automaton) → t ≡ P.Image x r → Covers (read_by l.blocks) (block_count l.blocks)
       → Is x a → IsMadeR E l paths r s → w ≡ u → IsAutomaton w → u.letters ≡ a.letters → (pairs : List Pair) × IsImage a s pairs u
       → ((read : ℕ → ℕ) → Covers read a.letters → (v : List ℕ) → Accepts u (map read v) ↔ ((source : List ℕ) × Accepts a (map read source) × Relates read s source v)) → Is t w
   unfolding IsMade IsMadeR
-  image t x r a s u w is covers one two same ok letters pairs language =
+  image t x r a s u w is covers one two same ok letters (pairs, images) language =
+      let covers_a : Covers f a.letters = subst (Covers f) (sym one.letters) covers in
       well (Is t) u w same ok (λ ok.
-      by_form t (P.Image x r) _ _ _ u is (in_image m.setting x r) (at_image m x r) (apart_image m x r)
-      (images.image E l.blocks covers _ _ (At m x) _ (Apart m x) _ a s u one two pairs.0 pairs.1 ok letters language))
+      by_form E l paths t (P.Image x r) (λ w. ImageOf (In m.setting x) (InR m.setting r) w) u (length (map two_of pairs)) is (in_image m.setting x r) ok (letters ∙ one.letters)
+      (sym (length-map pairs two_of ∙ images.count))
+      (λ v. (
+        λ accepted.
+            let found = (language f covers_a v).0 accepted in record {
+              source = found.0;
+              in_set = (one.language found.0).0 found.1;
+              related = (two.relation found.0 v).0 found.2;
+            },
+        λ i. (language f covers_a v).1 (i.source, (one.language i.source).1 i.in_set, (two.relation i.source v).1 i.related),
+      ))
+      (built.image m E x (states a) (L a) (L u) (placed E l paths x a one) r (machine_states s) (LeadsR l.blocks s) (map two_of pairs) (placed_r E l paths r s two)
+      (numbered pairs (ReachFromSource (L a) (LeadsR l.blocks s)) (L u) images.distinct
+      (λ z v (source, first, second). images.all z (map f source, map f v, first, letters_reached f s z.right source v second))
+      (λ k v h. let less = below u ok k v h in omega (arith, less, images.count))
+      (λ k z at v. images.reached f covers_a k z at v))))
+
+  -- ---- complements
+
+  told : (a : Automaton) (v w : List ℕ) → ReachApart a (map f v) (map f w) → ToldByState (L a) v w
+  told a v w (q, inl first) = (q, inl first)
+  told a v w (q, inr second) = (q, inr (second.1, second.0))
+
+  module _ (a r : Automaton) (set : List Bool) (of_path : HoldsJust l.blocks (λ s. s < l.path_symbols) set) (is : IsComplement a set r) where
+    is_over : (w : List ℕ) → IsPathWord l.path_symbols w → IsOver set (map f w)
+    is_over w path = (over f set l.path_symbols of_path.holds w).1 path
+
+    of_over : (w : List ℕ) → IsOver set (map f w) → IsPathWord l.path_symbols w
+    of_over w each = (over f set l.path_symbols of_path.holds w).0 each
+
+    complement_states : ComplementStates l.path_symbols (L a) (L r)
+    complement_states = record {
+      after = λ w. is.after (map f w);
+      reached = λ q w. (
+        λ h. let both = (is.reached q (map f w)).0 h in (of_over w both.0, both.1),
+        λ both. (is.reached q (map f w)).1 (is_over w both.0, both.1),
+      );
+      alike = λ v w of_v of_w same. is.alike (map f v) (map f w) (is_over v of_v) (is_over w of_w) same;
+      told = λ v w of_v of_w differ. told a v w (is.told (map f v) (map f w) (is_over v of_v) (is_over w of_w) differ);
+    }
+
+    arrives : (w : List ℕ) (q : ℕ) → IsPathWord l.path_symbols w → is.after (map f w) ≡ q → L r q w
+    arrives w q path at = (is.reached q (map f w)).1 (is_over w path, at)
+
+  pub complement : (t x : PathTerm) (a u : Automaton) → t ≡ P.Complement x → Is x a → IsComplementOf l E a u → Is t u
+  unfolding IsMade complement_states
+  complement t x a u is one (set, of_path, complements, all) =
+      by_form E l paths t (P.Complement x) (λ w. IsPathWord l.path_symbols w × (¬ In m.setting x w)) u (states u) is (in_complement m.setting x) complements.automaton
+      (complements.letters ∙ one.letters) refl
+      (λ w. (
+        λ h.
+            let both = (complements.language (map f w)).0 h in
+            (of_over a u set of_path complements w both.0, λ in_x. both.1 ((one.language w).1 in_x)),
+        λ both. (complements.language (map f w)).1 (is_over a u set of_path complements w both.0, λ accepted. both.1 ((one.language w).0 accepted)),
+      ))
+      (built.complement m E x (states a) (L a) (L u) (placed E l paths x a one) (states u) (complement_states a u set of_path complements) (λ e. record {
+        below = λ v path. below u complements.automaton (complements.after (map f v)) v (arrives a u set of_path complements v (complements.after (map f v)) path refl);
+        alike = λ v w of_v of_w same.
+            all e (complements.after (map f w)) (map f v) (map f w)
+            (arrives a u set of_path complements v (complements.after (map f w)) of_v same)
+            (arrives a u set of_path complements w (complements.after (map f w)) of_w refl);
+      }))

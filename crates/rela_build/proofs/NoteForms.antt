@@ -1,5 +1,5 @@
 -- Notes of the complements in a term, and why a term isn't built, by the form of the term.
-use Rattle.std.proofs.Common.{◌≡◌, ℕ, ◌+◌, ◌⊎◌, List, [], ◌∷◌, ◌++◌, length, refl, sym, ap, ◌∙◌, subst, inl, inr, Bool}
+use Rattle.std.proofs.Common.{◌≡◌, ℕ, ◌+◌, ◌⊎◌, List, [], ◌∷◌, ◌++◌, length, sym, ap, ◌∙◌, subst, inl, inr, Bool}
 use Rattle.rela_nfa.specs.Automaton.{Automaton}
 use Rattle.rela_pairs.specs.declared.errors.BuildError.{BuildError}
 use Rattle.rela_pairs.specs.declared.errors.BuildError.TheVariants as B
@@ -16,7 +16,7 @@ use Rattle.rela_build.specs.Notes.{Notes, Noted, NotedR, NotedTwo, NotedTwoR, Re
 use Rattle.rela_build.specs.PathSets.{Paths, scene_of}
 use Rattle.rela_build.specs.Stops.{stop_of}
 use Rattle.rela_build.specs.declared.stop.Stop.{Stop}
-use Rattle.rela_build.specs.declared.stop.Stop.TheVariants.{Limit, Refused, Memory}
+use Rattle.rela_build.specs.declared.stop.Stop.TheVariants.{Memory}
 use Rattle.rela_build.proofs.Insides.{in_union, in_concat, in_star, in_meet, in_complement, in_image, in_identity_r, in_product_r, in_union_r, in_concat_r, in_star_r, in_compose_r, parts_none, parts_empty, parts_class, parts_one, parts_pre, parts_post, parts_union, parts_concat, parts_star, parts_meet, parts_complement, parts_image, parts_identity_r, parts_product_r, parts_union_r, parts_concat_r, parts_star_r, parts_compose_r}
 use Rattle.rela_build.proofs.NotesInOrder.{no_notes, notes_alike, notes_both, notes_more, notes_after, refused_alike, refused_first, refused_second, refused_whole, explains_more, explains_memory, explains_limit}
 

@@ -2,16 +2,14 @@
 use Rattle.std.proofs.Common.{◌≡◌, ℕ, suc, ◌+◌, List, [], ◌∷◌, ◌++◌, length, refl, sym, ap, ◌∙◌, subst, append_assoc, length-append, Bool, arith}
 use Rattle.std.specs.Prelude.{Result, Ok, Err, IfErr, IsErrAnd}
 use Rattle.std.proofs.lemmas.List.{append-nil}
-use Rattle.std.proofs.lemmas.Result.{err_from_is_err_and, IfErr-at_err}
 use Rattle.rela_nfa.specs.Automaton.{Automaton}
 use Rattle.rela_pairs.specs.declared.errors.BuildError.{BuildError}
 use Rattle.rela_pairs.specs.declared.errors.BuildError.TheVariants as B
 use Rattle.rela_rir.specs.declared.term.PathTerm.{PathTerm}
 use Rattle.rela_build.specs.Lettering.{Lettering}
 use Rattle.rela_build.specs.Made.{IsMade}
-use Rattle.rela_build.specs.Notes.{IsPart, IsNoted, AreNoted, Notes, IsRefused, Explains, NotesOne, RefusesOne}
+use Rattle.rela_build.specs.Notes.{AreNoted, Notes, IsRefused, Explains, NotesOne, RefusesOne}
 use Rattle.rela_build.specs.PathSets.{Paths}
-use Rattle.rela_build.specs.Reading.{HoldsJust}
 use Rattle.rela_build.specs.Stops.{stop_of}
 use Rattle.rela_build.specs.declared.stop.Stop.{Stop}
 use Rattle.rela_build.specs.declared.stop.Stop.TheVariants.{Limit, Refused, Memory}

@@ -1,5 +1,5 @@
 -- Relations between words that are told piece by piece.
-use Rattle.std.proofs.Common.{◌≡◌, ℕ, ◌↔◌, List, [], ◌∷◌}
+use Rattle.std.proofs.Common.{ℕ, ◌↔◌, List, [], ◌∷◌}
 use Rattle.std.specs.List.{AllZip}
 use Rattle.rela_rir.specs.Words.{Relation, PairConcatenation, PairStar}
 use Rattle.rela_trans.specs.Relations.{PairJoins, PairRepeats}
@@ -7,6 +7,9 @@ use Rattle.rela_trans.specs.Relations.{PairJoins, PairRepeats}
 -- the two relations have the same pairs
 abbrev pub Same : Relation → Relation → Type 0
 Same R S = (u v : List ℕ) → R u v ↔ S u v
+
+pub same_as : (R S T : Relation) → Same R S → Same S T → Same R T
+same_as R S T one two u v = (λ h. (two u v).0 ((one u v).0 h), λ h. (one u v).1 ((two u v).1 h))
 
 pub pairs_joined : (A B R S : Relation) → Same A R → Same B S → Same (PairJoins A B) (PairConcatenation R S)
 pairs_joined A B R S a b u v = (

@@ -15,6 +15,17 @@ module _ (f : ℕ → ℕ) where
   abbrev pub Reads : WordSet → WordSet → Type 0
   Reads A X = (w : List ℕ) → A (map f w) ↔ X w
 
+  -- the same words of letters are those of the same words of symbols
+  pub read_as : (A B X : WordSet) → ((w : List ℕ) → A w ↔ B w) → Reads B X → Reads A X
+  read_as A B X same reads w = (λ h. (reads w).0 ((same (map f w)).0 h), λ h. (same (map f w)).1 ((reads w).1 h))
+
+  no_symbols : (w : List ℕ) → map f w ≡ [] → w ≡ []
+  no_symbols [] e = e
+  no_symbols (s ∷ w) e = absurd cc
+
+  pub no_letters : Reads (λ w. w ≡ []) (λ w. w ≡ [])
+  no_letters w = (no_symbols w, λ e. ap (map f) e)
+
   pub joined : (A B X Y : WordSet) → Reads A X → Reads B Y → Reads (Joins A B) (Concatenation X Y)
   joined A B X Y a b w = (
     λ (front, rest, whole, in_front, in_rest).

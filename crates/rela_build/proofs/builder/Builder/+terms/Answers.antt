@@ -1,8 +1,6 @@
-use Rattle.std.proofs.Common.{◌≡◌, ℕ, ◌+◌, ◌<◌, ◌≤◌, ◌⊎◌, List, [], ◌∷◌, ◌++◌, length, refl, sym, ap, ◌∙◌, subst, inl, inr, rules, arith}
+use Rattle.std.proofs.Common.{ℕ, ◌<◌, List, length, refl, sym, ap, ◌∙◌, subst, rules, arith}
 use Rattle.std.proofs.lemmas.Result.{IfOk-weaker, IfErr-weaker, on_ok_weaker}
 use Rattle.rela_rir.specs.Places.{PathSetPlaces, PartsApart, NoParts}
-use Rattle.rela_rir.specs.declared.term.PathTerm.{PathTerm}
-use Rattle.rela_rir.specs.declared.term.RelTerm.{RelTerm}
 use Rattle.rela_rir.specs.declared.term.PathTerm.TheVariants as P
 use Rattle.rela_rir.specs.declared.term.RelTerm.TheVariants as R
 use Rattle.rela_rir.specs.declared.term.PathTerm.TheViews.{the_lemmas}
