@@ -20,8 +20,8 @@ use Rattle.rela_translate.specs.declared.body.Core.{Core}
 use Rattle.rela_translate.specs.declared.body.Core.TheOpen as C
 use Rattle.rela_translate.specs.declared.body.Core.TheViews.{roll-Core}
 use Rattle.rela_translate.specs.declared.body.Core.TheFolds.{map-Core, ind-Core, fold-roll-Core}
-use Rattle.rela_engine.specs.Named.{Names, NamesR}
-use Rattle.rela_engine.proofs.NamedForms.{closed, names_class, names_empty, names_one, names_union, names_concat, names_star, names_meet, names_complement, names_identity, names_product, names_union_r, names_concat_r, names_compose}
+use Rattle.rela_build.specs.Named.{Names, NamesR}
+use Rattle.rela_build.proofs.NamedForms.{closed, names_class, names_empty, names_one, names_union, names_concat, names_star, names_meet, names_complement, names_identity, names_product, names_union_r, names_concat_r, names_compose}
 
 module _ (Q : ℕ → Type 0) where
   abbrev NamesIn : Expr → Type 0

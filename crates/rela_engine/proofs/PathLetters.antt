@@ -16,7 +16,8 @@ use Rattle.rela_graph.specs.Walk.{FollowsEdges, IsWalk}
 use Rattle.rela_graph.specs.declared.node.Node.{Node}
 use Rattle.rela_graph.proofs.Flagged.{flag_within}
 use Rattle.rela_graph.proofs.Ways.{edge_node}
-use Rattle.rela_engine.specs.Reading.{read_by, Recognises}
+use Rattle.rela_build.specs.Reading.{read_by}
+use Rattle.rela_engine.specs.Reading.{Recognises}
 use Rattle.rela_engine.proofs.Readings.{read_symbol, is_symbol}
 use Rattle.rela_engine.proofs.SplitWords.{unmapped}
 

@@ -7,7 +7,7 @@ use Rattle.rela_labels.specs.Partition.{block_of, block_count, IsPartition}
 use Rattle.rela_labels.proofs.LettersOfWords.{has_below}
 use Rattle.rela_labels.proofs.BlocksInOrder.{all_within_count}
 use Rattle.rela_trans.specs.Composition.{Covers}
-use Rattle.rela_engine.specs.Reading.{read_by}
+use Rattle.rela_build.specs.Reading.{read_by}
 
 pub read_symbol : (blocks : List ℕ) (s : ℕ) → s < length blocks → read_by blocks s ≡ block_of blocks s
 read_symbol blocks s below = get_or_default blocks s (block_count blocks) 0 below

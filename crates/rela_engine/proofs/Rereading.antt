@@ -13,7 +13,8 @@ use Rattle.rela_trans.specs.Runs.{IsSymbolOf, Does, ReachR, Relates}
 use Rattle.rela_trans.specs.declared.moves.MoveKind.TheVariants.{Silent, In, Out, Same}
 use Rattle.rela_trans.proofs.Accessors.{moves_ok}
 use Rattle.rela_trans.proofs.Reaching.{reach_start, reach_step, reach_each}
-use Rattle.rela_engine.specs.Reading.{read_by, Realises, RealisesFrom}
+use Rattle.rela_build.specs.Reading.{read_by}
+use Rattle.rela_engine.specs.Reading.{Realises, RealisesFrom}
 use Rattle.rela_engine.proofs.PathLetters.{read_word}
 use Rattle.rela_engine.proofs.Readings.{read_symbol, is_symbol}
 

@@ -10,7 +10,8 @@ use Rattle.rela_labels.specs.Partition.{IsPartition, Together, block_of}
 use Rattle.rela_rir.specs.declared.set.SymbolSet.{SymbolSet}
 use Rattle.rela_translate.specs.Checked.{Checked, IsCheck, markers_of}
 use Rattle.rela_translate.specs.Settings.{IsMarker}
-use Rattle.rela_engine.specs.Blocks.{AreListedAlike, AreAlike, AreOne, AreSetApart, AreBlocks, symbols_of}
+use Rattle.rela_build.specs.Lettering.{AreListedAlike}
+use Rattle.rela_engine.specs.Blocks.{AreAlike, AreOne, AreSetApart, AreBlocks, symbols_of}
 
 -- a check has at most 20,000 markers
 pub few_markers : (check : Checked) → IsCheck check → All IsMarker (markers_of check.body) → length (markers_of check.body) ≤ 20000

@@ -1,5 +1,6 @@
 -- The symbols of a check and their blocks.
-use Rattle.std.specs.Prelude.{◌≡◌, ℕ, ◌+◌, ◌<◌, ◌≤◌, ◌⊎◌, ◌↔◌, List, length, All, Contains}
+use Rattle.std.specs.Prelude.{◌≡◌, ℕ, ◌+◌, ◌<◌, ◌≤◌, ◌⊎◌, ◌↔◌, List, length}
+use Rattle.rela_build.specs.Lettering.{AreListedAlike}
 use Rattle.rela_labels.specs.Partition.{IsPartition, Together}
 use Rattle.rela_rir.specs.declared.set.SymbolSet.{SymbolSet}
 use Rattle.rela_translate.specs.Checked.{Checked, markers_of}
@@ -8,10 +9,6 @@ use Rattle.rela_translate.specs.Zones.{path_symbols}
 -- the number of the check's symbols: the path symbols and its markers
 abbrev pub symbols_of : Checked → ℕ → ℕ
 symbols_of check locations = path_symbols locations + length (markers_of check.body)
-
--- each entry of the class table lists both symbols or neither
-abbrev pub AreListedAlike : List SymbolSet → ℕ → ℕ → Type 0
-AreListedAlike classes s t = All (λ set. Contains set.members s ↔ Contains set.members t) classes
 
 -- two locations that the class table does not tell apart
 pub record AreAlike (classes : List SymbolSet) (locations s t : ℕ) : Type 0 where

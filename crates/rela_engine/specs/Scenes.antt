@@ -1,5 +1,5 @@
 -- In what the terms of a check are read: its class table, its symbols, and the paths before and after a change.
-use Rattle.std.specs.Prelude.{ℕ, ◌<◌, List, length}
+use Rattle.std.specs.Prelude.{ℕ, List, length}
 use Rattle.rela_build.specs.Lettering.{Lettering}
 use Rattle.rela_build.specs.PathSets.{Paths, no_paths}
 use Rattle.rela_graph.specs.Paths as graph

@@ -2,7 +2,8 @@
 ghost use Rattle.std.specs.Prelude.{◌≡◌, ℕ, ◌<◌, ◌≤◌, ◌↔◌, IfOk, All, length};
 ghost use Rattle.rela_labels.specs.Partition.{Together};
 ghost use Rattle.rela_names.specs.Alphabet.{path_symbols};
-ghost use Rattle.rela_engine.specs.Blocks.{AreBlocks, AreListedAlike, AreSetApart, symbols_of};
+ghost use Rattle.rela_build.specs.Lettering.{AreListedAlike};
+ghost use Rattle.rela_engine.specs.Blocks.{AreBlocks, AreSetApart, symbols_of};
 
 use crate::markers::count_markers;
 use rela_labels::{Partition, Splitter};

@@ -1,16 +1,21 @@
-ghost use Rattle.std.specs.Prelude.{◌≡◌, ◌<◌, ◌↔◌, true, IfOk, IsTrue, None, All, length};
-ghost use Rattle.std.specs.Option.{unwrap_or};
+//! Checks compiled under a limit of states, once for all flows.
+ghost use Rattle.std.specs.Prelude.{◌≡◌, ◌≢◌, ◌≤◌, ◌<◌, ◌↔◌, IfOk, IfErr, IfSome, IfNone};
+ghost use Rattle.std.specs.Prelude.{IsTrue, IsFalse, IsSome, Some, None, All, length};
+ghost use Rattle.std.specs.Option.{ForSome};
 ghost use Rattle.rela_names.specs.Alphabet.{path_symbols};
 ghost use Rattle.rela_translate.specs.Zones.{Before, After};
 ghost use Rattle.rela_engine.specs.Blocks.{AreBlocks};
-ghost use Rattle.rela_engine.specs.Compilation.{IsCompiled};
+ghost use Rattle.rela_engine.specs.Compilation.{AreRelations, IsCompiled, MustPassLimit, PassesLimit};
 ghost use Rattle.rela_engine.specs.Reading.{Realises};
+ghost use Rattle.rela_engine.specs.Scenes.{lettering_of};
 ghost use Rattle.rela_engine.specs.Sides.{SamePairs, TreatsSidesAlike};
 
 use crate::blocks::blocks_of;
-use crate::letters::Letters;
+use crate::markers::count_markers;
 use crate::relation::relation_of;
+use crate::relations::Relations;
 use crate::sides::treats_sides_alike;
+use rela_build::{Letters, Stop};
 use rela_labels::{Partition, WideSet};
 use rela_names::{Alphabet, Level};
 use rela_trans::Transducer;
@@ -18,23 +23,26 @@ use rela_translate::{Check, translate};
 use std::alloc::{AllocError, Global};
 use std::marker::Model;
 
-/// A check with its two relations as transducers, made once for all flows. Their letters are blocks of
-/// the check's symbols: the path symbols of its level, and its markers. Contracts see it as a
-/// `Compilation`.
+/// A check with its two relations as transducers, made once for all flows under a limit of states. Their
+/// letters are blocks of the check's symbols: the path symbols of its level, and its markers. Contracts
+/// see it as a `Compilation`.
 #[derive(Drop)]
 pub struct Compiled<'a> {
     check: &'a Check,
+    // the number of locations of the check's level
     locations: u32,
+    // how many states a construction may have
+    states: usize,
+    // the blocks of the check's symbols
     blocks: Partition,
-    before: Transducer<WideSet>,
-    /// The relation after the change; none where no unit of the check asks for one, and so the relation
-    /// before it has the same pairs and serves both sides.
-    after: Option<Transducer<WideSet>>,
+    // none where a construction in them passed the limit
+    relations: Option<Relations>,
+    // whether no unit of the check asks for a change
+    alike: bool,
 }
 
 impl<'a> Model for Compiled<'a> {
-    ghost use Rattle.std.specs.Prelude.{◌≡◌, ◌↔◌, None};
-    ghost use Rattle.std.specs.Option.{unwrap_or};
+    ghost use Rattle.std.specs.Prelude.{◌↔◌, IsTrue};
     ghost use Rattle.rela_engine.specs.Compilation.{Compilation, IsCompiled};
     ghost use Rattle.rela_engine.specs.Sides.{TreatsSidesAlike};
 
@@ -48,67 +56,131 @@ impl<'a> Model for Compiled<'a> {
     ghost view = { λ c. record {
       check = c.check.now;
       locations = c.locations;
+      states = c.states;
       blocks = c.blocks;
-      before = c.before;
-      after = unwrap_or c.after c.before;
+      relations = c.relations;
     } };
 
     ghost invariant = { λ c. IsCompiled (record {
       check = c.check.now;
       locations = c.locations;
+      states = c.states;
       blocks = c.blocks;
-      before = c.before;
-      after = unwrap_or c.after c.before;
-    }) × ((c.after ≡ None) ↔ TreatsSidesAlike c.check.now.body) };
+      relations = c.relations;
+    }) × (IsTrue c.alike ↔ TreatsSidesAlike c.check.now.body) };
 }
 
 /// The check compiled under the alphabet of its level, of which its class table lists path symbols
-/// alone. The only error is want of memory.
+/// alone. Each construction in its relations may have so many states. The only error is want of memory.
 pub fn compile<'a>(
     alloc: Global,
     check: &'a Check,
     alphabet: &Alphabet,
+    states: usize,
 ) -> Result<Compiled<'a>, AllocError>
-    requires { All (λ set. All (λ s. s < path_symbols alphabet.now) set.members) check.now.classes }
+    requires classes { All (λ set. All (λ s. s < path_symbols alphabet.now) set.members) check.now.classes }
+    requires some { 1 ≤ states }
     ensures check { IfOk result (λ compiled. compiled.check ≡ check.now) }
     ensures locations { IfOk result (λ compiled. compiled.locations ≡ length alphabet.now) }
+    ensures states { IfOk result (λ compiled. compiled.states ≡ states) }
     ensures compiled { IfOk result IsCompiled }
 {
     let blocks = blocks_of(alloc, check, alphabet)?;
-    let (before, after) = relations_over(alloc, check, alphabet, &blocks)?;
+    let relations = relations_over(alloc, check, alphabet, &blocks, states)?;
     Ok(Compiled {
         check,
         locations: alphabet.drop_symbol(),
+        states,
         blocks,
-        before,
-        after,
+        relations,
+        alike: treats_sides_alike(check.body()),
     })
 }
 
-/// The check's relation before the change over the blocks of its symbols, and the one after it, where a
-/// unit asks for a change.
+/// The check's relations over the blocks of its symbols, and `None` where a construction in them passes
+/// the limit.
 fn relations_over(
     alloc: Global,
     check: &Check,
     alphabet: &Alphabet,
     blocks: &Partition,
-) -> Result<(Transducer<WideSet>, Option<Transducer<WideSet>>), AllocError>
+    states: usize,
+) -> Result<Option<Relations>, AllocError>
     requires blocks { AreBlocks check.now (length alphabet.now) blocks.now }
     requires listed { All (λ set. All (λ s. s < path_symbols alphabet.now) set.members) check.now.classes }
-    ensures before { IfOk result (λ pair. Realises blocks.now (Before check.now.classes (length alphabet.now) check.now.body) pair.0) }
-    ensures after { IfOk result (λ pair. Realises blocks.now (After check.now.classes (length alphabet.now) check.now.body) (unwrap_or pair.1 pair.0)) }
-    ensures alike { IfOk result (λ pair. (pair.1 ≡ None) ↔ TreatsSidesAlike check.now.body) }
+    requires some { 1 ≤ states }
+    ensures { IfOk result (λ relations. IsCompiled (record {
+      check = check.now;
+      locations = length alphabet.now;
+      states = states;
+      blocks = blocks.now;
+      relations = relations;
+    })) }
+{
+    let letters = letters_of(alloc, check, alphabet, blocks)?;
+    match built(alloc, check, alphabet, &letters, states) {
+        Ok(relations) => Ok(Some(relations)),
+        Err(Stop::Limit | Stop::Refused(_)) => Ok(None),
+        Err(Stop::Memory) => Err(AllocError),
+    }
+}
+
+/// The letters of the check's relations.
+fn letters_of<'a>(
+    alloc: Global,
+    check: &'a Check,
+    alphabet: &Alphabet,
+    blocks: &'a Partition,
+) -> Result<Letters<'a>, AllocError>
+    requires blocks { AreBlocks check.now (length alphabet.now) blocks.now }
+    requires listed { All (λ set. All (λ s. s < path_symbols alphabet.now) set.members) check.now.classes }
+    ensures { IfOk result (λ letters.
+        letters ≡ lettering_of check.now (length alphabet.now) blocks.now) }
+{
+    let markers = count_markers(check.body());
+    Letters::new(alloc, check.classes(), alphabet.len(), markers, blocks)
+}
+
+/// The check's relations over these letters. Where it treats both sides alike, one serves both.
+///
+/// # Errors
+///
+/// - `Limit` and `Refused` only where the check passes the limit.
+/// - `Memory` where there isn't memory.
+fn built(
+    alloc: Global,
+    check: &Check,
+    alphabet: &Alphabet,
+    letters: &Letters<'_>,
+    states: usize,
+) -> Result<Relations, Stop>
+    requires letters { letters.now ≡ lettering_of check.now (length alphabet.now) letters.now.blocks }
+    requires blocks { AreBlocks check.now (length alphabet.now) letters.now.blocks }
+    requires some { 1 ≤ states }
+    ensures made { IfOk result (λ relations. AreRelations (record {
+      check = check.now;
+      locations = length alphabet.now;
+      states = states;
+      blocks = letters.now.blocks;
+      relations = Some relations;
+    }) relations) }
+    ensures past { IfErr result (λ e. e ≢ Stop.Memory → PassesLimit (record {
+      check = check.now;
+      locations = length alphabet.now;
+      states = states;
+      blocks = letters.now.blocks;
+      relations = None;
+    })) }
 {
     // By what each check keeps, its terms name drop and its markers alone, and no location.
-    let _ = check.body();
-    let relations = translate(alloc, check, alphabet)?;
-    let letters = Letters::new(alloc, check, alphabet, blocks)?;
-    let before = relation_of(alloc, &relations.before, &letters)?;
-    if treats_sides_alike(check.body()) {
-        return Ok((before, None));
+    let body = check.body();
+    let terms = translate(alloc, check, alphabet)?;
+    let before = relation_of(alloc, &terms.before, letters, states)?;
+    if treats_sides_alike(body) {
+        return Ok(Relations::new(before, None));
     }
-    let after = relation_of(alloc, &relations.after, &letters)?;
-    Ok((before, Some(after)))
+    let after = relation_of(alloc, &terms.after, letters, states)?;
+    Ok(Relations::new(before, Some(after)))
 }
 
 impl<'a> Compiled<'a> {
@@ -140,11 +212,23 @@ impl<'a> Compiled<'a> {
         self.locations
     }
 
-    /// Whether both relations could be made, which is always so.
-    pub fn complete(&self) -> bool
-        ensures { result ≡ true }
+    /// How many states a construction may have, which is at least one.
+    pub fn states(&self) -> usize
+        ensures states { result ≡ self.now.states }
+        ensures some { 1 ≤ result }
     {
-        true
+        self.states
+    }
+
+    /// Whether both relations could be made under the limit. They could not only where some counted
+    /// term in them has more reached places than the limit, and where a complement in them has a part
+    /// that tells more words.
+    pub fn complete(&self) -> bool
+        ensures made { IsTrue result ↔ IsSome self.now.relations }
+        ensures past { IsFalse result → PassesLimit self.now }
+        ensures within { IsTrue result → ¬ MustPassLimit self.now }
+    {
+        self.relations.is_some()
     }
 
     /// Whether it treats both sides of a change alike: no unit of it asks for a change, so that its two
@@ -154,7 +238,7 @@ impl<'a> Compiled<'a> {
         ensures relations { IsTrue result → SamePairs (Before self.now.check.classes self.now.locations self.now.check.body)
             (After self.now.check.classes self.now.locations self.now.check.body) }
     {
-        self.after.is_none()
+        self.alike
     }
 
     /// The blocks of its symbols. Two symbols share one where they are one symbol, or locations that
@@ -166,22 +250,46 @@ impl<'a> Compiled<'a> {
         &self.blocks
     }
 
-    /// The relation that the paths before the change are seen through.
+    /// The relation that the paths before the change are seen through, made small for many walks.
     pub fn before(&self) -> &Transducer<WideSet>
-        ensures before { result.now ≡ self.now.before }
-        ensures relation { Realises self.now.blocks (Before self.now.check.classes self.now.locations self.now.check.body) self.now.before }
+        requires complete { IsSome self.now.relations }
+        ensures before { ForSome self.now.relations (λ relations. result.now ≡ relations.before.small) }
+        ensures relation { Realises self.now.blocks
+            (Before self.now.check.classes self.now.locations self.now.check.body) result.now }
     {
-        &self.before
+        match &self.relations {
+            Some(relations) => {
+                let before = relations.before();
+                &before.small
+            }
+            None => unreachable!(),
+        }
     }
 
-    /// The relation that the paths after the change are seen through.
+    /// The relation that the paths after the change are seen through, likewise.
     pub fn after(&self) -> &Transducer<WideSet>
-        ensures after { result.now ≡ self.now.after }
-        ensures relation { Realises self.now.blocks (After self.now.check.classes self.now.locations self.now.check.body) self.now.after }
+        requires complete { IsSome self.now.relations }
+        ensures after { ForSome self.now.relations (λ relations. result.now ≡ relations.after.small) }
+        ensures relation { Realises self.now.blocks
+            (After self.now.check.classes self.now.locations self.now.check.body) result.now }
     {
-        match &self.after {
-            Some(after) => after,
-            None => &self.before,
+        match &self.relations {
+            Some(relations) => {
+                let after = relations.after();
+                &after.small
+            }
+            None => unreachable!(),
         }
+    }
+
+    /// Both relations twice, as they were built and made small; `None` where they could not be made
+    /// under the limit.
+    pub(crate) fn relations(&self) -> Option<&Relations>
+        ensures some { IfSome result (λ relations. self.now.relations ≡ Some relations.now) }
+        ensures none { IfNone result (self.now.relations ≡ None) }
+        ensures made { IfSome result (λ relations. AreRelations self.now relations.now) }
+        ensures past { IfNone result (PassesLimit self.now) }
+    {
+        self.relations.as_ref()
     }
 }

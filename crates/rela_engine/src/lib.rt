@@ -2,20 +2,17 @@
 //! check as transducers, whose letters are blocks of the check's symbols.
 #![tactic(auto)]
 
-mod automata;
 mod blocks;
 mod compiled;
-mod complements;
 mod decision;
 mod finer_blocks;
-mod letter_sets;
-mod letters;
+mod limited;
 mod markers;
 mod offence;
 mod relation;
+mod relations;
 mod seen;
 mod sides;
-mod unlimited;
 mod witnesses;
 
 pub use compiled::{Compiled, compile};

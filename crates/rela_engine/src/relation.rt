@@ -1,30 +1,108 @@
-//! The transducer of a check's relation, made for many walks.
-ghost use Rattle.std.specs.Prelude.{IfOk};
+//! The transducers of a check's relation.
+ghost use Rattle.std.specs.Prelude.{◌≡◌, ◌≢◌, ◌+◌, ◌≤◌, IfOk, IfErr};
+ghost use Rattle.rela_build.specs.Lettering.{IsAlone};
+ghost use Rattle.rela_build.specs.Made.{IsMadeR};
+ghost use Rattle.rela_build.specs.Named.{NamesR};
+ghost use Rattle.rela_build.specs.PathSets.{no_paths, scene_of};
+ghost use Rattle.rela_build.specs.Reading.{read_by};
+ghost use Rattle.rela_labels.specs.Partition.{block_count};
+ghost use Rattle.rela_rir.specs.Limit.{ForcedInsideR, ReachedInsideR};
 ghost use Rattle.rela_rir.specs.Meaning.{InR};
-ghost use Rattle.rela_engine.specs.Lettering.{IsOwn, setting_of};
-ghost use Rattle.rela_engine.specs.Named.{NamesR};
+ghost use Rattle.rela_trans.specs.Runs.{Relates};
 ghost use Rattle.rela_engine.specs.Reading.{Realises};
 
-use crate::automata::transducer;
-use crate::letters::Letters;
-use rela_labels::WideSet;
+use crate::limited::Limited;
+use crate::relations::Twofold;
+use rela_build::{Builder, Letters, NoPaths, Stop};
+use rela_labels::{Partition, WideSet};
 use rela_rir::RelTerm;
 use rela_trans::Transducer;
 use std::alloc::{AllocError, Global};
 
-/// The pairs of the term. The transducer is made once and walked beside the paths of each flow, so the
-/// moves that lead to no final state are left out, and its silent detours too.
+/// The relation of the term twice, over these letters.
+///
+/// # Errors
+///
+/// - `Limit` and `Refused` only where some counted term in the term has more reached places than the
+///   limit, and always where a complement in it has a part that tells more words.
+/// - `Memory` where there isn't memory.
 pub(crate) fn relation_of(
     alloc: Global,
     term: &RelTerm,
     letters: &Letters<'_>,
-) -> Result<Transducer<WideSet>, AllocError>
-    requires { NamesR (IsOwn letters.now) term.now }
-    ensures { IfOk result (Realises letters.now.blocks (InR (setting_of letters.now) term.now)) }
+    limit: usize,
+) -> Result<Twofold, Stop>
+    requires limit { 1 ≤ limit }
+    requires alone { NamesR (IsAlone letters.now.blocks) term.now }
+    ensures plain { IfOk result (λ r. IsMadeR ⊥ letters.now no_paths term.now r.plain) }
+    ensures small { IfOk result (λ r. Realises letters.now.blocks
+        (InR (scene_of letters.now no_paths).setting term.now) r.small) }
+    ensures within { IfOk result (λ _.
+        ¬ ForcedInsideR (scene_of letters.now no_paths) (limit + 1) term.now) }
+    ensures past { IfErr result (λ e. e ≢ Stop.Memory →
+        ReachedInsideR (scene_of letters.now no_paths) (limit + 1) term.now) }
 {
-    let pairs = transducer(alloc, term, letters)?;
+    let plain = plain_relation(alloc, term, letters, limit)?;
+    let small = small_relation(alloc, &plain, letters.partition())?;
+    Ok(Twofold { plain, small })
+}
+
+/// The transducer of the term as it is built, with complements under the limit.
+fn plain_relation(
+    alloc: Global,
+    term: &RelTerm,
+    letters: &Letters<'_>,
+    limit: usize,
+) -> Result<Transducer<WideSet>, Stop>
+    requires limit { 1 ≤ limit }
+    requires alone { NamesR (IsAlone letters.now.blocks) term.now }
+    ensures made { IfOk result (IsMadeR ⊥ letters.now no_paths term.now) }
+    ensures within { IfOk result (λ _.
+        ¬ ForcedInsideR (scene_of letters.now no_paths) (limit + 1) term.now) }
+    ensures past { IfErr result (λ e. e ≢ Stop.Memory →
+        ReachedInsideR (scene_of letters.now no_paths) (limit + 1) term.now) }
+{
+    letters.are_covered();
+    let complements = Limited::new(limit);
+    let builder = Builder {
+        letters,
+        paths: &NoPaths,
+        complements: &complements,
+        limit,
+    };
+    let mut notes = Vec::new(alloc);
+    builder.transducer(alloc, term, &mut notes)
+}
+
+/// The same pairs by a transducer that is made once and walked beside the paths of each flow, so the
+/// moves that lead to no final state are left out, and the silent detours too. It costs a step for each
+/// state and each move.
+fn small_relation(
+    alloc: Global,
+    plain: &Transducer<WideSet>,
+    blocks: &Partition,
+) -> Result<Transducer<WideSet>, AllocError>
+    requires { plain.now.letters ≡ block_count blocks.now }
+    ensures { IfOk result (Realises blocks.now (Relates (read_by blocks.now) plain.now)) }
+{
+    let copy = copied(alloc, plain, blocks)?;
     // A state that loses a move may become a detour.
-    let pruned = pairs.pruned(alloc)?;
+    let pruned = copy.pruned(alloc)?;
     let shortened = pruned.shortened(alloc)?;
     Ok(shortened)
+}
+
+/// A transducer with the same pairs, relabelled by the same blocks.
+fn copied(
+    alloc: Global,
+    plain: &Transducer<WideSet>,
+    blocks: &Partition,
+) -> Result<Transducer<WideSet>, AllocError>
+    requires { plain.now.letters ≡ block_count blocks.now }
+    ensures { IfOk result (Realises blocks.now (Relates (read_by blocks.now) plain.now)) }
+{
+    let copy = plain.relabel(alloc, blocks, blocks)?;
+    prove!(plain.start() < plain.states());
+    prove!(copy.start() < copy.states());
+    Ok(copy)
 }

@@ -1,23 +1,69 @@
 //! The relations of a compiled check.
+ghost use Rattle.std.specs.Prelude.{◌≡◌};
 ghost use Rattle.std.specs.Option.{unwrap_or};
 
 use rela_labels::WideSet;
 use rela_trans::Transducer;
 use std::marker::Model;
 
-/// A relation twice. Both transducers have the same pairs.
+/// A relation twice. Both transducers have the same pairs. Contracts see it as a `Twofold`.
 #[derive(Drop)]
 pub(crate) struct Twofold {
-    /// As it was built of its term: each of its states stands for a place of the term.
+    /// As it was built of its term: each of its states stands for places of the term.
     pub(crate) plain: Transducer<WideSet>,
     /// Made small for many walks.
     pub(crate) small: Transducer<WideSet>,
 }
 
-/// The relations that the paths before and after the change are seen through.
+impl Model for Twofold {
+    ghost use Rattle.rela_engine.specs.Compilation as kept;
+
+    ghost Value = { kept.Twofold };
+
+    ghost view = { λ r. record { plain = r.plain; small = r.small } };
+}
+
+/// The relations that the paths before and after the change are seen through. Contracts see it as
+/// `Relations`, with both of them.
 #[derive(Drop)]
 pub(crate) struct Relations {
     before: Twofold,
     // none where no unit of the check asks for a change, and so the relation before it serves both sides
     after: Option<Twofold>,
+}
+
+impl Model for Relations {
+    ghost use Rattle.std.specs.Option.{unwrap_or};
+    ghost use Rattle.rela_engine.specs.Compilation as kept;
+
+    ghost Value = { kept.Relations };
+
+    ghost view = { λ r. record { before = r.before; after = unwrap_or r.after r.before } };
+}
+
+impl Relations {
+    /// These two relations. Where none is given for the paths after the change, the one before it serves
+    /// both sides.
+    pub(crate) fn new(before: Twofold, after: Option<Twofold>) -> Relations
+        ensures { result ≡ record { before = before; after = unwrap_or after before } }
+    {
+        Relations { before, after }
+    }
+
+    /// The relation that the paths before the change are seen through.
+    pub(crate) fn before(&self) -> &Twofold
+        ensures { result.now ≡ self.now.before }
+    {
+        &self.before
+    }
+
+    /// The relation that the paths after the change are seen through.
+    pub(crate) fn after(&self) -> &Twofold
+        ensures { result.now ≡ self.now.after }
+    {
+        match &self.after {
+            Some(after) => after,
+            None => &self.before,
+        }
+    }
 }

@@ -1,6 +1,6 @@
 use Rattle.std.proofs.Common.{◌≡◌, ℕ, ◌<◌, ◌↔◌, length, take}
 use Rattle.rela_labels.specs.Partition.{Together}
-use Rattle.rela_engine.specs.Blocks.{AreListedAlike}
+use Rattle.rela_build.specs.Lettering.{AreListedAlike}
 use Rattle.rela_engine.proofs.blocks.split_by_classes.Given as goal
 
 abbrev pub invariant-loop-set : goal.invariant-loop-set

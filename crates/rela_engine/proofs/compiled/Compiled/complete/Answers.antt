@@ -1,0 +1,8 @@
+use Rattle.rela_engine.proofs.Compilations.{passes_where, within_where}
+use Rattle.rela_engine.proofs.compiled.Compiled.complete.Goals as goal
+
+pub returns-clause-past : goal.returns-clause-past
+returns-clause-past c none = passes_where _ c.args.self.now c.self.view_is c.self.invariant.0 c.is_some.result c.is_some.ensures none
+
+pub returns-clause-within : goal.returns-clause-within
+returns-clause-within c some = within_where _ c.args.self.now c.self.view_is c.self.invariant.0 c.is_some.result c.is_some.ensures some

@@ -1,0 +1,82 @@
+//! Complements under the state limit.
+ghost use Rattle.std.specs.Prelude.{◌≡◌, ℕ, ◌+◌, ◌≤◌, ◌↔◌, IfOk, IfErr, List, length};
+ghost use Rattle.rela_minimise.specs.Classes.{IsMinimal};
+ghost use Rattle.rela_nfa.specs.Runs.{Accepts};
+ghost use Rattle.rela_subset.specs.Deterministic.{IsAccepted, IsOver, state_after};
+ghost use Rattle.rela_subset.specs.Subsets.{KeepsApart, ReachSame, ReachSets};
+
+use rela_build::{Answer, Complements};
+use rela_labels::WideSet;
+use rela_minimise::minimise;
+use rela_nfa::{BuildError, Nfa};
+use rela_subset::{Dfa, determinise};
+use std::alloc::Global;
+
+/// Makes a complement of the minimal automaton of its part. One is refused just where words of path
+/// symbols reach more sets of states of the part than the limit.
+#[derive(Drop)]
+pub(crate) struct Limited {
+    /// The limit: how many sets of states words may reach.
+    states: usize,
+    ghost some: { 1 ≤ states },
+}
+
+impl Limited {
+    /// Complements under this limit.
+    pub(crate) fn new(states: usize) -> Limited
+        requires { 1 ≤ states }
+        ensures { result.states ≡ states }
+    {
+        Limited { states }
+    }
+}
+
+impl Complements for Limited {
+    type Note = ();
+
+    ghost tells_all = { ⊥ };
+
+    ghost answers = { λ limited _ a over _. ¬ ReachSets a over (limited.states + 1) };
+
+    ghost refuses = { λ limited _ a over. ReachSets a over (limited.states + 1) };
+
+    fn complement(
+        &self,
+        alloc: Global,
+        _number: usize,
+        a: &Nfa<WideSet>,
+        over: &WideSet,
+    ) -> Result<Answer<()>, BuildError> {
+        let least = least_over(alloc, a, over, self.states)?;
+        let others = least.into_complement(alloc)?;
+        let nfa = others.into_nfa(alloc)?;
+        prove!(nfa.start() < nfa.states());
+        Ok(Answer { nfa, note: () })
+    }
+}
+
+/// The minimal automaton of the words over these letters that the automaton accepts, where they reach
+/// no more sets of its states than the limit. The one with all these sets, which may be far larger, is
+/// let go here.
+fn least_over(
+    alloc: Global,
+    a: &Nfa<WideSet>,
+    over: &WideSet,
+    limit: usize,
+) -> Result<Dfa<WideSet>, BuildError>
+    requires letters { length over.now ≡ a.now.letters }
+    requires limit { 1 ≤ limit }
+    ensures over { IfOk result (λ dfa. dfa.over ≡ over.now) }
+    ensures language { IfOk result (λ dfa. (w : List ℕ) →
+        IsAccepted dfa w ↔ (IsOver over.now w × Accepts a.now w)) }
+    ensures alike { IfOk result (λ dfa. (v w : List ℕ) → IsOver over.now v → IsOver over.now w →
+        ReachSame a.now v w → state_after dfa v ≡ state_after dfa w) }
+    ensures told { IfOk result (KeepsApart a.now over.now) }
+    ensures minimal { IfOk result IsMinimal }
+    ensures within { IfOk result (λ _. ¬ ReachSets a.now over.now (limit + 1)) }
+    ensures past { IfErr result (λ e. e ≡ BuildError.Limit → ReachSets a.now over.now (limit + 1)) }
+{
+    let sets = determinise(alloc, a, over, limit)?;
+    let least = minimise(alloc, &sets)?;
+    Ok(least)
+}
