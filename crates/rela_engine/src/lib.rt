@@ -2,21 +2,20 @@
 //! check as transducers, whose letters are blocks of the check's symbols.
 #![tactic(auto)]
 
-mod automata;
 mod blocks;
 mod compiled;
-mod complements;
 mod decision;
 mod finer_blocks;
-mod letter_sets;
-mod letters;
+mod limited;
 mod markers;
 mod offence;
 mod relation;
+mod relations;
+mod row_laws;
 mod seen;
 mod sides;
-mod unlimited;
 mod witnesses;
 
 pub use compiled::{Compiled, compile};
 pub use decision::{decide, decide_compiled};
+pub use row_laws::{TwoPathSets, rows_carry_over};
