@@ -1,9 +1,14 @@
-pub mod Readings
-pub mod SplitWords
+pub mod FixedTerms
+pub mod OpenRows
+pub mod CarriedRows
 pub mod Rereading
 pub mod PathLetters
+pub mod LeastSymbols
 pub mod LeastWords
+pub mod ComparedPairs
 pub mod Rows
+pub mod PlacedImages
+pub mod PlainRows
 pub mod NodesApart
 pub mod Placed
 pub mod NamedByChecks

@@ -11,6 +11,13 @@ use Rattle.rela_labels.specs.Partition.{IsPartition, Together}
 use Rattle.rela_names.specs.declared.level.Level.{Level}
 use Rattle.rela_engine.specs.Seen.{AreFiner}
 
+-- what is finer for two graphs is so for each of them twice
+pub finer_before : (coarse : List ℕ) (n : ℕ) (level : Level) (pre post : Topology) (fine : List ℕ) → AreFiner coarse n level pre post fine → AreFiner coarse n level pre pre fine
+finer_before coarse n level pre post fine is = record { partition = is.partition; refines = is.refines; before = is.before; after = is.before; drops = is.drops; loops = is.loops }
+
+pub finer_after : (coarse : List ℕ) (n : ℕ) (level : Level) (pre post : Topology) (fine : List ℕ) → AreFiner coarse n level pre post fine → AreFiner coarse n level post post fine
+finer_after coarse n level pre post fine is = record { partition = is.partition; refines = is.refines; before = is.after; after = is.after; drops = is.drops; loops = is.loops }
+
 -- the locations of the nodes of both graphs
 abbrev pub locations_of : Level → List Node → List Node → List ℕ
 locations_of level first second = map (symbol_at level) first ++ map (symbol_at level) second

@@ -1,25 +1,32 @@
 -- The automaton of a graph's walks, and the symbols of its paths.
-use Rattle.std.proofs.Common.{◌≡◌, ℕ, ◌+◌, ◌<◌, ◌≤◌, ◌↔◌, true, false, List, [], ◌∷◌, ◌++◌, length, get_or, map, refl, sym, subst, inl, inr, arith}
+use Rattle.std.proofs.Common.{◌≡◌, ℕ, ◌+◌, ◌<◌, ◌≤◌, ◌↔◌, true, false, List, [], ◌∷◌, ◌++◌, length, get_or, map, refl, sym, ap, ◌∙◌, subst, inl, inr, arith}
 use Rattle.std.specs.Prelude.{◌==◌, if◌then◌else◌}
 use Rattle.std.specs.List.{All}
 use Rattle.std.proofs.lemmas.List.{append-nil, get_or-map}
 use Rattle.std.proofs.lemmas.List.Elements.{All-nil, All-cons, All-push, All-map, All-head, All-tail, All-weaker}
 use Rattle.rela_labels.specs.Partition.{block_count}
 use Rattle.rela_names.specs.declared.level.Level.{Level}
-use Rattle.rela_nfa.specs.Automaton.{Automaton, IsAutomaton}
+use Rattle.rela_nfa.specs.Automaton.{Automaton, IsAutomaton, states}
 use Rattle.rela_nfa.specs.Relabelling.{blocks_of}
-use Rattle.rela_nfa.specs.Runs.{Accepts}
+use Rattle.rela_nfa.specs.Runs.{Accepts, Reach}
+use Rattle.rela_nfa.proofs.Parts.{state_of_reach}
+use Rattle.rela_rir.specs.Built.{PathStates}
+use Rattle.rela_rir.specs.Places.{Arrivals}
+use Rattle.rela_trans.proofs.MappedWords.{no_word}
+use Rattle.rela_build.specs.Made.{Leads}
+use Rattle.rela_build.proofs.LetterWords.{reached_letters}
 use Rattle.rela_compare.proofs.AcceptedLetters.{accepted_letters}
-use Rattle.rela_graph.specs.Paths.{Paths, Arrives, locations, squeeze, squeeze_after}
+use Rattle.rela_names.specs.Alphabet.{path_symbols}
+use Rattle.rela_graph.specs.Paths.{Paths, Undelivered, Arrives, locations, squeeze, squeeze_after}
 use Rattle.rela_graph.specs.Topology.{Topology, IsTopology, symbol_at}
 use Rattle.rela_graph.specs.Walk.{FollowsEdges, IsWalk}
 use Rattle.rela_graph.specs.declared.node.Node.{Node}
 use Rattle.rela_graph.proofs.Flagged.{flag_within}
 use Rattle.rela_graph.proofs.Ways.{edge_node}
 use Rattle.rela_build.specs.Reading.{read_by}
+use Rattle.rela_build.proofs.Readings.{read_symbol, is_symbol}
+use Rattle.rela_build.proofs.SplitWords.{unmapped}
 use Rattle.rela_engine.specs.Reading.{Recognises}
-use Rattle.rela_engine.proofs.Readings.{read_symbol, is_symbol}
-use Rattle.rela_engine.proofs.SplitWords.{unmapped}
 
 -- ---- words that an automaton accepts by the blocks of their symbols
 
@@ -50,6 +57,47 @@ recognises blocks n words a ok letters few language only = record {
         let symbols : All (λ s. s < length blocks) w = All-weaker (λ s. s < n) (λ s. s < length blocks) (λ s less. omega (arith, less, few)) w below in
         subst (Accepts a) (sym (read_word blocks w symbols)) ((language w symbols).1 is_word),
   );
+}
+
+pub recognises_alike : (blocks : List ℕ) (words : List ℕ → Type 0) (a b : Automaton) → b.letters ≡ a.letters → ((w : List ℕ) → Accepts b w ↔ Accepts a w)
+    → Recognises blocks words a → Recognises blocks words b
+recognises_alike blocks words a b letters alike is = record {
+  letters = letters ∙ is.letters;
+  language = λ w. (
+    λ accepted. (is.language w).0 ((alike (map (read_by blocks) w)).0 accepted),
+    λ is_word. (alike (map (read_by blocks) w)).1 ((is.language w).1 is_word),
+  );
+}
+
+-- ---- the states of a graph's automaton
+
+-- the words that lead to a state by the blocks of their symbols are those of X, where all words of X are of symbols
+led : (blocks : List ℕ) (a : Automaton) (q : ℕ) (X : List ℕ → Type 0) → IsAutomaton a → a.letters ≡ block_count blocks
+    → ((w : List ℕ) → X w → All (λ s. s < length blocks) w)
+    → ((w : List ℕ) → All (λ s. s < length blocks) w → Reach a q (blocks_of blocks w) ↔ X w) → (w : List ℕ) → Leads blocks a q w ↔ X w
+led blocks a q X ok letters only reach w = (
+  λ leads.
+      let symbols = word_of_symbols blocks w (subst (λ m. All (λ k. k < m) (map (read_by blocks) w)) letters (reached_letters a ok q (map (read_by blocks) w) leads)) in
+      (reach w symbols).0 (subst (Reach a q) (read_word blocks w symbols) leads),
+  λ is.
+      let symbols = only w is in
+      subst (Reach a q) (sym (read_word blocks w symbols)) ((reach w symbols).1 is),
+)
+
+pub path_states : (blocks : List ℕ) (n : ℕ) (arrivals : Arrivals) (a : Automaton) → IsAutomaton a → a.letters ≡ block_count blocks → states a ≡ n + 2
+    → ((k : ℕ) (w : List ℕ) → arrivals.at_node k w → All (λ s. s < length blocks) w) → ((w : List ℕ) → arrivals.at_end w → All (λ s. s < length blocks) w)
+    → ((w : List ℕ) → Reach a 0 w ↔ (w ≡ []))
+    → ((k : ℕ) (w : List ℕ) → k < n → All (λ s. s < length blocks) w → Reach a (1 + k) (blocks_of blocks w) ↔ arrivals.at_node k w)
+    → ((w : List ℕ) → All (λ s. s < length blocks) w → Reach a (1 + n) (blocks_of blocks w) ↔ arrivals.at_end w)
+    → PathStates n arrivals (Leads blocks a)
+path_states blocks n arrivals a ok letters count node_symbols end_symbols begin nodes end = record {
+  begin = λ w. (
+    λ leads. no_word (read_by blocks) w (sym ((begin (map (read_by blocks) w)).0 leads)),
+    λ e. (begin (map (read_by blocks) w)).1 (ap (map (read_by blocks)) e),
+  );
+  nodes = λ k w within. led blocks a (1 + k) (arrivals.at_node k) ok letters (node_symbols k) (λ v. nodes k v within) w;
+  end = λ w. led blocks a (1 + n) arrivals.at_end ok letters end_symbols end w;
+  count = λ q w leads. let below = state_of_reach a ok q (map (read_by blocks) w) leads in omega (arith, below, count);
 }
 
 -- ---- the symbols of paths
@@ -87,7 +135,7 @@ module _ (g : Topology) (is : IsTopology g) where
     located : (n : ℕ) → n < length g.nodes → P (get_or (locations g level) n 0)
     located n within = subst P (sym (get_or-map (symbol_at level) g.nodes n nowhere 0 within)) (each n nowhere within)
 
-    arrives_each : (n : ℕ) (word : List ℕ) → Arrives g (locations g level) n word → All P word
+    pub arrives_each : (n : ℕ) (word : List ℕ) → Arrives g (locations g level) n word → All P word
     arrives_each n word (before, walk, is_base) =
         let whole = before ++ n ∷ [] in
         subst (λ l. All P l) is_base
@@ -107,3 +155,16 @@ module _ (g : Topology) (is : IsTopology g) where
             | inr loop ↦ subst (λ e. All P (front ++ e)) (sym loop.1) (All-push P front (length alphabet + 1) symbols loops)
           ]
         ])
+
+-- each symbol of what arrives at a node, and of a path that does not deliver, is a symbol of the partition
+module _ (blocks : List ℕ) (g : Topology) (is : IsTopology g) (level : Level) (alphabet : List (List ℕ)) (few : path_symbols alphabet ≤ length blocks)
+    (placed : All (λ node. symbol_at level node < length alphabet) g.nodes) where
+  located_symbols : All (λ node. symbol_at level node < length blocks) g.nodes
+  located_symbols k d within = let below = placed k d within in omega (arith, below, few)
+
+  pub arrival_symbols : (n : ℕ) (w : List ℕ) → Arrives g (locations g level) n w → All (λ s. s < length blocks) w
+  arrival_symbols = arrives_each g is (λ s. s < length blocks) level located_symbols
+
+  pub end_symbols : (w : List ℕ) → Undelivered g level alphabet w → All (λ s. s < length blocks) w
+  end_symbols w (n, front, ending, arrives, ends, some, whole) =
+      path_each g is (λ s. s < length blocks) level located_symbols alphabet (omega (arith, few)) (omega (arith, few)) w (n, front, ending, arrives, ends, whole)

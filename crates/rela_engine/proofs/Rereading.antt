@@ -14,9 +14,10 @@ use Rattle.rela_trans.specs.declared.moves.MoveKind.TheVariants.{Silent, In, Out
 use Rattle.rela_trans.proofs.Accessors.{moves_ok}
 use Rattle.rela_trans.proofs.Reaching.{reach_start, reach_step, reach_each}
 use Rattle.rela_build.specs.Reading.{read_by}
+use Rattle.rela_build.proofs.Readings.{read_symbol, is_symbol}
 use Rattle.rela_engine.specs.Reading.{Realises, RealisesFrom}
+use Rattle.rela_engine.specs.Seen.{LeadAlike}
 use Rattle.rela_engine.proofs.PathLetters.{read_word}
-use Rattle.rela_engine.proofs.Readings.{read_symbol, is_symbol}
 
 all_front : (P : ℕ → Type 0) (u v : List ℕ) → All P (u ++ v) → All P u
 all_front P [] v each = All-nil P
@@ -42,7 +43,7 @@ module _ (f g : ℕ → ℕ) (n : ℕ) (same : (s : ℕ) → s < n → f s ≡ g
   reread_does (Out set) input output in_input in_output does = (does.0, reread_symbol set output in_output does.1)
   reread_does (Same set) input output in_input in_output does = (reread_symbol set input in_input does.0, does.1)
 
-  reread_reach : (t : Machine) (q : ℕ) (u v : List ℕ) → ReachR f t q u v → IsWithin u → IsWithin v → ReachR g t q u v
+  pub reread_reach : (t : Machine) (q : ℕ) (u v : List ℕ) → ReachR f t q u v → IsWithin u → IsWithin v → ReachR g t q u v
   reread_reach t =
       reach_each f t (λ q u v. IsWithin u → IsWithin v → ReachR g t q u v)
       (λ p q u v input output reach there step in_u in_v.
@@ -74,7 +75,7 @@ module _ (f : ℕ → ℕ) (t : Machine) (ok : IsMachine t) (n : ℕ) (only : (s
       let read = symbol_below set input size does.0 in
       (read, subst AreBelow (sym does.1) read)
 
-  reach_below : (q : ℕ) (u v : List ℕ) → ReachR f t q u v → AreBelow u × AreBelow v
+  pub reach_below : (q : ℕ) (u v : List ℕ) → ReachR f t q u v → AreBelow u × AreBelow v
   reach_below =
       reach_each f t (λ q u v. AreBelow u × AreBelow v)
       (λ p q u v input output reach before step.
@@ -102,6 +103,20 @@ module _ (coarse fine : List ℕ) (same_symbols : length fine ≡ length coarse)
 
   fine_only : (s : ℕ) → read_by fine s < b.letters → s < length fine
   fine_only s letter = is_symbol fine s (omega (arith, letter, b_letters))
+
+  -- the same pairs of words of symbols lead to each state, where those of symbols that have blocks do
+  pub same_reach : ((q : ℕ) (u v : List ℕ) → All (λ s. s < length fine) u → All (λ s. s < length fine) v → ReachR (block_of fine) b q u v ↔ ReachR (block_of coarse) a q u v)
+      → LeadAlike coarse a fine b
+  same_reach keeps q u v = (
+    λ reach.
+        let below = reach_below (read_by fine) b b_ok (length fine) fine_only q u v reach in
+        reread_reach (block_of coarse) (read_by coarse) (length fine) (λ s within. sym (by_coarse s within)) a q u v
+        ((keeps q u v below.0 below.1).0 (reread_reach (read_by fine) (block_of fine) (length fine) (read_symbol fine) b q u v reach below.0 below.1)) below.0 below.1,
+    λ reach.
+        let below = reach_below (read_by coarse) a a_ok (length fine) coarse_only q u v reach in
+        reread_reach (block_of fine) (read_by fine) (length fine) (λ s within. sym (read_symbol fine s within)) b q u v
+        ((keeps q u v below.0 below.1).1 (reread_reach (read_by coarse) (block_of coarse) (length fine) by_coarse a q u v reach below.0 below.1)) below.0 below.1,
+  )
 
   pub same_from : (words : List ℕ → Type 0) → KeepsPairs coarse fine words a b → RealisesFrom fine words (Relates (read_by coarse) a) b
   same_from words keeps = record {

@@ -10,18 +10,31 @@ use Rattle.rela_report.specs.declared.rows.Row.{Row}
 use Rattle.rela_report.specs.declared.rows.Row.TheVariants.{Compliant, Violated, Undecided}
 use Rattle.rela_report.specs.declared.rows.Side.{Side}
 use Rattle.rela_report.specs.declared.rows.Side.TheVariants as side
+use Rattle.rela_rir.specs.Meaning.{InR}
 use Rattle.rela_rir.specs.Words.{WordSet, Relation, ImageOf}
+use Rattle.rela_rir.specs.declared.term.RelTerm.{RelTerm}
 use Rattle.rela_trans.specs.Machine.{Machine}
 use Rattle.rela_trans.specs.Runs.{Relates}
 use Rattle.rela_trans.proofs.SymbolLetters.{letters_related, symbols_related}
 use Rattle.rela_translate.specs.Checked.{Checked}
+use Rattle.rela_translate.specs.Terms.{before_of, after_of}
 use Rattle.rela_translate.specs.Verdict.{AreMet, Offends}
+use Rattle.rela_translate.proofs.Meanings.{before_in, after_in}
+use Rattle.rela_build.specs.PathSets.{scene_of}
 use Rattle.rela_compare.proofs.AcceptedLetters.{accepted_letters}
-use Rattle.rela_engine.specs.Reading.{read_by, Recognises, Realises, RealisesFrom}
-use Rattle.rela_engine.specs.RowOf.{RowOf, IsOffence, relation_of}
-use Rattle.rela_engine.specs.Seen.{AreSeen, AreLeast, IsSource, IsFirstSource, TellsOf}
+use Rattle.rela_build.specs.Reading.{read_by}
+use Rattle.rela_build.proofs.Readings.{covered}
+use Rattle.rela_build.specs.Made.{IsMadeR}
+use Rattle.rela_build.specs.PathSets.{Paths, no_paths}
+use Rattle.rela_engine.specs.Compilation.{Compilation, Relations, Twofold, AreRelations}
+use Rattle.rela_engine.specs.Reading.{Recognises, Realises, RealisesFrom}
+use Rattle.rela_engine.specs.RowOf.{RowOf, Says, IsOffence, relation_of}
+use Rattle.rela_engine.specs.Scenes.{lettering_of}
+use Rattle.rela_engine.specs.Seen.{AreSeen, AreLeast, IsSource, IsFirstSource, TellsOf, machine_of}
+use Rattle.rela_engine.specs.declared.seen.Form.{Form}
+use Rattle.rela_engine.specs.declared.seen.Form.TheVariants as form
 use Rattle.rela_engine.proofs.LeastWords.{before_letters, first_symbols, same_words}
-use Rattle.rela_engine.proofs.Readings.{covered}
+use Rattle.rela_engine.proofs.OpenRows.{not_forced}
 
 -- ---- images told by letters
 
@@ -70,6 +83,7 @@ seen_by_same blocks coarse words pairs t paths relation image is seen = record {
   of_paths = seen.of_paths;
   of_relation = same_pairs coarse blocks words pairs t relation is seen.of_relation;
   of_image = image_of_same blocks words (Relates (read_by coarse) t) pairs image is.relation seen.of_image;
+  of_pairs = seen.of_pairs;
   paths_ok = seen.paths_ok;
   relation_ok = seen.relation_ok;
   image_ok = seen.image_ok;
@@ -163,39 +177,80 @@ pub record AreSides (blocks : List ℕ) (check : Checked) (locations : ℕ) (pre
   pub pre_seen : AreSeen blocks pre (relation_of side.Before check locations) pre_paths pre_relation pre_image
   pub post_seen : AreSeen blocks post (relation_of side.After check locations) post_paths post_relation post_image
 
--- what is seen through a relation that was lent is seen through that relation
-pub seen_lent : (blocks coarse lent : List ℕ) (words : WordSet) (pairs : ℕ → Relation) (n locations : ℕ) (t lent_t : Machine) (paths : Automaton) (relation : Machine) (image : Automaton)
-    → lent ≡ coarse → lent_t ≡ t → n ≡ locations → Realises coarse (pairs locations) t
-    → AreSeen blocks words (Relates (read_by lent) lent_t) paths relation image → AreSeen blocks words (pairs n) paths relation image
-seen_lent blocks coarse lent words pairs n locations t lent_t paths relation image lent_is t_is same realises seen =
-    seen_by_same blocks coarse words (pairs n) t paths relation image (subst (λ m. Realises coarse (pairs m) t) (sym same) realises)
-    (subst (λ (l : List ℕ). AreSeen blocks words (Relates (read_by l) t) paths relation image) lent_is
-    (subst (λ (u : Machine). AreSeen blocks words (Relates (read_by lent) u) paths relation image) t_is seen))
+-- a plain transducer of a term has the pairs that the term means
+plain_realises : (check : Checked) (n : ℕ) (blocks : List ℕ) (r : RelTerm) (pairs : Relation) (t : Machine)
+    → ((u v : List ℕ) → InR (scene_of (lettering_of check n blocks) no_paths).setting r u v ↔ pairs u v)
+    → IsMadeR ⊥ (lettering_of check n blocks) no_paths r t → Realises blocks pairs t
+unfolding IsMadeR
+plain_realises check n blocks r pairs t means made = record {
+  letters = made.letters;
+  relation = λ u v. (λ related. (means u v).0 ((made.relation u v).0 related), λ pair. (made.relation u v).1 ((means u v).1 pair));
+}
 
-pub sides_of : (blocks coarse lent : List ℕ) (check : Checked) (n locations : ℕ) (pre post : WordSet) (before after lent_before lent_after : Machine)
-    (pre_paths : Automaton) (pre_relation : Machine) (pre_image : Automaton) (post_paths : Automaton) (post_relation : Machine) (post_image : Automaton)
-    → IsPartition blocks → lent ≡ coarse → lent_before ≡ before → lent_after ≡ after → n ≡ locations
-    → Realises coarse (relation_of side.Before check locations) before → Realises coarse (relation_of side.After check locations) after
-    → AreSeen blocks pre (Relates (read_by lent) lent_before) pre_paths pre_relation pre_image
-    → AreSeen blocks post (Relates (read_by lent) lent_after) post_paths post_relation post_image
-    → AreSides blocks check n pre post pre_paths pre_relation pre_image post_paths post_relation post_image
-sides_of blocks coarse lent check n locations pre post before after lent_before lent_after pre_paths pre_relation pre_image post_paths post_relation post_image
-    partition lent_is before_is after_is same before_realises after_realises pre_seen post_seen = record {
-      partition = partition;
-      pre_seen = seen_lent blocks coarse lent pre (relation_of side.Before check) n locations before lent_before pre_paths pre_relation pre_image lent_is before_is same before_realises pre_seen;
-      post_seen = seen_lent blocks coarse lent post (relation_of side.After check) n locations after lent_after post_paths post_relation post_image lent_is after_is same after_realises post_seen;
-    }
+module _ (c : Compilation) (relations : Relations) (are : AreRelations c relations) where
+  before_means : (u v : List ℕ) → InR (scene_of (lettering_of c.check c.locations c.blocks) no_paths).setting (before_of c.locations c.check.body) u v
+      ↔ relation_of side.Before c.check c.locations u v
+  before_means = before_in (scene_of (lettering_of c.check c.locations c.blocks) no_paths).setting c.locations c.check.body refl
 
-module _ (blocks : List ℕ) (check : Checked) (locations : ℕ) (pre post : WordSet)
+  after_means : (u v : List ℕ) → InR (scene_of (lettering_of c.check c.locations c.blocks) no_paths).setting (after_of c.locations c.check.body) u v
+      ↔ relation_of side.After c.check c.locations u v
+  after_means = after_in (scene_of (lettering_of c.check c.locations c.blocks) no_paths).setting c.locations c.check.body refl
+
+  -- in either form a transducer realises its relation
+  before_realises : (f : Form) → Realises c.blocks (relation_of side.Before c.check c.locations) (machine_of f relations.before)
+  before_realises form.Plain =
+      plain_realises c.check c.locations c.blocks (before_of c.locations c.check.body) (relation_of side.Before c.check c.locations) relations.before.plain
+      before_means are.before.plain
+  before_realises form.Small = are.before.small
+
+  after_realises : (f : Form) → Realises c.blocks (relation_of side.After c.check c.locations) (machine_of f relations.after)
+  after_realises form.Plain =
+      plain_realises c.check c.locations c.blocks (after_of c.locations c.check.body) (relation_of side.After c.check c.locations) relations.after.plain
+      after_means are.after.plain
+  after_realises form.Small = are.after.small
+
+  -- the letters of relations that were lent are the blocks of the check
+  pub before_letters_are : (lent : Twofold) → lent ≡ relations.before → (lent.plain.letters ≡ block_count c.blocks) × (lent.small.letters ≡ block_count c.blocks)
+  before_letters_are lent lent_is =
+      subst (λ (r : Twofold). (r.plain.letters ≡ block_count c.blocks) × (r.small.letters ≡ block_count c.blocks)) (sym lent_is)
+      ((before_realises form.Plain).letters, are.before.small.letters)
+
+  pub after_letters_are : (lent : Twofold) → lent ≡ relations.after → (lent.plain.letters ≡ block_count c.blocks) × (lent.small.letters ≡ block_count c.blocks)
+  after_letters_are lent lent_is =
+      subst (λ (r : Twofold). (r.plain.letters ≡ block_count c.blocks) × (r.small.letters ≡ block_count c.blocks)) (sym lent_is)
+      ((after_realises form.Plain).letters, are.after.small.letters)
+
+  -- what is seen through relations that were lent
+  pub sides_of : (blocks : List ℕ) (f : Form) (pre post : WordSet) (before after : Twofold)
+      (pre_paths : Automaton) (pre_relation : Machine) (pre_image : Automaton) (post_paths : Automaton) (post_relation : Machine) (post_image : Automaton)
+      → IsPartition blocks → before ≡ relations.before → after ≡ relations.after
+      → AreSeen blocks pre (Relates (read_by c.blocks) (machine_of f before)) pre_paths pre_relation pre_image
+      → AreSeen blocks post (Relates (read_by c.blocks) (machine_of f after)) post_paths post_relation post_image
+      → AreSides blocks c.check c.locations pre post pre_paths pre_relation pre_image post_paths post_relation post_image
+  sides_of blocks f pre post before after pre_paths pre_relation pre_image post_paths post_relation post_image partition before_is after_is pre_seen post_seen = record {
+    partition = partition;
+    pre_seen =
+        seen_by_same blocks c.blocks pre (relation_of side.Before c.check c.locations) (machine_of f relations.before) pre_paths pre_relation pre_image (before_realises f)
+        (subst (λ (r : Twofold). AreSeen blocks pre (Relates (read_by c.blocks) (machine_of f r)) pre_paths pre_relation pre_image) before_is pre_seen);
+    post_seen =
+        seen_by_same blocks c.blocks post (relation_of side.After c.check c.locations) (machine_of f relations.after) post_paths post_relation post_image (after_realises f)
+        (subst (λ (r : Twofold). AreSeen blocks post (Relates (read_by c.blocks) (machine_of f r)) post_paths post_relation post_image) after_is post_seen);
+  }
+
+  -- a row that says what is so is right
+  pub right_row : (paths : Paths) (row : Row) → Says c.check c.locations paths c.states row → RowOf c.check c.locations paths c.states row
+  right_row paths row says = record { says = says; forced = λ must. absurd (not_forced c paths are.within must) }
+
+module _ (blocks : List ℕ) (check : Checked) (locations : ℕ) (paths : Paths) (limit : ℕ)
     (pre_paths : Automaton) (pre_relation : Machine) (pre_image : Automaton) (post_paths : Automaton) (post_relation : Machine) (post_image : Automaton)
-    (sides : AreSides blocks check locations pre post pre_paths pre_relation pre_image post_paths post_relation post_image) where
+    (sides : AreSides blocks check locations paths.pre paths.post pre_paths pre_relation pre_image post_paths post_relation post_image) where
   abbrev X : WordSet
-  X = ImageOf pre (relation_of side.Before check locations)
+  X = ImageOf paths.pre (relation_of side.Before check locations)
 
   abbrev Y : WordSet
-  Y = ImageOf post (relation_of side.After check locations)
+  Y = ImageOf paths.post (relation_of side.After check locations)
 
-  pub compliant_row : AreMet check.at_most (Accepts pre_image) (Accepts post_image) → RowOf check locations pre post Compliant
+  pub compliant_row : AreMet check.at_most (Accepts pre_image) (Accepts post_image) → Says check locations paths limit Compliant
   compliant_row = met blocks X Y pre_image post_image sides.pre_seen.of_image sides.post_seen.of_image check.at_most
 
   first_word : (letters word : List ℕ) → First (Offends check.at_most (Accepts pre_image) (Accepts post_image)) letters → AreLeast blocks letters word
@@ -205,25 +260,25 @@ module _ (blocks : List ℕ) (check : Checked) (locations : ℕ) (pre post : Wor
       (offends blocks X Y pre_image post_image sides.pre_seen.of_image sides.post_seen.of_image check.at_most) letters word are first
 
   pub before_row : (letters : List ℕ) → First (Offends check.at_most (Accepts pre_image) (Accepts post_image)) letters → Accepts pre_image letters
-      → (row : Row) → TellsOf blocks pre_paths pre_relation letters side.Before row → RowOf check locations pre post row
+      → (row : Row) → TellsOf blocks pre_paths pre_relation letters side.Before row → Says check locations paths limit row
   before_row letters first accepted Compliant tells = absurd tells
   before_row letters first accepted Undecided tells = absurd tells
   before_row letters first accepted (Violated word of source) tells =
-      subst (λ (s : Side). IsOffence check locations pre post word s source) (sym tells.1) (record {
+      subst (λ (s : Side). IsOffence check locations paths.pre paths.post word s source) (sym tells.1) (record {
         first = first_word letters word first tells.0;
         in_image = (sides.pre_seen.of_image.language word).0 (subst (Accepts pre_image) (sym tells.0.read) accepted);
-        first_source = first_path blocks sides.partition pre (relation_of side.Before check locations) pre_paths pre_relation pre_image sides.pre_seen word source
+        first_source = first_path blocks sides.partition paths.pre (relation_of side.Before check locations) pre_paths pre_relation pre_image sides.pre_seen word source
             (subst (λ l. IsFirstSource blocks pre_paths pre_relation l source) (sym tells.0.read) tells.2);
       })
 
   pub after_row : (letters : List ℕ) → First (Offends check.at_most (Accepts pre_image) (Accepts post_image)) letters → Accepts post_image letters
-      → (row : Row) → TellsOf blocks post_paths post_relation letters side.After row → RowOf check locations pre post row
+      → (row : Row) → TellsOf blocks post_paths post_relation letters side.After row → Says check locations paths limit row
   after_row letters first accepted Compliant tells = absurd tells
   after_row letters first accepted Undecided tells = absurd tells
   after_row letters first accepted (Violated word of source) tells =
-      subst (λ (s : Side). IsOffence check locations pre post word s source) (sym tells.1) (record {
+      subst (λ (s : Side). IsOffence check locations paths.pre paths.post word s source) (sym tells.1) (record {
         first = first_word letters word first tells.0;
         in_image = (sides.post_seen.of_image.language word).0 (subst (Accepts post_image) (sym tells.0.read) accepted);
-        first_source = first_path blocks sides.partition post (relation_of side.After check locations) post_paths post_relation post_image sides.post_seen word source
+        first_source = first_path blocks sides.partition paths.post (relation_of side.After check locations) post_paths post_relation post_image sides.post_seen word source
             (subst (λ l. IsFirstSource blocks post_paths post_relation l source) (sym tells.0.read) tells.2);
       })

@@ -5,6 +5,7 @@ use Rattle.rela_build.specs.PathSets.{Paths, no_paths}
 use Rattle.rela_graph.specs.Paths as graph
 use Rattle.rela_graph.specs.Topology.{Topology}
 use Rattle.rela_names.specs.declared.level.Level.{Level}
+use Rattle.rela_rir.specs.Agreement.{SameWords, SameArrivals}
 use Rattle.rela_rir.specs.Places.{Arrivals, Scene}
 use Rattle.rela_rir.specs.declared.term.PathTerm.{PathTerm}
 use Rattle.rela_rir.specs.declared.term.PathTerm.TheVariants.{Pre, Post, Image}
@@ -29,6 +30,13 @@ paths_of level names before after = record {
   at_pre = arrivals_of level names before;
   at_post = arrivals_of level names after;
 }
+
+-- both path sets have the same words in the two, and their places are reached by the same words
+pub record SamePathSets (p q : Paths) : Type 0 where
+  pub pre : SameWords p.pre q.pre
+  pub post : SameWords p.post q.post
+  pub pre_places : SameArrivals p.at_pre q.at_pre
+  pub post_places : SameArrivals p.at_post q.at_post
 
 -- the scene of a check, under a number of locations, for these paths
 abbrev pub scene : Checked → ℕ → Paths → Scene

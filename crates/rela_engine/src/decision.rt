@@ -1,19 +1,24 @@
-ghost use Rattle.std.specs.Prelude.{◌≡◌, ℕ, ◌<◌, List, IfOk, IsTrue, All, length};
+//! The row of a check for a flow.
+ghost use Rattle.std.specs.Prelude.{◌≡◌, ℕ, ◌<◌, ◌≤◌, List, IfOk, IfErr, IsTrue, All, length};
 ghost use Rattle.rela_graph.specs.Paths.{Paths};
 ghost use Rattle.rela_labels.specs.Partition.{block_count};
 ghost use Rattle.rela_names.specs.Alphabet.{path_symbols};
 ghost use Rattle.rela_snapshot.specs.PairsLocated.{IsPairLocated};
 ghost use Rattle.rela_translate.specs.Verdict.{Meets};
-ghost use Rattle.rela_engine.specs.RowOf.{RowOf};
+ghost use Rattle.rela_engine.specs.Compilation.{AreRelations};
+ghost use Rattle.rela_engine.specs.RowOf.{MayBeOpen, RowOf};
+ghost use Rattle.rela_engine.specs.Scenes.{paths_of};
 ghost use Rattle.rela_engine.specs.Seen.{AreFiner};
 
 use crate::compiled::{Compiled, compile};
 use crate::finer_blocks::finer_blocks;
 use crate::offence::first_offence;
-use crate::seen::see;
+use crate::relations::Relations;
+use crate::seen::{Form, see};
 use crate::witnesses::violated_row;
 use rela_labels::{BlockSet, LabelSet, Partition, WideSet};
 use rela_names::Alphabet;
+use rela_nfa::BuildError;
 use rela_report::{Row, Side};
 use rela_snapshot::FlowPair;
 use rela_translate::Check;
@@ -32,9 +37,11 @@ macro_rules! by_width {
     };
 }
 
-/// The row of the check for a flow: whether its paths before and after the change have the same image,
-/// and if not the first word that tells, with its first source. The images are compared over blocks of
-/// symbols: those of the check, split so that the locations of the flow's nodes stand alone.
+/// The row of the check for a flow, where a construction may have so many states: whether the flow's
+/// paths before and after the change have the same image, and if not the first word that tells, with its
+/// first source. It is undecided only where that is licensed, and always where it has to be. The images
+/// are compared over blocks of symbols: those of the check, split so that the locations of the flow's
+/// nodes stand alone.
 ///
 /// The alphabet is that of the check's level, whose path symbols the class table lists, and the nodes
 /// of both graphs stand at its locations. The only error is want of memory.
@@ -43,12 +50,14 @@ pub fn decide(
     check: &Check,
     pair: &FlowPair,
     alphabet: &Alphabet,
+    states: usize,
 ) -> Result<Row, AllocError>
     requires classes { All (λ set. All (λ s. s < path_symbols alphabet.now) set.members) check.now.classes }
     requires located { IsPairLocated alphabet.now check.now.level pair.now }
-    ensures { IfOk result (RowOf check.now (length alphabet.now) (Paths pair.now.before check.now.level alphabet.now) (Paths pair.now.after check.now.level alphabet.now)) }
+    requires some { 1 ≤ states }
+    ensures { IfOk result (RowOf check.now (length alphabet.now) (paths_of check.now.level alphabet.now pair.now.before pair.now.after) states) }
 {
-    let compiled = compile(alloc, check, alphabet)?;
+    let compiled = compile(alloc, check, alphabet, states)?;
     decide_compiled(alloc, &compiled, pair, alphabet)
 }
 
@@ -62,12 +71,17 @@ pub fn decide_compiled(
 ) -> Result<Row, AllocError>
     requires alphabet { length alphabet.now ≡ compiled.now.locations }
     requires located { IsPairLocated alphabet.now compiled.now.check.level pair.now }
-    ensures { IfOk result (RowOf compiled.now.check (length alphabet.now) (Paths pair.now.before compiled.now.check.level alphabet.now) (Paths pair.now.after compiled.now.check.level alphabet.now)) }
+    ensures { IfOk result (RowOf compiled.now.check (length alphabet.now)
+        (paths_of compiled.now.check.level alphabet.now pair.now.before pair.now.after) compiled.now.states) }
 {
+    // Equal outlines don't decide a row that has to be left open.
+    let Some(relations) = compiled.relations() else {
+        return Ok(Row::Undecided);
+    };
     if is_met_by_looks(compiled, pair) {
         return Ok(Row::Compliant);
     }
-    row_by_automata(alloc, compiled, pair, alphabet)
+    row_by_automata(alloc, compiled, relations, pair, alphabet)
 }
 
 /// Whether the check treats both sides of a change alike, and the graphs of the flow look the same at
@@ -85,12 +99,15 @@ fn is_met_by_looks(compiled: &Compiled<'_>, pair: &FlowPair) -> bool
 fn row_by_automata(
     alloc: Global,
     compiled: &Compiled<'_>,
+    relations: &Relations,
     pair: &FlowPair,
     alphabet: &Alphabet,
 ) -> Result<Row, AllocError>
     requires alphabet { length alphabet.now ≡ compiled.now.locations }
     requires located { IsPairLocated alphabet.now compiled.now.check.level pair.now }
-    ensures { IfOk result (RowOf compiled.now.check (length alphabet.now) (Paths pair.now.before compiled.now.check.level alphabet.now) (Paths pair.now.after compiled.now.check.level alphabet.now)) }
+    requires relations { AreRelations compiled.now relations.now }
+    ensures { IfOk result (RowOf compiled.now.check (length alphabet.now)
+        (paths_of compiled.now.check.level alphabet.now pair.now.before pair.now.after) compiled.now.states) }
 {
     let blocks = finer_blocks(
         alloc,
@@ -102,49 +119,130 @@ fn row_by_automata(
     )?;
     by_width!(
         blocks.blocks(),
-        row_over(alloc, compiled, pair, alphabet, &blocks)
+        row_over(alloc, compiled, relations, pair, alphabet, &blocks)
     )
 }
 
-/// The row, by automata whose letters are these blocks.
+/// The row, by automata whose letters are these blocks. Small ones decide nearly every row; only where
+/// they pass the limit plain ones are made, and a row is left open only where these pass it too.
 fn row_over<L: LabelSet>(
     alloc: Global,
     compiled: &Compiled<'_>,
+    relations: &Relations,
     pair: &FlowPair,
     alphabet: &Alphabet,
     blocks: &Partition,
 ) -> Result<Row, AllocError>
     requires alphabet { length alphabet.now ≡ compiled.now.locations }
     requires located { IsPairLocated alphabet.now compiled.now.check.level pair.now }
+    requires relations { AreRelations compiled.now relations.now }
     requires blocks { AreFiner compiled.now.blocks (length alphabet.now) compiled.now.check.level pair.now.before pair.now.after blocks.now }
     requires fits { L.fits (block_count blocks.now) }
-    ensures { IfOk result (RowOf compiled.now.check (length alphabet.now) (Paths pair.now.before compiled.now.check.level alphabet.now) (Paths pair.now.after compiled.now.check.level alphabet.now)) }
+    ensures { IfOk result (RowOf compiled.now.check (length alphabet.now)
+        (paths_of compiled.now.check.level alphabet.now pair.now.before pair.now.after) compiled.now.states) }
 {
-    let level = compiled.level();
-    let coarse = compiled.blocks();
+    match row_by::<L>(
+        alloc,
+        compiled,
+        relations,
+        pair,
+        alphabet,
+        blocks,
+        Form::Small,
+    ) {
+        Ok(row) => Ok(row),
+        Err(BuildError::Limit) => plain_row::<L>(
+            alloc, compiled, relations, pair, alphabet, blocks,
+        ),
+        Err(BuildError::Memory) => Err(AllocError),
+    }
+}
+
+/// The row by plain automata, left open where they pass the limit.
+fn plain_row<L: LabelSet>(
+    alloc: Global,
+    compiled: &Compiled<'_>,
+    relations: &Relations,
+    pair: &FlowPair,
+    alphabet: &Alphabet,
+    blocks: &Partition,
+) -> Result<Row, AllocError>
+    requires alphabet { length alphabet.now ≡ compiled.now.locations }
+    requires located { IsPairLocated alphabet.now compiled.now.check.level pair.now }
+    requires relations { AreRelations compiled.now relations.now }
+    requires blocks { AreFiner compiled.now.blocks (length alphabet.now) compiled.now.check.level pair.now.before pair.now.after blocks.now }
+    requires fits { L.fits (block_count blocks.now) }
+    ensures { IfOk result (RowOf compiled.now.check (length alphabet.now)
+        (paths_of compiled.now.check.level alphabet.now pair.now.before pair.now.after) compiled.now.states) }
+{
+    match row_by::<L>(
+        alloc,
+        compiled,
+        relations,
+        pair,
+        alphabet,
+        blocks,
+        Form::Plain,
+    ) {
+        Ok(row) => Ok(row),
+        Err(BuildError::Limit) => Ok(Row::Undecided),
+        Err(BuildError::Memory) => Err(AllocError),
+    }
+}
+
+/// The row by automata of this form.
+///
+/// # Errors
+///
+/// - `Limit` where an image, or the comparison of the two, passes the check's limit. The row of plain
+///   automata may then be left open.
+/// - `Memory` where there isn't memory.
+fn row_by<L: LabelSet>(
+    alloc: Global,
+    compiled: &Compiled<'_>,
+    relations: &Relations,
+    pair: &FlowPair,
+    alphabet: &Alphabet,
+    blocks: &Partition,
+    form: Form,
+) -> Result<Row, BuildError>
+    requires alphabet { length alphabet.now ≡ compiled.now.locations }
+    requires located { IsPairLocated alphabet.now compiled.now.check.level pair.now }
+    requires relations { AreRelations compiled.now relations.now }
+    requires blocks { AreFiner compiled.now.blocks (length alphabet.now) compiled.now.check.level pair.now.before pair.now.after blocks.now }
+    requires fits { L.fits (block_count blocks.now) }
+    ensures row { IfOk result (RowOf compiled.now.check (length alphabet.now)
+        (paths_of compiled.now.check.level alphabet.now pair.now.before pair.now.after) compiled.now.states) }
+    ensures limit { IfErr result (λ e. e ≡ BuildError.Limit → form ≡ Form.Plain → MayBeOpen compiled.now.check (length alphabet.now)
+        (paths_of compiled.now.check.level alphabet.now pair.now.before pair.now.after) compiled.now.states) }
+{
+    // By what each compiled check keeps, its blocks are of its symbols.
+    let _ = compiled.blocks();
     let before = see::<L>(
         alloc,
+        compiled,
+        relations.before(),
         &pair.before,
-        level,
         alphabet,
-        compiled.before(),
-        coarse,
         blocks,
+        form,
     )?;
     let after = see::<L>(
         alloc,
+        compiled,
+        relations.after(),
         &pair.after,
-        level,
         alphabet,
-        compiled.after(),
-        coarse,
         blocks,
+        form,
     )?;
-    match first_offence(alloc, compiled.at_most(), &before.image, &after.image)? {
+    let at_most = compiled.at_most();
+    let states = compiled.states();
+    match first_offence(alloc, at_most, &before.image, &after.image, states)? {
         None => Ok(Row::Compliant),
         Some(offence) => match offence.side {
-            Side::Before => violated_row(alloc, &offence, &before, blocks),
-            Side::After => violated_row(alloc, &offence, &after, blocks),
+            Side::Before => Ok(violated_row(alloc, &offence, &before, blocks)?),
+            Side::After => Ok(violated_row(alloc, &offence, &after, blocks)?),
         },
     }
 }

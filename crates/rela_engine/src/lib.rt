@@ -11,9 +11,11 @@ mod markers;
 mod offence;
 mod relation;
 mod relations;
+mod row_laws;
 mod seen;
 mod sides;
 mod witnesses;
 
 pub use compiled::{Compiled, compile};
 pub use decision::{decide, decide_compiled};
+pub use row_laws::{TwoPathSets, rows_carry_over};

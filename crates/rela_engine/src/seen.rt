@@ -1,5 +1,7 @@
 //! The paths of a snapshot and what a relation makes of them, as automata.
-ghost use Rattle.std.specs.Prelude.{◌≡◌, ℕ, ◌+◌, ◌<◌, ◌≤◌, List, IfOk, All, length, map};
+ghost use Rattle.std.specs.Prelude.{◌≡◌, ℕ, ◌+◌, ◌<◌, ◌≤◌, List, IfOk, IfErr, All, length, map};
+ghost use Rattle.rela_build.specs.Made.{Leads};
+ghost use Rattle.rela_build.specs.Reading.{read_by};
 ghost use Rattle.rela_graph.specs.Alone.{StandsAlone};
 ghost use Rattle.rela_graph.specs.Paths.{Paths};
 ghost use Rattle.rela_graph.specs.Topology.{symbol_at};
@@ -8,18 +10,31 @@ ghost use Rattle.rela_names.specs.Alphabet.{path_symbols};
 ghost use Rattle.rela_nfa.specs.Automaton.{IsAutomaton};
 ghost use Rattle.rela_nfa.specs.Relabelling.{Refines};
 ghost use Rattle.rela_nfa.specs.Runs.{Accepts};
+ghost use Rattle.rela_rir.specs.Built.{PathStates};
 ghost use Rattle.rela_trans.specs.Machine.{IsMachine};
 ghost use Rattle.rela_trans.specs.Runs.{Relates};
-ghost use Rattle.rela_engine.specs.Reading.{read_by, Recognises, Realises, RealisesFrom};
-ghost use Rattle.rela_engine.specs.Seen.{AreLeastSymbols, AreSeen, NodesStandAlone};
+ghost use Rattle.rela_engine.specs.Reading.{Recognises, Realises, RealisesFrom};
+ghost use Rattle.rela_engine.specs.Scenes.{arrivals_of};
+ghost use Rattle.rela_engine.specs.Seen.{AreFiner, AreLeastSymbols, AreSeen, ImagePasses, KeepPlaces, LeadAlike, NodesStandAlone, machine_of};
 
-use crate::unlimited::unlimited;
+use crate::compiled::Compiled;
+use crate::relations::Twofold;
 use rela_graph::{Graph, MAX_NODES};
 use rela_labels::{LabelSet, Partition, WideSet};
 use rela_names::{Alphabet, Level};
-use rela_nfa::Nfa;
+use rela_nfa::{BuildError, Nfa};
 use rela_trans::{Transducer, image};
 use std::alloc::{AllocError, Global};
+
+/// How the automata of one side are made.
+#[derive(Clone, Copy, Debug)]
+pub(crate) enum Form {
+    /// For speed: of few states, which need not stand for anything.
+    Small,
+    /// As they are built: each state stands for a place of a term, so that their number licenses an
+    /// answer that is left open.
+    Plain,
+}
 
 /// A set of paths, a relation as far as it is one of those paths, and the image of the paths under it.
 /// Their letters are blocks of symbols.
@@ -30,31 +45,41 @@ pub(crate) struct Seen<L: LabelSet> {
     pub(crate) image: Nfa<L>,
 }
 
-/// The paths of the graph at the level, seen through the relation. The relation's letters are the
-/// coarse blocks, and those of the result are the finer ones.
+/// The paths of the graph at the level of the check, seen through the relation, whose letters are the
+/// check's blocks. Those of the result are the finer ones.
+///
+/// # Errors
+///
+/// - `Limit` where the image has more states than the check's limit.
+/// - `Memory` where there isn't memory.
 pub(crate) fn see<L: LabelSet>(
     alloc: Global,
+    compiled: &Compiled<'_>,
+    relation: &Twofold,
     graph: &Graph,
-    level: Level,
     alphabet: &Alphabet,
-    relation: &Transducer<WideSet>,
-    coarse: &Partition,
     blocks: &Partition,
-) -> Result<Seen<L>, AllocError>
-    requires placed { All (λ node. symbol_at level node < length alphabet.now) graph.now.nodes }
-    requires symbols { path_symbols alphabet.now ≤ length blocks.now }
-    requires alone { NodesStandAlone blocks.now level graph.now.nodes }
-    requires drops { StandsAlone blocks.now (length alphabet.now) }
-    requires loops { StandsAlone blocks.now (length alphabet.now + 1) }
-    requires partition { IsPartition blocks.now }
-    requires refines { Refines blocks.now coarse.now }
-    requires letters { relation.now.letters ≡ block_count coarse.now }
+    form: Form,
+) -> Result<Seen<L>, BuildError>
+    requires alphabet { length alphabet.now ≡ compiled.now.locations }
+    requires placed { All (λ node. symbol_at compiled.now.check.level node < length alphabet.now) graph.now.nodes }
+    requires blocks { AreFiner compiled.now.blocks (length alphabet.now) compiled.now.check.level graph.now graph.now blocks.now }
+    requires plain { relation.now.plain.letters ≡ block_count compiled.now.blocks }
+    requires small { relation.now.small.letters ≡ block_count compiled.now.blocks }
     requires fits { L.fits (block_count blocks.now) }
-    ensures { IfOk result (λ seen. AreSeen blocks.now (Paths graph.now level alphabet.now) (Relates (read_by coarse.now) relation.now) seen.paths seen.relation seen.image) }
+    ensures seen { IfOk result (λ seen. AreSeen blocks.now (Paths graph.now compiled.now.check.level alphabet.now)
+        (Relates (read_by compiled.now.blocks) (machine_of form relation.now)) seen.paths seen.relation seen.image) }
+    ensures places { IfOk result (λ seen. form ≡ Form.Plain → KeepPlaces compiled.now.blocks blocks.now
+        compiled.now.check.level alphabet.now graph.now relation.now.plain seen.paths seen.relation) }
+    ensures limit { IfErr result (λ e. e ≡ BuildError.Limit → form ≡ Form.Plain → ImagePasses compiled.now.blocks blocks.now
+        compiled.now.check.level alphabet.now graph.now relation.now.plain compiled.now.states) }
 {
-    let paths = paths_over(alloc, graph, level, alphabet, blocks)?;
-    let relation = relation_over(alloc, relation, &paths, coarse, blocks)?;
-    let image = unlimited(image(alloc, &paths, &relation, usize::MAX))?;
+    let level = compiled.level();
+    let coarse = compiled.blocks();
+    let states = compiled.states();
+    let paths = paths_over(alloc, graph, level, alphabet, blocks, form)?;
+    let relation = relation_over(alloc, relation, &paths, coarse, blocks, form)?;
+    let image = image(alloc, &paths, &relation, states)?;
     prove!(image.start() < image.states());
     Ok(Seen {
         paths,
@@ -63,9 +88,61 @@ pub(crate) fn see<L: LabelSet>(
     })
 }
 
+/// The paths of the graph at the level, in this form.
+fn paths_over<L: LabelSet>(
+    alloc: Global,
+    graph: &Graph,
+    level: Level,
+    alphabet: &Alphabet,
+    blocks: &Partition,
+    form: Form,
+) -> Result<Nfa<L>, AllocError>
+    requires placed { All (λ node. symbol_at level node < length alphabet.now) graph.now.nodes }
+    requires symbols { path_symbols alphabet.now ≤ length blocks.now }
+    requires alone { NodesStandAlone blocks.now level graph.now.nodes }
+    requires drops { StandsAlone blocks.now (length alphabet.now) }
+    requires loops { StandsAlone blocks.now (length alphabet.now + 1) }
+    requires fits { L.fits (block_count blocks.now) }
+    ensures paths { IfOk result (Recognises blocks.now (Paths graph.now level alphabet.now)) }
+    ensures automaton { IfOk result IsAutomaton }
+    ensures least { IfOk result (λ _. (w : List ℕ) → Paths graph.now level alphabet.now w → AreLeastSymbols blocks.now w) }
+    ensures places { IfOk result (λ nfa. form ≡ Form.Plain →
+        PathStates (length graph.now.nodes) (arrivals_of level alphabet.now graph.now) (Leads blocks.now nfa)) }
+{
+    match form {
+        Form::Small => short_paths(alloc, graph, level, alphabet, blocks),
+        Form::Plain => plain_paths(alloc, graph, level, alphabet, blocks),
+    }
+}
+
+/// The paths of the graph at the level, by a state for each place of them.
+fn plain_paths<L: LabelSet>(
+    alloc: Global,
+    graph: &Graph,
+    level: Level,
+    alphabet: &Alphabet,
+    blocks: &Partition,
+) -> Result<Nfa<L>, AllocError>
+    requires placed { All (λ node. symbol_at level node < length alphabet.now) graph.now.nodes }
+    requires symbols { path_symbols alphabet.now ≤ length blocks.now }
+    requires alone { NodesStandAlone blocks.now level graph.now.nodes }
+    requires drops { StandsAlone blocks.now (length alphabet.now) }
+    requires loops { StandsAlone blocks.now (length alphabet.now + 1) }
+    requires fits { L.fits (block_count blocks.now) }
+    ensures paths { IfOk result (Recognises blocks.now (Paths graph.now level alphabet.now)) }
+    ensures automaton { IfOk result IsAutomaton }
+    ensures least { IfOk result (λ _. (w : List ℕ) → Paths graph.now level alphabet.now w → AreLeastSymbols blocks.now w) }
+    ensures places { IfOk result (λ nfa. PathStates (length graph.now.nodes) (arrivals_of level alphabet.now graph.now) (Leads blocks.now nfa)) }
+{
+    prove!(graph.nodes().len() <= MAX_NODES);
+    let nfa = graph.to_nfa(alloc, level, alphabet, blocks)?;
+    prove!(nfa.start() < nfa.states());
+    Ok(nfa)
+}
+
 /// The paths of the graph at the level, without silent detours: each state is met once for each state of
 /// the relation.
-fn paths_over<L: LabelSet>(
+fn short_paths<L: LabelSet>(
     alloc: Global,
     graph: &Graph,
     level: Level,
@@ -82,11 +159,35 @@ fn paths_over<L: LabelSet>(
     ensures automaton { IfOk result IsAutomaton }
     ensures least { IfOk result (λ _. (w : List ℕ) → Paths graph.now level alphabet.now w → AreLeastSymbols blocks.now w) }
 {
-    prove!(graph.nodes().len() <= MAX_NODES);
-    let whole = graph.to_nfa(alloc, level, alphabet, blocks)?;
+    let whole = plain_paths(alloc, graph, level, alphabet, blocks)?;
     let nfa = whole.shortened(alloc)?;
     prove!(nfa.start() < nfa.states());
     Ok(nfa)
+}
+
+/// The relation over the finer blocks, in this form.
+fn relation_over<L: LabelSet>(
+    alloc: Global,
+    relation: &Twofold,
+    paths: &Nfa<L>,
+    coarse: &Partition,
+    blocks: &Partition,
+    form: Form,
+) -> Result<Transducer<L>, AllocError>
+    requires refines { Refines blocks.now coarse.now }
+    requires plain { relation.now.plain.letters ≡ block_count coarse.now }
+    requires small { relation.now.small.letters ≡ block_count coarse.now }
+    requires paths { paths.now.letters ≡ block_count blocks.now }
+    requires fits { L.fits (block_count blocks.now) }
+    ensures relation { IfOk result (RealisesFrom blocks.now (λ u. Accepts paths.now (map (read_by blocks.now) u))
+        (Relates (read_by coarse.now) (machine_of form relation.now))) }
+    ensures machine { IfOk result IsMachine }
+    ensures reached { IfOk result (λ t. form ≡ Form.Plain → LeadAlike coarse.now relation.now.plain blocks.now t) }
+{
+    match form {
+        Form::Small => small_relation(alloc, &relation.small, paths, coarse, blocks),
+        Form::Plain => whole_relation(alloc, &relation.plain, coarse, blocks),
+    }
 }
 
 /// A relation with no more states than this for each state of the paths is relabelled whole: that costs
@@ -94,7 +195,7 @@ fn paths_over<L: LabelSet>(
 const FEW_FOR_EACH: usize = 32;
 
 /// The relation over the finer blocks, as far as it is one of the paths.
-fn relation_over<L: LabelSet>(
+fn small_relation<L: LabelSet>(
     alloc: Global,
     relation: &Transducer<WideSet>,
     paths: &Nfa<L>,
@@ -127,6 +228,7 @@ fn whole_relation<L: LabelSet>(
     requires fits { L.fits (block_count blocks.now) }
     ensures relation { IfOk result (Realises blocks.now (Relates (read_by coarse.now) relation.now)) }
     ensures machine { IfOk result IsMachine }
+    ensures reached { IfOk result (LeadAlike coarse.now relation.now blocks.now) }
 {
     let finer = relation.relabel(alloc, coarse, blocks)?;
     prove!(relation.start() < relation.states());

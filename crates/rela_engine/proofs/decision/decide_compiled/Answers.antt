@@ -1,9 +1,22 @@
-use Rattle.std.proofs.Common.{sym, subst}
-use Rattle.rela_graph.specs.Paths.{Paths}
-use Rattle.rela_translate.specs.Verdict.{Meets}
+use Rattle.std.proofs.Common.{ℕ, sym, subst}
+use Rattle.rela_report.specs.declared.rows.Row.TheVariants.{Compliant, Undecided}
+use Rattle.rela_engine.specs.RowOf.{RowOf}
+use Rattle.rela_engine.specs.Scenes.{paths_of}
+use Rattle.rela_engine.proofs.OpenRows.{undecided}
+use Rattle.rela_engine.proofs.Rows.{right_row}
 use Rattle.rela_engine.proofs.decision.decide_compiled.Goals as goal
+
+pub returns-in_default : goal.returns-in_default
+returns-in_default c =
+    let k = c.args.compiled.now in
+    let flow = paths_of k.check.level c.args.alphabet.now c.args.pair.now.before c.args.pair.now.after in
+    subst (λ (n : ℕ). RowOf k.check n flow k.states Undecided) (sym c.requires.alphabet)
+    (undecided k flow (rw c.in_default.is at c.relations.ensures.past))
 
 pub returns-then-is_met_by_looks : goal.returns-then-is_met_by_looks
 returns-then-is_met_by_looks c =
-    subst (λ n. Meets c.args.compiled.now.check n (Paths c.args.pair.now.before c.args.compiled.now.check.level c.args.alphabet.now) (Paths c.args.pair.now.after c.args.compiled.now.check.level c.args.alphabet.now))
-    (sym c.requires.alphabet) (c.is_met_by_looks.ensures c.if-is_met_by_looks.true c.args.alphabet.now)
+    let k = c.args.compiled.now in
+    let flow = paths_of k.check.level c.args.alphabet.now c.args.pair.now.before c.args.pair.now.after in
+    subst (λ (n : ℕ). RowOf k.check n flow k.states Compliant) (sym c.requires.alphabet)
+    (right_row k c.in-Some.relations.now (rw c.in-Some.is at c.relations.ensures.made) flow Compliant
+    (c.is_met_by_looks.ensures c.if-is_met_by_looks.true c.args.alphabet.now))
