@@ -20,6 +20,7 @@ use rela_trans::{Transducer, image};
 use std::alloc::{AllocError, Global};
 
 /// What terms are built with.
+#[derive(Drop)]
 pub struct Builder<'a, C: Complements, P: PathSets> {
     /// The letters of all that is built.
     pub letters: &'a Letters<'a>,
