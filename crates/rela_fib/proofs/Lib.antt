@@ -1,3 +1,8 @@
 pub mod Uniform
 pub mod Indexing
-pub mod Graphs
+pub mod Places
+pub mod Steps
+pub mod Located
+pub mod Pieces
+pub mod Plain
+pub mod Flows
