@@ -15,11 +15,12 @@ use Rattle.rela_flows.specs.declared.prefix.Prefix.TheVariants.{V4}
 use Rattle.rela_locations.specs.Network.{Network}
 use Rattle.rela_prefixes.specs.Classes.{AreClasses}
 use Rattle.rela_prefixes.specs.Holding.{Holds}
+use Rattle.rela_prefixes.proofs.Cells.{holds_own}
 use Rattle.rela_tables.specs.Forwarding.{Forwarding}
 use Rattle.rela_fib.specs.Choices.{IsUniform}
 use Rattle.rela_fib.specs.Graph.{AreNodes, ArePlacesOf, Graph, IsGraphAt}
 use Rattle.rela_fib.specs.Prefixes.{prefixes_in_both}
-use Rattle.rela_fib.specs.Snapshot.{HasManyEdges, IsDrawn, IsFew, IsGraphOf, IsSnapshotOf, IsTooLong, classes_of}
+use Rattle.rela_fib.specs.Snapshot.{HasManyEdges, IsDrawn, IsFew, IsGraphOf, IsSnapshotOf, IsTooLong, IsTooMany, classes_of}
 use Rattle.rela_fib.specs.Steps.{AreDevices, AreStepsAt, graph_of}
 use Rattle.rela_fib.specs.Text.{Drawn, Flow, edge_data, flow_data, list_data, names_of, numbers_data, snapshot_bytes, snapshot_data}
 use Rattle.rela_fib.specs.Writing.{AddsFlow, AddsFlows, AreFlowsOf, HasManyStepsIn, IsAdded, IsSteppedFlow, IsUpTo, IsWhole, IsWholeTooLong, commas, end_text, flow_text, head_text, plain_text, tail_text, whole_text}
@@ -28,6 +29,7 @@ use Rattle.rela_fib.specs.declared.step.Step.{Step}
 use Rattle.rela_fib.proofs.Pieces.{commas_more, list_is}
 use Rattle.rela_fib.proofs.Plain.{prefix_escape}
 use Rattle.rela_fib.proofs.Steps.{graph_known, graph_uniform}
+use Rattle.rela_fib.proofs.Unique.{not_long, not_many}
 
 -- ---- the text
 
@@ -136,12 +138,9 @@ wholly_long d end head text new classes begins adds ends long =
 
 -- ---- the snapshot
 
-own_address : (c : Ipv4Prefix) → Holds c c.address
-own_address c = record { fits = c.address_fits; first_bits = refl }
-
 stepped_graph : (network : Network) (f : Forwarding) (nodes : List ℕ) (d : Devices) (flow : Flow) → AreDevices network f nodes d → IsUniform f flow.class → IsSteppedFlow d flow → IsGraphOf network f nodes flow.class flow.graph
 stepped_graph network f nodes d flow are uniform is a holds =
-    graph_uniform network f nodes flow.class flow.class.address a flow.graph uniform (own_address flow.class) holds (subst (λ g. IsGraphAt network f nodes flow.class.address g) (sym is.graph_is) (graph_known network f nodes d flow.class.address is.steps are is.steps_are))
+    graph_uniform network f nodes flow.class flow.class.address a flow.graph uniform (holds_own flow.class) holds (subst (λ g. IsGraphAt network f nodes flow.class.address g) (sym is.graph_is) (graph_known network f nodes d flow.class.address is.steps are is.steps_are))
 
 all_graphs : (network : Network) (f : Forwarding) (nodes : List ℕ) (d : Devices) (flows : List Flow) → AreDevices network f nodes d → All (IsUniform f) (classes_of flows) → All (IsSteppedFlow d) flows → All (λ (flow : Flow). IsGraphOf network f nodes flow.class flow.graph) flows
 all_graphs network f nodes d flows are uniform stepped = λ k flow lt.
@@ -206,7 +205,17 @@ many_edges network f other nodes starts classes d end plan is = record {
   class = is.class;
   listed = is.listed;
   graph = graph_of is.many.steps;
-  graph_is = λ a holds. graph_uniform network f nodes is.class is.class.address a (graph_of is.many.steps) (All-contains (IsUniform f) classes is.class plan.uniform is.listed) (own_address is.class) holds
+  graph_is = λ a holds. graph_uniform network f nodes is.class is.class.address a (graph_of is.many.steps) (All-contains (IsUniform f) classes is.class plan.uniform is.listed) (holds_own is.class) holds
       (graph_known network f nodes d is.class.address is.many.steps plan.devices_are is.many.steps_are);
   many = is.many.many;
 }
+
+pub not_many_by : (network : Network) (f other : Forwarding) (nodes starts : List ℕ) (classes : List Ipv4Prefix) (d : Devices) (end : List ℕ) (flows : List Flow) → IsPlanned network f other nodes starts classes d end → AreFlowsOf d classes flows → ¬ IsTooMany network f other
+not_many_by network f other nodes starts classes d end flows plan are =
+    let draws = drawn_by network f other nodes starts classes d end flows plan are in not_many network f other (record { nodes = nodes; starts = starts; flows = flows }) plan.devices_are.tables draws.0 draws.1
+
+pub not_long_by : (network : Network) (f other : Forwarding) (nodes starts : List ℕ) (classes : List Ipv4Prefix) (d : Devices) (end text : List ℕ) → IsPlanned network f other nodes starts classes d end → IsWhole d end classes text → ¬ IsTooLong network f other
+not_long_by network f other nodes starts classes d end text plan is =
+    let draws = drawn_by network f other nodes starts classes d end is.flows plan is.flows_are in
+    not_long network f other (record { nodes = nodes; starts = starts; flows = is.flows }) plan.devices_are.tables draws.0
+    (subst (λ (t : List ℕ). length t ≤ 33554432) (is.text_is ∙ bytes_are network nodes starts end is.flows plan.end_is) is.short)

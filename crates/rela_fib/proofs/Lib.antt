@@ -6,3 +6,4 @@ pub mod Located
 pub mod Pieces
 pub mod Plain
 pub mod Flows
+pub mod Unique

@@ -67,4 +67,4 @@ pub record HasManyEdges (network : Network) (f other : Forwarding) : Type 0 wher
 
 -- there are more nodes, classes or edges than a snapshot may have
 abbrev pub IsTooMany : Network → Forwarding → Forwarding → Type 0
-IsTooMany network f other = HasManyNodes f ⊎ HasManyClasses f other ⊎ HasManyEdges network f other
+IsTooMany network f other = HasManyNodes f ⊎ (HasManyClasses f other ⊎ HasManyEdges network f other)

@@ -4,6 +4,7 @@ use Rattle.std.specs.List.{All, AllZip}
 use Rattle.rela_names.specs.declared.level.Level.TheVariants as level
 use Rattle.rela_locations.specs.Network.{Network, location_of}
 use Rattle.rela_prefixes.specs.Longest.{Longest}
+use Rattle.rela_tables.specs.Distinct.{AreTables}
 use Rattle.rela_tables.specs.Forwarding.{Forwarding, routes_of}
 use Rattle.rela_tables.specs.declared.route.Route.{Route}
 use Rattle.rela_fib.specs.Graph.{ArePlacesOf, Graph, chosen_hops, edges_from, is_delivered, is_dropped, numbers_from}
@@ -69,8 +70,9 @@ ArePlaced network nodes names places = AllZip (λ node place. slice_get names pl
 abbrev pub AreDevicesAt : Forwarding → List ℕ → List ℕ → List Device → Type 0
 AreDevicesAt f nodes names devices = AllZip (λ name device. IsDevice nodes (routes_of f name) device) names devices
 
--- the devices of these nodes
+-- the devices of these nodes, by tables each of a device of its own
 pub record AreDevices (network : Network) (f : Forwarding) (nodes : List ℕ) (d : Devices) : Type 0 where
+  pub tables : AreTables f.tables
   pub names : List ℕ
   pub devices : AreDevicesAt f nodes names d.devices.items
   pub placed : ArePlaced network nodes names d.of_nodes.items

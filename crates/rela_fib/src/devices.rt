@@ -110,7 +110,8 @@ fn devices_at(
 ) -> Result<Vec<Device>, AllocError>
     requires few { length nodes.now < 2 ^ 32 }
     requires ascending { IsStrictlyIncreasing nodes.now }
-    ensures { IfOk result (λ devices. AreDevicesAt tables.now nodes.now names.now devices.items) }
+    ensures devices { IfOk result (λ devices. AreDevicesAt tables.now nodes.now names.now devices.items) }
+    ensures tables { AreTables tables.now.tables }
 {
     let listed = devices_of(alloc, tables.tables())?;
     let mut devices = Vec::with_capacity(alloc, names.len())?;

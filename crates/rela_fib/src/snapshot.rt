@@ -1,6 +1,6 @@
 //! Snapshots made from forwarding tables.
 
-ghost use Rattle.std.specs.Prelude.{◌≡◌, Err, IfOk};
+ghost use Rattle.std.specs.Prelude.{◌≡◌, Err, IfOk, OnOk};
 ghost use Rattle.rela_tables.specs.Located.{IsForwardingIn};
 ghost use Rattle.rela_fib.specs.Snapshot.{IsSnapshotOf, IsTooLong, IsTooMany};
 
@@ -45,6 +45,9 @@ pub fn snapshot_text(
     ensures text { IfOk result (λ text. IsSnapshotOf locations.now tables.now other.now text.items) }
     ensures too_many { result ≡ Err FibError.TooMany → IsTooMany locations.now tables.now other.now }
     ensures too_long { result ≡ Err FibError.TooLong → IsTooLong locations.now tables.now other.now }
+    ensures few { OnOk result (¬ IsTooMany locations.now tables.now other.now) }
+    ensures few_where_long { result ≡ Err FibError.TooLong → ¬ IsTooMany locations.now tables.now other.now }
+    ensures short { OnOk result (¬ IsTooLong locations.now tables.now other.now) }
 {
     let nodes = nodes_of(alloc, tables)?;
     if nodes.len() > MAX_NODES {
