@@ -26,7 +26,7 @@ use Rattle.rela_fib.specs.Text.{Drawn, Flow, edge_data, flow_data, list_data, na
 use Rattle.rela_fib.specs.Writing.{AddsFlow, AddsFlows, AreFlowsOf, HasManyStepsIn, IsAdded, IsSteppedFlow, IsUpTo, IsWhole, IsWholeTooLong, commas, end_text, flow_text, head_text, plain_text, tail_text, whole_text}
 use Rattle.rela_fib.specs.declared.devices.Devices.{Devices}
 use Rattle.rela_fib.specs.declared.step.Step.{Step}
-use Rattle.rela_fib.proofs.Pieces.{commas_more, list_is}
+use Rattle.rela_fib.proofs.Arrays.{commas_more, list_is}
 use Rattle.rela_fib.proofs.Plain.{prefix_escape}
 use Rattle.rela_fib.proofs.Steps.{graph_known, graph_uniform}
 use Rattle.rela_fib.proofs.Unique.{not_long, not_many}

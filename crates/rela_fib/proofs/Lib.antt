@@ -1,9 +1,9 @@
 pub mod Uniform
 pub mod Indexing
-pub mod Places
+pub mod Found
 pub mod Steps
 pub mod Located
-pub mod Pieces
+pub mod Arrays
 pub mod Plain
 pub mod Flows
 pub mod Unique

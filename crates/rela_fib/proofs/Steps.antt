@@ -21,7 +21,7 @@ use Rattle.rela_fib.specs.declared.device.Device.{Device}
 use Rattle.rela_fib.specs.declared.devices.Devices.{Devices}
 use Rattle.rela_fib.specs.declared.step.Step.{Step}
 use Rattle.rela_fib.proofs.Indexing.{none_chosen, one_chosen}
-use Rattle.rela_fib.proofs.Places.{no_member}
+use Rattle.rela_fib.proofs.Found.{no_member}
 
 -- ---- two lists side by side
 

@@ -25,7 +25,7 @@ use Rattle.rela_fib.specs.Graph.{AreNodes, ArePlacesOf, Graph, IsGraphAt, chosen
 use Rattle.rela_fib.specs.Prefixes.{prefixes_in_both}
 use Rattle.rela_fib.specs.Snapshot.{HasManyClasses, HasManyEdges, HasManyNodes, IsDrawn, IsFew, IsGraphOf, IsTooLong, IsTooMany, classes_of}
 use Rattle.rela_fib.specs.Text.{Drawn, Flow, snapshot_bytes}
-use Rattle.rela_fib.proofs.Places.{no_member}
+use Rattle.rela_fib.proofs.Found.{no_member}
 
 -- ---- ascending numbers
 

@@ -13,8 +13,6 @@ mod pieces;
 mod places;
 mod snapshot;
 mod step;
-#[cfg(test)]
-mod tests;
 mod writing;
 
 pub use classes::address_classes;

@@ -1,7 +1,7 @@
 use Rattle.std.proofs.Common.{ℕ, take}
 use Rattle.serde_json.specs.Written.{compact_text}
 use Rattle.rela_fib.specs.Text.{edge_data}
-use Rattle.rela_fib.proofs.Pieces.{Opened}
+use Rattle.rela_fib.proofs.Arrays.{Opened}
 use Rattle.rela_fib.proofs.pieces.push_edges.Given as goal
 
 abbrev pub invariant-loop-place : goal.invariant-loop-place

@@ -2,7 +2,7 @@ use Rattle.std.proofs.Common.{get_or, subst}
 use Rattle.std.proofs.lemmas.List.{take_more, take_all}
 use Rattle.std.proofs.lemmas.List.Sorted.{searched}
 use Rattle.rela_fib.specs.Graph.{ArePlacesOf}
-use Rattle.rela_fib.proofs.Places.{found_hit, found_miss, non_decreasing, places_are}
+use Rattle.rela_fib.proofs.Found.{found_hit, found_miss, non_decreasing, places_are}
 use Rattle.rela_fib.proofs.places.places_of.Goals as goal
 use Rattle.rela_fib.proofs.places.places_of.Goals.{in-Ok+in_ok-push, in_default}
 
