@@ -1,5 +1,5 @@
 -- Arrays that are written one entry after the other.
-use Rattle.std.proofs.Common.{◌≡◌, ◌∙◌, refl, sym, ap, ap₂, subst, ℕ, zero, suc, ◌+◌, ◌<◌, ◌≤◌, Bool, true, false, ltb, List, [], ◌∷◌, ◌++◌, length, map, get_or, take, append_assoc, arith}
+use Rattle.std.proofs.Common.{◌≡◌, ◌∙◌, refl, sym, ap, ap₂, subst, ℕ, zero, suc, ◌+◌, ◌<◌, ◌≤◌, Bool, true, false, ltb, lt-ltb, List, [], ◌∷◌, ◌++◌, length, map, get_or, take, append_assoc, arith}
 use Rattle.std.proofs.lemmas.List.{append-nil, take_more, map-append}
 use Rattle.serde_json.specs.Data.{Data}
 use Rattle.serde_json.specs.View.{items_of}
@@ -24,7 +24,7 @@ later_take : {A : Type 0} (f : A → List ℕ) (xs : List A) (i : ℕ) → i < l
 unfolding is_later
 later_take f [] i lt = absurd (omega (arith, lt))
 later_take f (x ∷ xs) zero lt = refl
-later_take f (x ∷ xs) (suc i) lt = refl
+later_take f (x ∷ xs) (suc i) lt = sym (lt-ltb 0 (suc i) (omega arith))
 
 -- one entry more
 pub commas_more : {A : Type 0} (f : A → List ℕ) (xs : List A) (i : ℕ) (d : A) → i < length xs → commas false (map f (take (i + 1) xs)) ≡ commas false (map f (take i xs)) ++ (comma_if (ltb 0 i) ++ f (get_or xs i d))
@@ -37,6 +37,10 @@ commas_more f xs i d lt =
 -- an array that isn't closed yet, behind the text from before
 abbrev pub Opened : {A : Type 0} → (A → List ℕ) → List A → List ℕ → List ℕ → Type 0
 Opened f xs before text = text ≡ before ++ 91 ∷ commas false (map f xs)
+
+pub opened_none : {A : Type 0} (f : A → List ℕ) (xs : List A) (before text : List ℕ) → text ≡ before ++ 91 ∷ [] → Opened f (take 0 xs) before text
+opened_none f [] before text is = is
+opened_none f (x ∷ xs) before text is = is
 
 pub opened_more : {A : Type 0} (f : A → List ℕ) (xs : List A) (i : ℕ) (d : A) (before text text1 text2 : List ℕ) → i < length xs → Opened f (take i xs) before text → text1 ≡ text ++ comma_if (ltb 0 i) → text2 ≡ text1 ++ f (get_or xs i d) → Opened f (take (i + 1) xs) before text2
 opened_more f xs i d before text text1 text2 lt is comma entry =
@@ -57,7 +61,7 @@ pub list_is : {A : Type 0} (data_of : A → Data) (xs : List A) → compact_text
 list_is data_of xs = ap (λ (s : List ℕ). 91 ∷ s) (items_are data_of false xs)
 
 pub closed : {A : Type 0} (data_of : A → Data) (xs taken : List A) (before text new : List ℕ) → taken ≡ xs → Opened (λ x. compact_text (data_of x)) taken before text → new ≡ text ++ 93 ∷ [] → new ≡ before ++ compact_text (list_data data_of xs)
-closed data_of xs taken before text new all is close =
+closed {A = A} data_of xs taken before text new all is close =
     let f : A → List ℕ = λ x. compact_text (data_of x) in
     close ∙ ap (λ (s : List ℕ). s ++ 93 ∷ []) (is ∙ ap (λ ys. before ++ 91 ∷ commas false (map f ys)) all)
     ∙ append_assoc before (91 ∷ commas false (map f xs)) (93 ∷ [])

@@ -23,7 +23,7 @@ use Rattle.rela_fib.specs.Prefixes.{prefixes_in_both}
 use Rattle.rela_fib.specs.Snapshot.{HasManyEdges, IsDrawn, IsFew, IsGraphOf, IsSnapshotOf, IsTooLong, IsTooMany, classes_of}
 use Rattle.rela_fib.specs.Steps.{AreDevices, AreStepsAt, graph_of}
 use Rattle.rela_fib.specs.Text.{Drawn, Flow, edge_data, flow_data, list_data, names_of, numbers_data, snapshot_bytes, snapshot_data}
-use Rattle.rela_fib.specs.Writing.{AddsFlow, AddsFlows, AreFlowsOf, HasManyStepsIn, IsAdded, IsSteppedFlow, IsUpTo, IsWhole, IsWholeTooLong, commas, end_text, flow_text, head_text, plain_text, tail_text, whole_text}
+use Rattle.rela_fib.specs.Writing.{AddsFlow, AddsFlows, AreFlowsOf, HasManySteps, HasManyStepsIn, IsAdded, IsSteppedFlow, IsUpTo, IsWhole, IsWholeTooLong, commas, end_text, flow_text, head_text, plain_text, tail_text, whole_text}
 use Rattle.rela_fib.specs.declared.devices.Devices.{Devices}
 use Rattle.rela_fib.specs.declared.step.Step.{Step}
 use Rattle.rela_fib.proofs.Arrays.{commas_more, list_is}
@@ -44,12 +44,16 @@ flow_pieces : (names : List (List ℕ)) (starts : List ℕ) (flow : Flow) → fl
 unfolding escape_byte
 flow_pieces names starts flow =
     let p : List ℕ = plain_text (text_of (V4 flow.class)) in
-    ap (λ (s : List ℕ). 123 ∷ 34 ∷ (codes "delivered" ++ 34 ∷ 58 ∷ s))
-    (regroup (compact_text (numbers_data flow.graph.delivered)) (compact_text (numbers_data flow.graph.dropped)) p (compact_text (list_data edge_data flow.graph.edges)) p (compact_text (list_data string names)) (compact_text (numbers_data starts) ++ 125 ∷ [])
-    (44 ∷ 34 ∷ (codes "dropped" ++ 34 ∷ 58 ∷ [])) (44 ∷ 34 ∷ (codes "dst" ++ 34 ∷ 58 ∷ [])) (44 ∷ 34 ∷ (codes "edges" ++ 34 ∷ 58 ∷ [])) (44 ∷ 34 ∷ (codes "name" ++ 34 ∷ 58 ∷ [])) (44 ∷ 34 ∷ (codes "nodes" ++ 34 ∷ 58 ∷ [])) (44 ∷ 34 ∷ (codes "starts" ++ 34 ∷ 58 ∷ [])))
-    ∙ ap (λ (q : List ℕ). 123 ∷ 34 ∷ (codes "delivered" ++ 34 ∷ 58 ∷ (compact_text (numbers_data flow.graph.delivered) ++ 44 ∷ 34 ∷ (codes "dropped" ++ 34 ∷ 58 ∷ (compact_text (numbers_data flow.graph.dropped)
-        ++ 44 ∷ 34 ∷ (codes "dst" ++ 34 ∷ 58 ∷ (q ++ 44 ∷ 34 ∷ (codes "edges" ++ 34 ∷ 58 ∷ (compact_text (list_data edge_data flow.graph.edges) ++ 44 ∷ 34 ∷ (codes "name" ++ 34 ∷ 58 ∷ (q
-        ++ 44 ∷ 34 ∷ (codes "nodes" ++ 34 ∷ 58 ∷ (compact_text (list_data string names) ++ 44 ∷ 34 ∷ (codes "starts" ++ 34 ∷ 58 ∷ (compact_text (numbers_data starts) ++ 125 ∷ [])))))))))))))) (quoted_prefix flow.class)
+    let delivered : List ℕ = compact_text (numbers_data flow.graph.delivered) in
+    let dropped : List ℕ = compact_text (numbers_data flow.graph.dropped) in
+    let edges : List ℕ = compact_text (list_data edge_data flow.graph.edges) in
+    let nodes : List ℕ = compact_text (list_data string names) in
+    let tail : List ℕ = compact_text (numbers_data starts) ++ 125 ∷ [] in
+    let key : List ℕ → List ℕ → List ℕ = λ name s. 44 ∷ 34 ∷ (name ++ 34 ∷ 58 ∷ s) in
+    let first : List ℕ → List ℕ = λ s. 123 ∷ 34 ∷ (codes "delivered" ++ 34 ∷ 58 ∷ s) in
+    ap first (regroup delivered dropped p edges p nodes tail (key (codes "dropped") []) (key (codes "dst") []) (key (codes "edges") []) (key (codes "name") []) (key (codes "nodes") []) (key (codes "starts") []))
+    ∙ ap (λ (q : List ℕ). first (delivered ++ key (codes "dropped") (dropped ++ key (codes "dst") (q ++ key (codes "edges") (edges ++ key (codes "name") (q ++ key (codes "nodes") (nodes ++ key (codes "starts") tail)))))))
+    (quoted_prefix flow.class)
 
 flows_pieces : (names : List (List ℕ)) (starts : List ℕ) (flows : List Flow) → map (flow_text (end_text names starts)) flows ≡ map (λ flow. compact_text (flow_data names starts flow)) flows
 flows_pieces names starts [] = refl
@@ -115,6 +119,9 @@ flow_more d end classes i class before text new lt is adds one =
         ∙ commas_more (flow_text end) (flows ++ flow ∷ []) i flow below
         ∙ ap (λ (fs : List Flow). commas false (map (flow_text end) fs) ++ (comma_if (ltb 0 i) ++ flow_text end (get_or (flows ++ flow ∷ []) i flow))) old
         ∙ ap (λ (x : Flow). commas false (map (flow_text end) flows) ++ (comma_if (ltb 0 i) ++ flow_text end x)) last
+
+pub many_in : (d : Devices) (classes : List Ipv4Prefix) (i : ℕ) (class : Ipv4Prefix) → i < length classes → class ≡ get_or classes i class → HasManySteps d class → HasManyStepsIn d classes
+many_in d classes i class lt is many = record { class = class; listed = (i, lt, sym is); many = many }
 
 -- ---- the whole text
 
@@ -219,3 +226,16 @@ not_long_by network f other nodes starts classes d end text plan is =
     let draws = drawn_by network f other nodes starts classes d end is.flows plan is.flows_are in
     not_long network f other (record { nodes = nodes; starts = starts; flows = is.flows }) plan.devices_are.tables draws.0
     (subst (λ (t : List ℕ). length t ≤ 33554432) (is.text_is ∙ bytes_are network nodes starts end is.flows plan.end_is) is.short)
+
+pub planned : (network : Network) (f other : Forwarding) (nodes nodes1 nodes2 nodes3 starts starts' given : List ℕ) (classes classes' : List Ipv4Prefix) (d : Devices) (end end' : List ℕ) → nodes1 ≡ nodes → nodes2 ≡ nodes → nodes3 ≡ nodes → given ≡ f.starts → starts' ≡ starts → classes' ≡ classes → end' ≡ end
+    → AreNodes f nodes → length nodes ≤ 10000 → ArePlacesOf nodes1 given starts → AreClasses (prefixes_in_both f other) classes → All (IsUniform f) classes → length classes ≤ 10000 → AreDevices network f nodes2 d → end ≡ end_text (names_of network nodes3) starts' → IsPlanned network f other nodes starts classes' d end'
+planned network f other nodes nodes1 nodes2 nodes3 starts starts' given classes classes' d end end' n1 n2 n3 same_starts s c e are few places are_classes uniform few_classes devices ends = record {
+  nodes_are = are;
+  few_nodes = few;
+  starts_are = subst (λ (ns : List ℕ). ArePlacesOf ns f.starts starts) n1 (subst (λ (xs : List ℕ). ArePlacesOf nodes1 xs starts) same_starts places);
+  classes_are = subst (AreClasses (prefixes_in_both f other)) (sym c) are_classes;
+  uniform = subst (All (IsUniform f)) (sym c) uniform;
+  few_classes = omega (arith, few_classes, ap length c);
+  devices_are = subst (λ (ns : List ℕ). AreDevices network f ns d) n2 devices;
+  end_is = e ∙ ends ∙ ap (λ (ns : List ℕ). end_text (names_of network ns) starts') n3 ∙ ap (λ (xs : List ℕ). end_text (names_of network nodes) xs) s;
+}

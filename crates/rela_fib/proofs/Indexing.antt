@@ -98,6 +98,26 @@ new_device tables i t distinct lt is =
     sym (map-append (λ (t : Table). t.device) (take i tables) (t ∷ drop (i + 1) tables)) ∙ ap devices_of whole in
     distinct_apart (devices_of (take i tables)) (devices_of (drop (i + 1) tables)) t.device (subst (IsDistinct nat_eq) (sym parts) distinct)
 
+within_by : (n len place : ℕ) (b : Bool) → ltb n len ≡ b → cond b (Some n) None ≡ Some place → place < len
+within_by n len place true t e = let same : n ≡ place = cc in omega (arith, same, ltb-true n len t)
+within_by n len place false t e = absurd (cc)
+
+place_below : (keys : List ℕ) (device place : ℕ) (o : Option ℕ) → o ≡ position (nat_eq device) keys → o ≡ Some place → place < length keys
+place_below keys device place o is some =
+    let n : ℕ = position_or_len (nat_eq device) keys in within_by n (length keys) place (ltb n (length keys)) refl (sym is ∙ some)
+
+-- ---- the routes of a device
+
+pub routes_some : (f : Forwarding) (device place : ℕ) (keys : List ℕ) (tables : List Table) (o : Option ℕ) (table : Table) (routes : List Route) → keys ≡ devices_of f.tables → o ≡ position (nat_eq device) keys → o ≡ Some place
+    → tables ≡ f.tables → table ≡ get_or tables place table → routes ≡ table.routes → routes ≡ routes_of f device
+routes_some f device place keys tables o table routes known is some same read routes_are =
+    let below : place < length f.tables = omega (arith, place_below keys device place o is some, ap length known, length-map f.tables (λ (t : Table). t.device)) in
+    let at : slice_get f.tables place ≡ Some table = slice_get_read f.tables (length f.tables) place table refl below (subst (λ (ts : List Table). table ≡ get_or ts place table) same read) in
+    routes_are ∙ sym (routes_at f device place table o (is ∙ ap (position (nat_eq device)) known) some at)
+
+pub routes_none : (f : Forwarding) (device : ℕ) (keys : List ℕ) (o : Option ℕ) → keys ≡ devices_of f.tables → o ≡ position (nat_eq device) keys → o ≡ None → routes_of f device ≡ []
+routes_none f device keys o known is none = routes_nowhere f device o (is ∙ ap (position (nat_eq device)) known) none
+
 pub device_pushed : (tables : List Table) (i : ℕ) (t : Table) (keys keys' : List ℕ) → IsDistinct nat_eq (devices_of tables) → i < length tables → t ≡ get_or tables i t → keys ≡ devices_of (take i tables)
     → keys' ≡ cond (list_any (nat_eq t.device) keys) keys (keys ++ t.device ∷ []) → keys' ≡ devices_of (take (i + 1) tables)
 device_pushed tables i t keys keys' distinct lt is known pushed =

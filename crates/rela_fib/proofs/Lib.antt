@@ -7,3 +7,4 @@ pub mod Arrays
 pub mod Plain
 pub mod Flows
 pub mod Unique
+pub mod Chains

@@ -1,15 +1,15 @@
 -- From what devices do by their routes to the graph for an address.
-use Rattle.std.proofs.Common.{◌≡◌, ◌∙◌, refl, sym, ap, subst, ℕ, zero, suc, ◌+◌, ◌<◌, ◌≤◌, Bool, true, false, List, [], ◌∷◌, ◌++◌, length, map, get_or, take, drop, Option, Some, None, append_assoc, arith}
-use Rattle.std.specs.Prelude.{slice_get, is_none, unwrap_or, ◌==◌}
-use Rattle.std.specs.List.{All, AllZip}
-use Rattle.std.proofs.lemmas.Option.{slice_get_within, same_Some}
-use Rattle.std.proofs.lemmas.List.{append-nil, length-append, length-map, map-append, take-append-drop}
+use Rattle.std.proofs.Common.{◌≡◌, ◌∙◌, refl, sym, ap, subst, ℕ, zero, suc, ◌+◌, ◌<◌, ◌≤◌, Bool, true, false, cond, ltb, ne_eqb, lt-ltb, le-ltb, eqb-true, List, [], ◌∷◌, ◌++◌, length, map, get_or, take, drop, Option, Some, None, append_assoc, arith}
+use Rattle.std.specs.Prelude.{slice_get, is_none, unwrap_or, option_map, nat_eq, nat_lt, ◌==◌}
+use Rattle.std.specs.List.{All, AllZip, Contains, list_any}
+use Rattle.std.proofs.lemmas.Option.{slice_get_within, slice_get_read, slice_get-map, same_Some}
+use Rattle.std.proofs.lemmas.List.{append-nil, get_or_default, length-append, length-map, length-take, map-append, take-append-drop, take_all, take_more}
 use Rattle.std.proofs.lemmas.List.Elements.{All-nil, All-cons, All-weaker}
 use Rattle.rela_flows.specs.declared.prefix.Ipv4Prefix.{Ipv4Prefix}
 use Rattle.rela_names.specs.declared.level.Level.TheVariants as level
 use Rattle.rela_locations.specs.Network.{Network, location_of}
 use Rattle.rela_prefixes.specs.Holding.{Holds}
-use Rattle.rela_prefixes.specs.Longest.{Longest}
+use Rattle.rela_prefixes.specs.Longest.{Longest, LongestWanted}
 use Rattle.rela_tables.specs.Chosen.{Chosen, ChosenOf}
 use Rattle.rela_tables.specs.Forwarding.{Forwarding, routes_of}
 use Rattle.rela_tables.specs.declared.route.Route.{Route}
@@ -58,6 +58,27 @@ zip_compose R S T f (a ∷ xs) [] zs h k = absurd h
 zip_compose R S T f (a ∷ xs) (b ∷ ys) [] h k = absurd k
 zip_compose R S T f (a ∷ xs) (b ∷ ys) (c ∷ zs) h k = (f a b c h.0 k.0, zip_compose R S T f xs ys zs h.1 k.1)
 
+pub zip_weaker : {A B : Type 0} (R S : A → B → Type 0) → ((x : A) (y : B) → R x y → S x y) → (xs : List A) (ys : List B) → AllZip R xs ys → AllZip S xs ys
+zip_weaker R S f [] [] h = tt
+zip_weaker R S f [] (b ∷ ys) h = absurd h
+zip_weaker R S f (a ∷ xs) [] h = absurd h
+zip_weaker R S f (a ∷ xs) (b ∷ ys) h = (f a b h.0, zip_weaker R S f xs ys h.1)
+
+-- one more of each
+pub zip_more : {A B : Type 0} (R : A → B → Type 0) (xs : List A) (ys ys' : List B) (i : ℕ) (x : A) (y : B) → i < length xs → x ≡ get_or xs i x → ys' ≡ ys ++ y ∷ [] → AllZip R (take i xs) ys → R x y → AllZip R (take (i + 1) xs) ys'
+zip_more {B = B} R xs ys ys' i x y lt is pushed h one =
+    let more : take (i + 1) xs ≡ take i xs ++ x ∷ [] = take_more xs i x lt ∙ ap (λ z. take i xs ++ z ∷ []) (sym is) in
+    subst (λ zs. AllZip R zs ys') (sym more) (subst (AllZip R (take i xs ++ x ∷ [])) (sym pushed) (zip_push R (take i xs) ys x y h one))
+
+pub zip_more_seen : {A B C : Type 0} (R : A → B → Type 0) (view : C → B) (xs : List A) (ys ys' : List C) (i : ℕ) (x : A) (y : C) → i < length xs → x ≡ get_or xs i x → ys' ≡ ys ++ y ∷ [] → AllZip R (take i xs) (map view ys) → R x (view y) → AllZip R (take (i + 1) xs) (map view ys')
+zip_more_seen R view xs ys ys' i x y lt is pushed h one = zip_more R xs (map view ys) (map view ys') i x (view y) lt is (ap (map view) pushed ∙ map-append view ys (y ∷ [])) h one
+
+pub read_again : (xs : List ℕ) (i : ℕ) → i < length xs → get_or xs i 0 ≡ get_or xs i (get_or xs i 0)
+read_again xs i lt = get_or_default xs i 0 (get_or xs i 0) lt
+
+pub seen_more : {X B : Type 0} (view : X → B) (xs : List X) (i : ℕ) (x : X) → i < length xs → x ≡ get_or xs i x → map view (take (i + 1) xs) ≡ map view (take i xs) ++ view x ∷ []
+seen_more view xs i x lt is = ap (map view) (take_more xs i x lt ∙ ap (λ z. take i xs ++ z ∷ []) (sym is)) ∙ map-append view (take i xs) (x ∷ [])
+
 -- ---- a step
 
 no_places : (nodes : List ℕ) → ArePlacesOf nodes [] []
@@ -80,7 +101,7 @@ delivering nodes route step hops none delivered dropped = record {
 
 listed_empty : (hops : List ℕ) → (length hops == 0) ≡ is_listed_empty (Some hops)
 listed_empty [] = refl
-listed_empty (h ∷ hs) = refl
+listed_empty (h ∷ hs) = ne_eqb (length (h ∷ hs)) 0 (λ e. omega (arith, e))
 
 pub forwarding : (nodes : List ℕ) (route : Route) (step : Step) (hops : List ℕ) → route.hops ≡ Some hops → ArePlacesOf nodes hops step.next → step.is_delivered ≡ false → step.is_dropped ≡ (length hops == 0) → IsStep nodes (Some route) step
 forwarding nodes route step hops some next delivered dropped = record {
@@ -224,9 +245,13 @@ abbrev pub total : List (List ℕ) → ℕ
 total [] = 0
 total (xs ∷ xss) = length xs + total xss
 
+length-edges_to : (k : ℕ) (xs : List ℕ) → length (edges_to k xs) ≡ length xs
+length-edges_to k [] = refl
+length-edges_to k (x ∷ xs) = ap suc (length-edges_to k xs)
+
 edge_count : (k : ℕ) (xss : List (List ℕ)) → length (edges_from k xss) ≡ total xss
 edge_count k [] = refl
-edge_count k (xs ∷ xss) = omega (arith, length-append (edges_to k xs) (edges_from (k + 1) xss), length-map xs (λ place. (k, place)), edge_count (k + 1) xss)
+edge_count k (xs ∷ xss) = omega (arith, length-append (edges_to k xs) (edges_from (k + 1) xss), length-edges_to k xs, edge_count (k + 1) xss)
 
 total_append : (xss yss : List (List ℕ)) → total (xss ++ yss) ≡ total xss + total yss
 total_append [] yss = omega arith
@@ -243,3 +268,71 @@ total_more steps steps' s is = ap (λ (ss : List Step). total (nexts ss)) is ∙
 
 pub total_part : (steps part rest : List Step) → steps ≡ part ++ rest → total (nexts part) ≤ total (nexts steps)
 total_part steps part rest is = let e : total (nexts steps) ≡ total (nexts part) + total (nexts rest) = ap (λ (ss : List Step). total (nexts ss)) is ∙ ap total (map-append (λ (s : Step). s.next) part rest) ∙ total_append (nexts part) (nexts rest) in omega (arith, e)
+
+-- ---- the count goes on, or there are too many
+
+pub many_then : {X : Type 0} (view : X → Step) (xs : List X) (i spare count : ℕ) (x : X) → i < length xs → x ≡ get_or xs i x → spare + total (nexts (map view (take i xs))) ≡ 100000 → count ≡ length (view x).next → spare < count → true ≡ nat_lt 100000 (length (graph_of (map view xs)).edges)
+many_then view xs i spare count x lt is known next over =
+    let more = total_more (map view (take i xs)) (map view (take (i + 1) xs)) (view x) (seen_more view xs i x lt is) in
+    let parts : map view xs ≡ map view (take (i + 1) xs) ++ map view (drop (i + 1) xs) = ap (map view) (sym (take-append-drop (i + 1) xs)) ∙ map-append view (take (i + 1) xs) (drop (i + 1) xs) in
+    let part = total_part (map view xs) (map view (take (i + 1) xs)) (map view (drop (i + 1) xs)) parts in
+    sym (lt-ltb 100000 (length (graph_of (map view xs)).edges) (omega (arith, more, part, known, next, over, steps_edges (map view xs))))
+
+pub many_more : {X : Type 0} (view : X → Step) (xs : List X) (i spare spare' count : ℕ) (x : X) → i < length xs → x ≡ get_or xs i x → spare + total (nexts (map view (take i xs))) ≡ 100000 → count ≡ length (view x).next → spare' + count ≡ spare → spare' + total (nexts (map view (take (i + 1) xs))) ≡ 100000
+many_more view xs i spare spare' count x lt is known next left = omega (arith, known, next, left, total_more (map view (take i xs)) (map view (take (i + 1) xs)) (view x) (seen_more view xs i x lt is))
+
+pub not_many_steps : {X : Type 0} (view : X → Step) (xs : List X) (i spare : ℕ) → length xs ≤ i → spare + total (nexts (map view (take i xs))) ≡ 100000 → false ≡ nat_lt 100000 (length (graph_of (map view xs)).edges)
+not_many_steps view xs i spare le known =
+    let all : total (nexts (map view (take i xs))) ≡ total (nexts (map view xs)) = ap (λ ys. total (nexts (map view ys))) (take_all i xs le) in
+    sym (le-ltb 100000 (length (graph_of (map view xs)).edges) (omega (arith, known, all, steps_edges (map view xs))))
+
+-- ---- the step of a device for an address
+
+pub longest_below : (ps : List Ipv4Prefix) (a k : ℕ) (r : Option ℕ) → r ≡ Some k → Longest ps a r → k < length ps
+unfolding LongestWanted
+longest_below ps a k r is h = let found : LongestWanted (λ p. Holds p a) ps (Some k) = subst (LongestWanted (λ p. Holds p a) ps) is h in slice_get_within ps k found.prefix found.at
+
+pub step_some : (d : Device) (a k : ℕ) (r : Option ℕ) (s : Step) → r ≡ Some k → Longest d.prefixes a r → length d.prefixes ≡ length d.steps.items → s ≡ get_or d.steps.items k s → IsStepAt d a s
+unfolding IsStepBy
+step_some d a k r s is h same read =
+    let lt : k < length d.steps.items = omega (arith, same, longest_below d.prefixes a k r is h) in
+    record { place = Some k; longest = subst (Longest d.prefixes a) is h; step_is = slice_get_read d.steps.items (length d.steps.items) k s refl lt read }
+
+pub step_none : (d : Device) (a : ℕ) (r : Option ℕ) (s : Step) → r ≡ None → Longest d.prefixes a r → s ≡ d.otherwise → IsStepAt d a s
+unfolding IsStepBy
+step_none d a r s is h same = record { place = None; longest = subst (Longest d.prefixes a) is h; step_is = same }
+
+pub chosen_at : {X : Type 0} (view : X → Step) (d : Devices) (a place : ℕ) (chosen : List X) (y : X) → AreStepsOf a d.devices.items (map view chosen) → place < length chosen → y ≡ get_or chosen place y → IsStepOf d a place (view y)
+chosen_at view d a place chosen y h lt read =
+    let at : slice_get (map view chosen) place ≡ Some (view y) = slice_get-map view chosen place ∙ ap (option_map view) (slice_get_read chosen (length chosen) place y refl lt read) in
+    let back = zip_back (λ (device : Device) (step : Step). IsStepAt device a step) d.devices.items (map view chosen) place (view y) h at in
+    record { device = back.0; at = back.1; step_is = back.2 }
+
+-- ---- the places of devices
+
+slice_get_front : (xs ys : List ℕ) (k x : ℕ) → slice_get xs k ≡ Some x → slice_get (xs ++ ys) k ≡ Some x
+slice_get_front [] ys k x at = absurd (cc)
+slice_get_front (z ∷ xs) ys zero x at = at
+slice_get_front (z ∷ xs) ys (suc k) x at = slice_get_front xs ys k x at
+
+kept_by : (b : Bool) (keys : List ℕ) (device k x : ℕ) → slice_get keys k ≡ Some x → slice_get (cond b keys (keys ++ device ∷ [])) k ≡ Some x
+kept_by true keys device k x at = at
+kept_by false keys device k x at = slice_get_front keys (device ∷ []) k x at
+
+grown_by : (b : Bool) (keys : List ℕ) (device : ℕ) → length (cond b keys (keys ++ device ∷ [])) ≤ length keys + 1
+grown_by true keys device = omega arith
+grown_by false keys device = omega (arith, length-append keys (device ∷ []))
+
+abbrev pub Inserted : List ℕ → ℕ → List ℕ → Type 0
+Inserted keys device keys' = keys' ≡ cond (list_any (nat_eq device) keys) keys (keys ++ device ∷ [])
+
+pub keys_grow : (keys keys' : List ℕ) (device : ℕ) → Inserted keys device keys' → length keys' ≤ length keys + 1
+keys_grow keys keys' device is = omega (arith, ap length is, grown_by (list_any (nat_eq device) keys) keys device)
+
+pub placed_more : (network : Network) (nodes : List ℕ) (i device place : ℕ) (keys keys' places places' : List ℕ) → i < length nodes → device ≡ location_of level.Device network (get_or nodes i 0) → Inserted keys device keys' → (k : ℕ) × (slice_get keys' place ≡ Some k) × (nat_eq device k ≡ true) → places' ≡ places ++ place ∷ []
+    → ArePlaced network (take i nodes) keys places → ArePlaced network (take (i + 1) nodes) keys' places'
+placed_more network nodes i device place keys keys' places places' lt lifted inserted stored pushed h =
+    let At : List ℕ → ℕ → ℕ → Type 0 = λ names node place. slice_get names place ≡ Some (location_of level.Device network node) in
+    let old : AllZip (At keys') (take i nodes) places = zip_weaker (At keys) (At keys') (λ node place at. subst (λ (names : List ℕ). At names node place) (sym inserted) (kept_by (list_any (nat_eq device) keys) keys device place (location_of level.Device network node) at)) (take i nodes) places h in
+    let same : device ≡ stored.0 = eqb-true device stored.0 stored.2 in
+    zip_more (At keys') nodes places places' i (get_or nodes i 0) place lt (read_again nodes i lt) pushed old (stored.1 ∙ ap Some (sym same ∙ lifted))

@@ -45,7 +45,7 @@ first_below x xs s rising (k, lt, is) =
     omega (arith, below, get_or_default xs k 0 s lt, is)
 
 rest_rises : (x : ℕ) (xs : List ℕ) → IsStrictlyIncreasing (x ∷ xs) → IsStrictlyIncreasing xs
-rest_rises x xs rising k lt = rising (suc k) (omega (arith, lt))
+rest_rises x xs rising k lt = let e : suc k + 1 ≡ suc (k + 1) = omega arith in subst (λ n. get_or (x ∷ xs) (suc k) 0 < get_or (x ∷ xs) n 0) e (rising (suc k) (omega (arith, lt)))
 
 pub increasing_unique : (xs ys : List ℕ) → IsStrictlyIncreasing xs → IsStrictlyIncreasing ys → ((s : ℕ) → Contains xs s → Contains ys s) → ((s : ℕ) → Contains ys s → Contains xs s) → xs ≡ ys
 increasing_unique [] [] rx ry f g = refl
@@ -108,11 +108,12 @@ found_routes o = option_map_or (λ table. table.routes) o []
 routes_distinct : (device : ℕ) (tables : List Table) → All IsTable tables → IsDistinct is_same_key (keys_of (found_routes (find (λ (t : Table). device == t.device) tables)))
 unfolding IsDistinct
 routes_distinct device [] each = tt
-routes_distinct device (t ∷ ts) each = by (device == t.device)
+routes_distinct device (t ∷ ts) each = by (device == t.device) (All-head IsTable t ts each).distinct (routes_distinct device ts (All-tail IsTable t ts each))
   where
-    by : (b : Bool) → IsDistinct is_same_key (keys_of (found_routes (cond b (Some t) (find (λ (t : Table). device == t.device) ts))))
-    by true = (All-head IsTable t ts each).distinct
-    by false = routes_distinct device ts (All-tail IsTable t ts each)
+    by : (b : Bool) → IsDistinct is_same_key (keys_of t.routes) → IsDistinct is_same_key (keys_of (found_routes (find (λ (t : Table). device == t.device) ts)))
+        → IsDistinct is_same_key (keys_of (found_routes (cond b (Some t) (find (λ (t : Table). device == t.device) ts))))
+    by true own others = own
+    by false own others = others
 
 -- ---- the graph
 

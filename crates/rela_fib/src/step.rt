@@ -1,6 +1,6 @@
 //! What a device does with packets.
 
-ghost use Rattle.std.specs.Prelude.{◌<◌, ◌^◌, IfOk, None, Some, length};
+ghost use Rattle.std.specs.Prelude.{ℕ, List, ◌<◌, ◌^◌, IfOk, None, Some, length};
 ghost use Rattle.std.specs.List.Sorted.{IsStrictlyIncreasing};
 ghost use Rattle.rela_fib.specs.Steps.{IsStep};
 

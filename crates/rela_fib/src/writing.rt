@@ -106,7 +106,8 @@ fn push_flow(
 {
     push_ends(text, graph)?;
     push_middle(alloc, text, class, graph)?;
-    text.extend_from_slice(end)
+    text.extend_from_slice(end)?;
+    Ok(())
 }
 
 /// Adds the ends of the paths.
@@ -117,7 +118,8 @@ fn push_ends(text: &mut Vec<u8>, graph: &ForwardingGraph) -> Result<(), AllocErr
     push_key(text, false, b"delivered")?;
     push_numbers(text, graph.delivered.as_slice())?;
     push_key(text, true, b"dropped")?;
-    push_numbers(text, graph.dropped.as_slice())
+    push_numbers(text, graph.dropped.as_slice())?;
+    Ok(())
 }
 
 /// Adds the class and the edges.
@@ -135,7 +137,8 @@ fn push_middle(
     push_key(text, true, b"edges")?;
     push_edges(text, graph.edges.as_slice())?;
     push_key(text, true, b"name")?;
-    push_plain(text, name.as_slice())
+    push_plain(text, name.as_slice())?;
+    Ok(())
 }
 
 /// What ends each flow: the nodes and the starts.

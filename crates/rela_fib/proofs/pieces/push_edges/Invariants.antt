@@ -5,4 +5,4 @@ use Rattle.rela_fib.proofs.Arrays.{Opened}
 use Rattle.rela_fib.proofs.pieces.push_edges.Given as goal
 
 abbrev pub invariant-loop-place : goal.invariant-loop-place
-invariant-loop-place l = Opened (λ (e : ℕ × ℕ). compact_text (edge_data e)) (take l.place l.edges) l.initial.text.items l.text.items
+invariant-loop-place l = Opened (λ (e : ℕ × ℕ). compact_text (edge_data e)) (take l.place l.edges) l.fn.text.items l.text.items

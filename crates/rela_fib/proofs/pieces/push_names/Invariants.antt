@@ -6,4 +6,4 @@ use Rattle.rela_fib.proofs.Arrays.{Opened}
 use Rattle.rela_fib.proofs.pieces.push_names.Given as goal
 
 abbrev pub invariant-loop-place : goal.invariant-loop-place
-invariant-loop-place l = Opened (λ (name : List ℕ). compact_text (string name)) (take l.place (names_of l.locations l.nodes)) l.initial.text.items l.text.items
+invariant-loop-place l = Opened (λ (name : List ℕ). compact_text (string name)) (take l.place (names_of l.locations l.nodes)) l.fn.text.items l.text.items

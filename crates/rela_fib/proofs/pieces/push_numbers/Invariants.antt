@@ -5,4 +5,4 @@ use Rattle.rela_fib.proofs.Arrays.{Opened}
 use Rattle.rela_fib.proofs.pieces.push_numbers.Given as goal
 
 abbrev pub invariant-loop-place : goal.invariant-loop-place
-invariant-loop-place l = Opened (λ (n : ℕ). compact_text (number_data n)) (take l.place l.numbers) l.initial.text.items l.text.items
+invariant-loop-place l = Opened (λ (n : ℕ). compact_text (number_data n)) (take l.place l.numbers) l.fn.text.items l.text.items
