@@ -1,5 +1,5 @@
 -- Pieces that are put behind one another, and the flow of a class.
-use Rattle.std.proofs.Common.{◌≡◌, ◌∙◌, refl, sym, ap, subst, ℕ, ◌+◌, ◌<◌, ◌≤◌, Bool, true, false, ltb, ltb-true, ltb-false, List, [], ◌∷◌, ◌++◌, length, append_assoc, arith}
+use Rattle.std.proofs.Common.{◌≡◌, ◌∙◌, refl, sym, ap, subst, ℕ, ◌<◌, ◌≤◌, Bool, true, false, ltb-true, ltb-false, List, [], ◌∷◌, ◌++◌, length, append_assoc, arith}
 use Rattle.std.specs.Prelude.{codes, nat_lt, get_or, Result, Ok, Err, IfOk, OnOk}
 use Rattle.std.proofs.lemmas.List.{get_or-map}
 use Rattle.json.specs.Print.{escape}

@@ -1,12 +1,12 @@
 -- From the pieces that are written to the snapshot.
-use Rattle.std.proofs.Common.{◌≡◌, ◌∙◌, refl, sym, ap, subst, ℕ, zero, suc, ◌+◌, ◌<◌, ◌≤◌, ◌⊎◌, inl, inr, ⊎_elim, Bool, true, false, ltb, List, [], ◌∷◌, ◌++◌, length, map, get_or, take, append_assoc, arith, decimal}
+use Rattle.std.proofs.Common.{◌≡◌, ◌∙◌, refl, sym, ap, subst, ℕ, ◌+◌, ◌<◌, ◌≤◌, inl, inr, ⊎_elim, false, ltb, List, [], ◌∷◌, ◌++◌, length, map, get_or, take, append_assoc, arith, decimal}
 use Rattle.std.specs.Prelude.{codes}
-use Rattle.std.specs.List.{All, Contains}
+use Rattle.std.specs.List.{All}
 use Rattle.std.proofs.lemmas.Bool.{cases_lt}
 use Rattle.std.proofs.lemmas.Fmt.{decimal_digit}
 use Rattle.std.proofs.lemmas.List.{append-nil, take_more, take_all, map-append, length-append, length-map, length-take, take-append-le, get_or_push, get_or-map}
-use Rattle.std.proofs.lemmas.List.Elements.{All-nil, All-push, All-weaker, All-contains, All-get_or}
-use Rattle.json.specs.Print.{escape, escape_byte, quoted}
+use Rattle.std.proofs.lemmas.List.Elements.{All-nil, All-push, All-weaker, All-contains}
+use Rattle.json.specs.Print.{escape_byte, quoted}
 use Rattle.serde_json.specs.Data.{string}
 use Rattle.serde_json.specs.Written.{comma_if, compact_text}
 use Rattle.rela_flows.specs.Notation.{text_of}
@@ -14,18 +14,16 @@ use Rattle.rela_flows.specs.declared.prefix.Ipv4Prefix.{Ipv4Prefix}
 use Rattle.rela_flows.specs.declared.prefix.Prefix.TheVariants.{V4}
 use Rattle.rela_locations.specs.Network.{Network}
 use Rattle.rela_prefixes.specs.Classes.{AreClasses}
-use Rattle.rela_prefixes.specs.Holding.{Holds}
 use Rattle.rela_prefixes.proofs.Cells.{holds_own}
 use Rattle.rela_tables.specs.Forwarding.{Forwarding}
 use Rattle.rela_fib.specs.Choices.{IsUniform}
-use Rattle.rela_fib.specs.Graph.{AreNodes, ArePlacesOf, Graph, IsGraphAt}
+use Rattle.rela_fib.specs.Graph.{AreNodes, ArePlacesOf, IsGraphAt}
 use Rattle.rela_fib.specs.Prefixes.{prefixes_in_both}
 use Rattle.rela_fib.specs.Snapshot.{HasManyEdges, IsDrawn, IsFew, IsGraphOf, IsSnapshotOf, IsTooLong, IsTooMany, classes_of}
-use Rattle.rela_fib.specs.Steps.{AreDevices, AreStepsAt, graph_of}
-use Rattle.rela_fib.specs.Text.{Drawn, Flow, edge_data, flow_data, list_data, names_of, numbers_data, snapshot_bytes, snapshot_data}
+use Rattle.rela_fib.specs.Steps.{AreDevices, graph_of}
+use Rattle.rela_fib.specs.Text.{Flow, edge_data, flow_data, list_data, names_of, numbers_data, snapshot_bytes, snapshot_data}
 use Rattle.rela_fib.specs.Writing.{AddsFlow, AddsFlows, AreFlowsOf, HasManySteps, HasManyStepsIn, IsAdded, IsSteppedFlow, IsUpTo, IsWhole, IsWholeTooLong, commas, end_text, flow_text, head_text, plain_text, tail_text, whole_text}
 use Rattle.rela_fib.specs.declared.devices.Devices.{Devices}
-use Rattle.rela_fib.specs.declared.step.Step.{Step}
 use Rattle.rela_fib.proofs.Arrays.{commas_more, list_is}
 use Rattle.rela_fib.proofs.Plain.{prefix_escape}
 use Rattle.rela_fib.proofs.Steps.{graph_known, graph_uniform}

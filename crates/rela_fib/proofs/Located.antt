@@ -1,12 +1,11 @@
 -- The nodes of tables that speak of a network's interfaces are such interfaces.
-use Rattle.std.proofs.Common.{◌≡◌, ◌∙◌, refl, sym, ap, subst, ℕ, ◌<◌, List, [], ◌∷◌, ◌++◌, length, get_or, Option, Some, None, arith}
+use Rattle.std.proofs.Common.{ℕ, ◌<◌, List, [], ◌∷◌, length, get_or, Option, Some, None}
 use Rattle.std.specs.Prelude.{IfSome, unwrap_or}
-use Rattle.std.specs.List.{All, Contains, flat_map}
+use Rattle.std.specs.List.{All, flat_map}
 use Rattle.std.proofs.lemmas.List.Elements.{All-nil, All-append, All-head, All-tail, All-contains, Contains-get_or}
 use Rattle.rela_locations.specs.Network.{Network}
 use Rattle.rela_tables.specs.Forwarding.{Forwarding}
 use Rattle.rela_tables.specs.Located.{AreInterfaces, IsForwardingIn, IsRouteIn, IsTableIn}
-use Rattle.rela_tables.specs.declared.route.Route.{Route}
 use Rattle.rela_tables.specs.declared.table.Table.{Table}
 use Rattle.rela_names.specs.declared.level.Level.TheVariants.{Interface}
 use Rattle.rela_locations.specs.Network.{alphabet_of}

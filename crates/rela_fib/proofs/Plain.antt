@@ -1,17 +1,17 @@
 -- Strings that need no escapes: names, and the texts of prefixes.
-use Rattle.std.proofs.Common.{◌≡◌, ◌∙◌, refl, sym, ap, ap₂, subst, ℕ, zero, suc, ◌+◌, ◌*◌, ◌/◌, ◌%◌, ◌^◌, ◌<◌, ◌≤◌, ◌⊎◌, inl, inr, leb, Bool, true, false, ◌&&◌, ◌||◌, ◌==◌, List, [], ◌∷◌, ◌++◌, length, get_or, Option, Some, None, ⊎_elim, arith, append_assoc, decimal}
-use Rattle.std.specs.Prelude.{slice_get, IsTrue, nat_le}
-use Rattle.std.specs.List.{All, list_all, join_with_byte}
+use Rattle.std.proofs.Common.{◌≡◌, refl, sym, ap₂, subst, ℕ, ◌/◌, ◌%◌, ◌^◌, ◌<◌, ◌≤◌, ◌⊎◌, inl, inr, leb, Bool, true, ◌&&◌, ◌||◌, ◌==◌, List, [], ◌∷◌, ◌++◌, length, ⊎_elim, arith, decimal}
+use Rattle.std.specs.Prelude.{nat_le}
+use Rattle.std.specs.List.{All, list_all}
 use Rattle.std.specs.Char.{is_ascii_alphanumeric}
 use Rattle.std.specs.Int.{is_in_range}
 use Rattle.std.proofs.lemmas.Bool.{and_parts, eqb-true, leb-true, or_cases}
-use Rattle.std.proofs.lemmas.Fmt.{decimal_is_IsNumeral, decimal_digit}
+use Rattle.std.proofs.lemmas.Fmt.{decimal_is_IsNumeral}
 use Rattle.std.proofs.lemmas.Str.Parse.{digit_at}
 use Rattle.std.proofs.lemmas.List.{get_or_default}
 use Rattle.std.proofs.lemmas.List.Elements.{All-nil, All-cons, All-append, All-head, All-tail, All-weaker}
-use Rattle.json.specs.Print.{escape, escape_byte, quoted}
+use Rattle.json.specs.Print.{escape}
 use Rattle.json.proofs.Printed.Strings.{escape_byte_plain}
-use Rattle.rela_names.specs.Name.{IsName, is_name, is_name_byte}
+use Rattle.rela_names.specs.Name.{IsName, is_name_byte}
 use Rattle.rela_flows.specs.Notation.{text_of}
 use Rattle.rela_flows.specs.declared.prefix.Ipv4Prefix.{Ipv4Prefix}
 use Rattle.rela_flows.specs.declared.prefix.Prefix.TheVariants.{V4}

@@ -1,10 +1,10 @@
 -- From what devices do by their routes to the graph for an address.
-use Rattle.std.proofs.Common.{◌≡◌, ◌∙◌, refl, sym, ap, subst, ℕ, zero, suc, ◌+◌, ◌<◌, ◌≤◌, Bool, true, false, cond, ltb, ne_eqb, lt-ltb, le-ltb, eqb-true, List, [], ◌∷◌, ◌++◌, length, map, get_or, take, drop, Option, Some, None, append_assoc, arith}
+use Rattle.std.proofs.Common.{◌≡◌, ◌∙◌, refl, sym, ap, subst, ℕ, zero, suc, ◌+◌, ◌<◌, ◌≤◌, Bool, true, false, cond, ne_eqb, lt-ltb, le-ltb, eqb-true, List, [], ◌∷◌, ◌++◌, length, map, get_or, take, drop, Option, Some, None, append_assoc, arith}
 use Rattle.std.specs.Prelude.{slice_get, is_none, unwrap_or, option_map, nat_eq, nat_lt, ◌==◌}
 use Rattle.std.specs.List.{All, AllZip, Contains, list_any}
 use Rattle.std.proofs.lemmas.Option.{slice_get_within, slice_get_read, slice_get-map, same_Some}
-use Rattle.std.proofs.lemmas.List.{append-nil, get_or_default, length-append, length-map, length-take, map-append, take-append-drop, take_all, take_more}
-use Rattle.std.proofs.lemmas.List.Elements.{All-nil, All-cons, All-weaker}
+use Rattle.std.proofs.lemmas.List.{append-nil, get_or_default, length-append, length-map, map-append, take-append-drop, take_all, take_more}
+use Rattle.std.proofs.lemmas.List.Elements.{All-nil, All-cons}
 use Rattle.rela_flows.specs.declared.prefix.Ipv4Prefix.{Ipv4Prefix}
 use Rattle.rela_names.specs.declared.level.Level.TheVariants as level
 use Rattle.rela_locations.specs.Network.{Network, location_of}
@@ -16,7 +16,7 @@ use Rattle.rela_tables.specs.declared.route.Route.{Route}
 use Rattle.rela_fib.specs.Choices.{IsUniform}
 use Rattle.rela_fib.specs.Graph.{ArePlacesOf, Graph, IsGraphAt, chosen_hops, edges_from, edges_to, is_delivered, is_dropped, is_listed_empty, number_if, numbers_from}
 use Rattle.rela_fib.specs.Prefixes.{prefixes_of}
-use Rattle.rela_fib.specs.Steps.{AreDevices, AreDevicesAt, AreMatched, ArePlaced, AreStepsAt, AreStepsBy, AreStepsOf, IsDevice, IsMatched, IsStep, IsStepAt, IsStepBy, IsStepOf, graph_of}
+use Rattle.rela_fib.specs.Steps.{AreDevices, ArePlaced, AreStepsAt, AreStepsOf, IsDevice, IsMatched, IsStep, IsStepAt, IsStepBy, IsStepOf, graph_of}
 use Rattle.rela_fib.specs.declared.device.Device.{Device}
 use Rattle.rela_fib.specs.declared.devices.Devices.{Devices}
 use Rattle.rela_fib.specs.declared.step.Step.{Step}

@@ -1,11 +1,11 @@
 -- Two files give one snapshot: there is one list of nodes, one of classes, and one graph for each address.
-use Rattle.std.proofs.Common.{◌≡◌, ◌∙◌, refl, sym, ap, subst, ℕ, zero, suc, ◌+◌, ◌-◌, ◌^◌, ◌<◌, ◌≤◌, ◌⊎◌, inl, inr, ⊎_elim, Bool, true, false, cond, ◌&&◌, ◌==◌, List, [], ◌∷◌, ◌++◌, length, map, get_or, Option, Some, None, arith}
+use Rattle.std.proofs.Common.{◌≡◌, ◌∙◌, refl, sym, ap, subst, ℕ, zero, suc, ◌+◌, ◌-◌, ◌^◌, ◌<◌, ◌≤◌, ◌⊎◌, inl, inr, ⊎_elim, Bool, true, false, cond, ◌==◌, List, [], ◌∷◌, length, get_or, Option, Some, None, arith}
 use Rattle.std.specs.Prelude.{find}
 use Rattle.std.specs.Option.{option_map_or}
 use Rattle.std.specs.List.{All, AllByRecursion, AllZip, Contains, IsDistinct}
 use Rattle.std.specs.List.Sorted.{IsStrictlyIncreasing}
 use Rattle.std.proofs.lemmas.Bool.{eq-eqb, and_from}
-use Rattle.std.proofs.lemmas.List.{get_or_default, get_or-map, length-map}
+use Rattle.std.proofs.lemmas.List.{get_or_default, length-map}
 use Rattle.std.proofs.lemmas.List.Elements.{All-contains, All-head, All-tail}
 use Rattle.std.proofs.lemmas.Map.Keys.{sorted_from_strictly_increasing, below_from_sorted}
 use Rattle.rela_flows.specs.declared.prefix.Ipv4Prefix.{Ipv4Prefix}
@@ -23,7 +23,7 @@ use Rattle.rela_tables.specs.declared.route.Route.{Route}
 use Rattle.rela_tables.specs.declared.table.Table.{Table}
 use Rattle.rela_fib.specs.Graph.{AreNodes, ArePlacesOf, Graph, IsGraphAt, chosen_hops, edges_from, is_delivered, is_dropped, numbers_from}
 use Rattle.rela_fib.specs.Prefixes.{prefixes_in_both}
-use Rattle.rela_fib.specs.Snapshot.{HasManyClasses, HasManyEdges, HasManyNodes, IsDrawn, IsFew, IsGraphOf, IsTooLong, IsTooMany, classes_of}
+use Rattle.rela_fib.specs.Snapshot.{HasManyEdges, IsDrawn, IsFew, IsGraphOf, IsTooLong, IsTooMany, classes_of}
 use Rattle.rela_fib.specs.Text.{Drawn, Flow, snapshot_bytes}
 use Rattle.rela_fib.proofs.Found.{no_member}
 
@@ -53,11 +53,11 @@ increasing_unique [] (y ∷ ys) rx ry f g = absurd (no_member y (g y (contains_f
 increasing_unique (x ∷ xs) [] rx ry f g = absurd (no_member x (f x (contains_first x xs)))
 increasing_unique (x ∷ xs) (y ∷ ys) rx ry f g =
     let same : x ≡ y = ⊎_elim (λ is. sym is)
-        (λ in_ys. ⊎_elim (λ is. is) (λ in_xs. absurd (omega (arith, first_below y ys x ry in_ys, first_below x xs y rx in_xs))) (contains_cases x xs y (g y (contains_first y ys))))
-        (contains_cases y ys x (f x (contains_first x xs))) in
+    (λ in_ys. ⊎_elim (λ is. is) (λ in_xs. absurd (omega (arith, first_below y ys x ry in_ys, first_below x xs y rx in_xs))) (contains_cases x xs y (g y (contains_first y ys))))
+    (contains_cases y ys x (f x (contains_first x xs))) in
     let rest : xs ≡ ys = increasing_unique xs ys (rest_rises x xs rx) (rest_rises y ys ry)
-        (λ s in_xs. ⊎_elim (λ is. absurd (omega (arith, first_below x xs s rx in_xs, is, same))) (λ in_ys. in_ys) (contains_cases y ys s (f s (contains_later x xs s in_xs))))
-        (λ s in_ys. ⊎_elim (λ is. absurd (omega (arith, first_below y ys s ry in_ys, is, same))) (λ in_xs. in_xs) (contains_cases x xs s (g s (contains_later y ys s in_ys)))) in
+    (λ s in_xs. ⊎_elim (λ is. absurd (omega (arith, first_below x xs s rx in_xs, is, same))) (λ in_ys. in_ys) (contains_cases y ys s (f s (contains_later x xs s in_xs))))
+    (λ s in_ys. ⊎_elim (λ is. absurd (omega (arith, first_below y ys s ry in_ys, is, same))) (λ in_xs. in_xs) (contains_cases x xs s (g s (contains_later y ys s in_ys)))) in
     ap (λ z. z ∷ xs) same ∙ ap (λ (zs : List ℕ). y ∷ zs) rest
 
 pub nodes_unique : (f : Forwarding) (xs ys : List ℕ) → AreNodes f xs → AreNodes f ys → xs ≡ ys

@@ -67,14 +67,16 @@ abbrev pub edges_from : ℕ → List (List ℕ) → List (ℕ × ℕ)
 edges_from k [] = []
 edges_from k (places ∷ more) = edges_to k places ++ edges_from (k + 1) more
 
--- A graph whose nodes are named by their places in a list: its edges, and the nodes that deliver and that drop.
+-- A graph whose nodes are named by their places in a list: its edges, and the nodes that deliver
+-- and that drop.
 pub record Graph : Type 0 where
   pub edges : List (ℕ × ℕ)
   pub delivered : List ℕ
   pub dropped : List ℕ
 
--- The graph has an edge from each node to each hop of what the node's device chooses for the address. A node is delivered
--- where the chosen route has no list of hops, and dropped where it has neither that nor a hop.
+-- The graph has an edge from each node to each hop of what the node's device chooses for the
+-- address. A node is delivered where the chosen route has no list of hops, and dropped where it is
+-- neither delivered nor has a hop.
 pub record IsGraphAt (network : Network) (f : Forwarding) (nodes : List ℕ) (a : ℕ) (graph : Graph) : Type 0 where
   pub choices : List (Option Route)
   pub chosen : AllZip (λ node choice. Chosen f (location_of Device network node) a choice) nodes choices

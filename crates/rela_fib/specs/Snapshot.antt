@@ -1,5 +1,5 @@
--- The snapshot that two table files give: a flow for each class of addresses that the routes of both cut, with the graph
--- that the tables of the first give for these addresses.
+-- The snapshot that two table files give: a flow for each class of addresses that the routes of
+-- both cut, with the graph that the tables of the first give for these addresses.
 use Rattle.std.specs.Prelude.{◌≡◌, ℕ, ◌<◌, ◌≤◌, ◌⊎◌, List, length, map}
 use Rattle.std.specs.List.{All, Contains}
 use Rattle.rela_flows.specs.declared.prefix.Ipv4Prefix.{Ipv4Prefix}
@@ -18,8 +18,8 @@ IsGraphOf network f nodes class graph = (a : ℕ) → Holds class a → IsGraphA
 abbrev pub classes_of : List Flow → List Ipv4Prefix
 classes_of flows = map (λ (flow : Flow). flow.class) flows
 
--- The flows are the classes in the order of their addresses. Each address lies in just one class, and the graph of a flow is
--- the one for each address of its class.
+-- The flows are the classes in the order of their addresses. Each address lies in just one class,
+-- and the graph of a flow is the one for each address of its class.
 pub record IsDrawn (network : Network) (f other : Forwarding) (d : Drawn) : Type 0 where
   pub nodes : AreNodes f d.nodes
   pub starts : ArePlacesOf d.nodes f.starts d.starts
@@ -51,7 +51,8 @@ abbrev pub HasManyNodes : Forwarding → Type 0
 HasManyNodes f = (nodes : List ℕ) × AreNodes f nodes × (10000 < length nodes)
 
 abbrev pub HasManyClasses : Forwarding → Forwarding → Type 0
-HasManyClasses f other = (classes : List Ipv4Prefix) × AreClasses (prefixes_in_both f other) classes × (10000 < length classes)
+HasManyClasses f other =
+    (classes : List Ipv4Prefix) × AreClasses (prefixes_in_both f other) classes × (10000 < length classes)
 
 -- the graph of some class has more edges than a snapshot may have
 pub record HasManyEdges (network : Network) (f other : Forwarding) : Type 0 where

@@ -1,4 +1,5 @@
--- The text of a snapshot: compact JSON, the members of each object in the order of their names by bytes, and a newline.
+-- The text of a snapshot: compact JSON, the members of each object in the order of their names by
+-- bytes, and a newline.
 use Rattle.std.specs.Prelude.{ℕ, List, [], ◌∷◌, ◌++◌, codes, map}
 use Rattle.serde_json.specs.Data.{Data, unsigned, number, string, array, object, no_members, member}
 use Rattle.serde_json.specs.View.{items_of}
@@ -58,4 +59,5 @@ abbrev pub names_of : Network → List ℕ → List (List ℕ)
 names_of network nodes = map (name_of Interface network) nodes
 
 abbrev pub snapshot_bytes : Network → Drawn → List ℕ
-snapshot_bytes network d = compact_text (snapshot_data (names_of network d.nodes) d.starts d.flows) ++ 10 ∷ []
+snapshot_bytes network d =
+    compact_text (snapshot_data (names_of network d.nodes) d.starts d.flows) ++ 10 ∷ []

@@ -51,8 +51,8 @@ impl Device {
         })
     }
 
-    /// What the device does with the packets to an address, in a number of steps that is logarithmic
-    /// in the number of its routes.
+    /// What the device does with the packets to an address, in a number of steps that is
+    /// logarithmic in the number of its routes.
     pub(crate) fn step(&self, address: u32) -> &Step
         requires { length self.now.prefixes ≡ length self.now.steps.items }
         ensures { IsStepAt self.now address result.now }

@@ -55,7 +55,8 @@ impl Devices {
     /// Only where memory is wanted.
     pub(crate) fn steps(&self, alloc: Global, address: u32) -> Result<Vec<&Step>, AllocError>
         requires { IsMatched self.now }
-        ensures { IfOk result (λ steps. AreStepsAt self.now address (map (λ s. s.now) steps.items)) }
+        ensures { IfOk result (λ steps.
+            AreStepsAt self.now address (map (λ s. s.now) steps.items)) }
     {
         let chosen = steps_of(alloc, self.devices.as_slice(), address)?;
         let mut steps = Vec::with_capacity(alloc, self.of_nodes.len())?;
@@ -90,7 +91,8 @@ fn place_devices(
 ) -> Result<(IndexSet<Symbol>, Vec<u32>), AllocError>
     requires few { length nodes.now < 2 ^ 32 }
     requires located { AreInterfaces locations.now nodes.now }
-    ensures { IfOk result (λ placed. ArePlaced locations.now nodes.now placed.0.keys placed.1.items) }
+    ensures { IfOk result (λ placed.
+        ArePlaced locations.now nodes.now placed.0.keys placed.1.items) }
 {
     let mut names = IndexSet::new(alloc);
     let mut of_nodes = Vec::with_capacity(alloc, nodes.len())?;
@@ -110,7 +112,8 @@ fn devices_at(
 ) -> Result<Vec<Device>, AllocError>
     requires few { length nodes.now < 2 ^ 32 }
     requires ascending { IsStrictlyIncreasing nodes.now }
-    ensures devices { IfOk result (λ devices. AreDevicesAt tables.now nodes.now names.now devices.items) }
+    ensures devices { IfOk result (λ devices.
+        AreDevicesAt tables.now nodes.now names.now devices.items) }
     ensures tables { AreTables tables.now.tables }
 {
     let listed = devices_of(alloc, tables.tables())?;

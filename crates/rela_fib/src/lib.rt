@@ -1,5 +1,5 @@
-//! What devices do with the packets to an address, by their forwarding tables, and the snapshots that
-//! two table files give: a flow for each class of addresses that all devices treat alike.
+//! What devices do with the packets to an address, by their forwarding tables, and the snapshots
+//! that two table files give: a flow for each class of addresses that all devices treat alike.
 #![tactic(auto)]
 
 mod classes;

@@ -52,7 +52,8 @@ fn push_number(text: &mut Vec<u8>, number: u32) -> Result<(), AllocError>
 
 /// Adds an array of numbers.
 pub(crate) fn push_numbers(text: &mut Vec<u8>, numbers: &[u32]) -> Result<(), AllocError>
-    ensures { OnOk result (text.new.items ≡ text.old.items ++ compact_text (numbers_data numbers.now)) }
+    ensures { OnOk result (text.new.items
+        ≡ text.old.items ++ compact_text (numbers_data numbers.now)) }
 {
     text.push(b'[')?;
     for (place, number) in numbers.iter().enumerate() {
@@ -77,7 +78,8 @@ fn push_edge(text: &mut Vec<u8>, edge: (u32, u32)) -> Result<(), AllocError>
 
 /// Adds an array of edges.
 pub(crate) fn push_edges(text: &mut Vec<u8>, edges: &[(u32, u32)]) -> Result<(), AllocError>
-    ensures { OnOk result (text.new.items ≡ text.old.items ++ compact_text (list_data edge_data edges.now)) }
+    ensures { OnOk result (text.new.items
+        ≡ text.old.items ++ compact_text (list_data edge_data edges.now)) }
 {
     text.push(b'[')?;
     for (place, edge) in edges.iter().enumerate() {
@@ -105,7 +107,8 @@ pub(crate) fn push_names(
     locations: &Locations,
     nodes: &[Symbol],
 ) -> Result<(), AllocError>
-    ensures { OnOk result (text.new.items ≡ text.old.items ++ compact_text (list_data string (names_of locations.now nodes.now))) }
+    ensures { OnOk result (text.new.items
+        ≡ text.old.items ++ compact_text (list_data string (names_of locations.now nodes.now))) }
 {
     let alphabet = locations.alphabet(Level::Interface);
     text.push(b'[')?;

@@ -23,18 +23,19 @@ const MAX_FLOWS: usize = 10_000;
 /// The text of the snapshot that two table files give: compact JSON with a newline at its end.
 ///
 /// It has a flow for each class of addresses that the routes of both files cut, in the order of the
-/// addresses. The flow's name and `dst` are the class. Its nodes are the interfaces of the starts and
-/// hops of `tables`. From each there is an edge to each hop of the route that its device chooses, by
-/// `tables`, for the addresses of the class.
+/// addresses. The flow's name and `dst` are the class. Its nodes are the interfaces of the starts
+/// and hops of `tables`. From each there is an edge to each hop of the route that its device
+/// chooses, by `tables`, for the addresses of the class.
 ///
-/// Time and space are linear in the number of routes times the 32 bits of an address, n log n in the
-/// number of hops, and linear in the text; and each device of a node looks once at each class, in time
-/// logarithmic in the number of its routes.
+/// Time and space are linear in the number of routes times the 32 bits of an address, n log n in
+/// the number of hops, and linear in the text; and each device of a node chooses once for each
+/// class, in time logarithmic in the number of its routes.
 ///
 /// # Errors
 ///
 /// `TooMany` where there are more than 10,000 nodes or classes, or the graph of some class has more
-/// than 100,000 edges; else `TooLong` where the text would have more than 33,554,432 bytes; `Memory`.
+/// than 100,000 edges; else `TooLong` where the text would have more than 33,554,432 bytes;
+/// `Memory`.
 pub fn snapshot_text(
     alloc: Global,
     tables: &Tables,
@@ -42,11 +43,15 @@ pub fn snapshot_text(
     locations: &Locations,
 ) -> Result<Vec<u8>, FibError>
     requires { IsForwardingIn locations.now tables.now }
-    ensures text { IfOk result (λ text. IsSnapshotOf locations.now tables.now other.now text.items) }
-    ensures too_many { result ≡ Err FibError.TooMany → IsTooMany locations.now tables.now other.now }
-    ensures too_long { result ≡ Err FibError.TooLong → IsTooLong locations.now tables.now other.now }
+    ensures text { IfOk result (λ text.
+        IsSnapshotOf locations.now tables.now other.now text.items) }
+    ensures too_many { result ≡ Err FibError.TooMany
+        → IsTooMany locations.now tables.now other.now }
+    ensures too_long { result ≡ Err FibError.TooLong
+        → IsTooLong locations.now tables.now other.now }
     ensures few { OnOk result (¬ IsTooMany locations.now tables.now other.now) }
-    ensures few_where_long { result ≡ Err FibError.TooLong → ¬ IsTooMany locations.now tables.now other.now }
+    ensures few_where_long { result ≡ Err FibError.TooLong
+        → ¬ IsTooMany locations.now tables.now other.now }
     ensures short { OnOk result (¬ IsTooLong locations.now tables.now other.now) }
 {
     let nodes = nodes_of(alloc, tables)?;

@@ -34,7 +34,8 @@ pub(crate) fn text_of(
     requires few { length devices.now.of_nodes.items < 2 ^ 32 }
     ensures text { IfOk result (λ text. IsWhole devices.now end.now classes.now text.items) }
     ensures too_many { result ≡ Err FibError.TooMany → HasManyStepsIn devices.now classes.now }
-    ensures too_long { result ≡ Err FibError.TooLong → IsWholeTooLong devices.now end.now classes.now }
+    ensures too_long { result ≡ Err FibError.TooLong
+        → IsWholeTooLong devices.now end.now classes.now }
 {
     let mut text = Vec::new(alloc);
     text.extend_from_slice(b"{\"flows\":[")?;
@@ -56,7 +57,8 @@ fn push_flows(
 ) -> Result<(), FibError>
     requires matched { IsMatched devices.now }
     requires few { length devices.now.of_nodes.items < 2 ^ 32 }
-    ensures flows { OnOk result (AddsFlows devices.now end.now classes.now text.old.items text.new.items) }
+    ensures flows { OnOk result
+        (AddsFlows devices.now end.now classes.now text.old.items text.new.items) }
     ensures too_many { result ≡ Err FibError.TooMany → HasManyStepsIn devices.now classes.now }
     ensures not_long { result ≢ Err FibError.TooLong }
 {
@@ -77,7 +79,8 @@ fn push_class(
 ) -> Result<(), FibError>
     requires matched { IsMatched devices.now }
     requires few { length devices.now.of_nodes.items < 2 ^ 32 }
-    ensures flow { OnOk result (AddsFlow devices.now end.now class later text.old.items text.new.items) }
+    ensures flow { OnOk result
+        (AddsFlow devices.now end.now class later text.old.items text.new.items) }
     ensures too_many { result ≡ Err FibError.TooMany → HasManySteps devices.now class }
     ensures not_long { result ≢ Err FibError.TooLong }
 {
@@ -102,7 +105,8 @@ fn push_flow(
     graph: &ForwardingGraph,
     end: &[u8],
 ) -> Result<(), AllocError>
-    ensures { OnOk result (text.new.items ≡ text.old.items ++ flow_text end.now (record { class = class; graph = drawn graph.now })) }
+    ensures { OnOk result (text.new.items
+        ≡ text.old.items ++ flow_text end.now (record { class = class; graph = drawn graph.now })) }
 {
     push_ends(text, graph)?;
     push_middle(alloc, text, class, graph)?;
@@ -129,7 +133,8 @@ fn push_middle(
     class: Ipv4Prefix,
     graph: &ForwardingGraph,
 ) -> Result<(), AllocError>
-    ensures { OnOk result (text.new.items ≡ text.old.items ++ middle_text (record { class = class; graph = drawn graph.now })) }
+    ensures { OnOk result (text.new.items
+        ≡ text.old.items ++ middle_text (record { class = class; graph = drawn graph.now })) }
 {
     let name = Prefix::V4(class).text(alloc)?;
     push_key(text, true, b"dst")?;
@@ -148,7 +153,8 @@ pub(crate) fn end_of(
     nodes: &[Symbol],
     starts: &[u32],
 ) -> Result<Vec<u8>, AllocError>
-    ensures { IfOk result (λ end. end.items ≡ end_text (names_of locations.now nodes.now) starts.now) }
+    ensures { IfOk result (λ end. end.items
+        ≡ end_text (names_of locations.now nodes.now) starts.now) }
 {
     let mut end = Vec::new(alloc);
     push_key(&mut end, true, b"nodes")?;

@@ -1,4 +1,4 @@
-use Rattle.std.proofs.Common.{arith, length}
+use Rattle.std.proofs.Common.{arith}
 use Rattle.std.proofs.lemmas.Option.{slice_get_within}
 use Rattle.rela_fib.proofs.Steps.{keys_grow, placed_more}
 use Rattle.rela_fib.proofs.devices.place_devices.Goals as goal

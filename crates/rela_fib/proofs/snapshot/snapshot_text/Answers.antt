@@ -1,4 +1,4 @@
-use Rattle.std.proofs.Common.{◌≡◌, ◌<◌, ap, arith, inr, ℕ, List, length, subst, sym}
+use Rattle.std.proofs.Common.{ap, arith, inr, length, subst, sym}
 use Rattle.rela_tables.specs.Located.{AreInterfaces}
 use Rattle.rela_fib.proofs.Chains.{if_ok_weaker, on_ok_from}
 use Rattle.rela_fib.proofs.Flows.{many_edges, not_long_by, not_many_by, planned, too_long, written}

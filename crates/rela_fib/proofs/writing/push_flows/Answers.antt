@@ -1,4 +1,4 @@
-use Rattle.std.proofs.Common.{◌≡◌, Err, arith, get_or}
+use Rattle.std.proofs.Common.{◌≡◌, Err, arith}
 use Rattle.std.proofs.lemmas.Grind.{common_steps}
 use Rattle.rela_fib.specs.declared.error.FibError.TheVariants.{TooMany}
 use Rattle.rela_fib.proofs.Flows.{flow_more, many_in}

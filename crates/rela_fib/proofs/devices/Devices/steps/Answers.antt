@@ -1,4 +1,4 @@
-use Rattle.std.proofs.Common.{◌≡◌, ◌<◌, ◌∙◌, Bor, ap, arith, ℕ, List, get_or, length, map, subst}
+use Rattle.std.proofs.Common.{◌≡◌, ◌<◌, Bor, ap, arith, ℕ, List, get_or, length, map, subst}
 use Rattle.std.proofs.lemmas.List.{length-map}
 use Rattle.rela_fib.specs.Steps.{AreStepsOf, IsStepAt, IsStepOf}
 use Rattle.rela_fib.specs.declared.device.Device.{Device}
@@ -13,8 +13,15 @@ index-requires c =
     let same = c.deref-place-items.ensures.value in
     let lt : i < length nodes = omega (arith, c.loop-place-test.true, ap length same) in
     let below : get_or nodes i 0 < length c.args.self.now.devices.items = c.requires.of_nodes i 0 lt in
-    omega (arith, below, ap (λ (ns : List ℕ). get_or ns i 0) same, ap length c.as_slice.ensures.value, length-map c.in_ok-chosen.chosen.items (λ (s : Bor Step). s.now),
-      zip_length (λ (device : Device) (step : Step). IsStepAt device c.args.address step) c.as_slice.result.now (map (λ (s : Bor Step). s.now) c.in_ok-chosen.chosen.items) c.in_ok-chosen.ensures, c.in_ok-chosen.chosen.ok.0)
+    omega (
+      arith,
+      below,
+      ap (λ (ns : List ℕ). get_or ns i 0) same,
+      ap length c.as_slice.ensures.value,
+      length-map c.in_ok-chosen.chosen.items (λ (s : Bor Step). s.now),
+      zip_length (λ (device : Device) (step : Step). IsStepAt device c.args.address step) c.as_slice.result.now (map (λ (s : Bor Step). s.now) c.in_ok-chosen.chosen.items) c.in_ok-chosen.ensures,
+      c.in_ok-chosen.chosen.ok.0,
+    )
 
 pub loop-place-preserved : goal.loop-place-preserved
 loop-place-preserved c =
