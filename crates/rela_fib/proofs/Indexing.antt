@@ -1,5 +1,5 @@
 -- The devices and the prefixes of the tables, by the places of the tables.
-use Rattle.std.proofs.Common.{◌≡◌, ◌∙◌, refl, sym, ap, subst, ℕ, zero, suc, ◌+◌, ◌<◌, ◌≤◌, Bool, true, false, not, cond, ltb, List, [], ◌∷◌, ◌++◌, length, map, get_or, take, drop, Option, Some, None, arith}
+use Rattle.std.proofs.Common.{◌≡◌, ◌∙◌, refl, sym, ap, subst, ℕ, zero, suc, ◌+◌, ◌<◌, ◌≤◌, Bool, true, false, not, cond, ltb, List, [], ◌∷◌, ◌++◌, length, get_or, take, drop, Option, Some, None, arith}
 use Rattle.std.specs.Prelude.{find, ◌==◌, nat_eq, slice_get, position, option_map}
 use Rattle.std.specs.Option.{option_map_or}
 use Rattle.std.specs.List.{All, AllByRecursion, IsDistinct, list_any, position_or_len}
@@ -11,7 +11,7 @@ use Rattle.std.proofs.lemmas.List.Elements.{All-nil, All-cons, All-head, All-tai
 use Rattle.rela_flows.specs.declared.prefix.Ipv4Prefix.{Ipv4Prefix}
 use Rattle.rela_prefixes.specs.Holding.{Holds}
 use Rattle.rela_prefixes.specs.Longest.{Longest, LongestWanted}
-use Rattle.rela_tables.specs.Chosen.{Chosen, ChosenOf}
+use Rattle.rela_tables.specs.Chosen.{ChosenOf}
 use Rattle.rela_tables.specs.Distinct.{devices_of}
 use Rattle.rela_tables.specs.Forwarding.{Forwarding, routes_of}
 use Rattle.rela_tables.specs.declared.route.Route.{Route}
@@ -98,27 +98,6 @@ new_device tables i t distinct lt is =
     sym (map-append (λ (t : Table). t.device) (take i tables) (t ∷ drop (i + 1) tables)) ∙ ap devices_of whole in
     distinct_apart (devices_of (take i tables)) (devices_of (drop (i + 1) tables)) t.device (subst (IsDistinct nat_eq) (sym parts) distinct)
 
--- ---- what is chosen
-
-nothing_chosen : (a : ℕ) → ChosenOf [] a None
-unfolding ChosenOf
-nothing_chosen a = All-nil (λ (r : Route). ¬ Holds r.prefix a)
-
-pub no_device : (f : Forwarding) (device a : ℕ) (keys : List ℕ) (o : Option ℕ) → keys ≡ devices_of f.tables → o ≡ position (nat_eq device) keys → o ≡ None → Chosen f device a None
-no_device f device a keys o known is none = subst (λ rs. ChosenOf rs a None) (sym (routes_nowhere f device o (is ∙ ap (position (nat_eq device)) known) none)) (nothing_chosen a)
-
--- the place of the longest prefix is one of a route
-pub number_below : (routes : List Route) (a number : ℕ) (r : Option ℕ) → r ≡ Some number → Longest (prefixes_of routes) a r → number < length routes
-unfolding LongestWanted
-number_below routes a number r is h =
-    let found : LongestWanted (λ p. Holds p a) (prefixes_of routes) (Some number) = subst (LongestWanted (λ p. Holds p a) (prefixes_of routes)) is h in
-    omega (arith, slice_get_within (prefixes_of routes) number found.prefix found.at, length-map routes (λ (r : Route). r.prefix))
-
--- what a table's place has
-pub table_prefixes : (tables : List Table) (prefixes : List (List Ipv4Prefix)) (place : ℕ) (table : Table) (ps : List Ipv4Prefix) → prefixes ≡ map (λ (t : Table). prefixes_of t.routes) tables → slice_get tables place ≡ Some table → slice_get prefixes place ≡ Some ps → ps ≡ prefixes_of table.routes
-table_prefixes tables prefixes place table ps known at has =
-    same_Some ps (prefixes_of table.routes) (sym has ∙ ap (λ xs. slice_get xs place) known ∙ slice_get-map (λ (t : Table). prefixes_of t.routes) tables place ∙ ap (option_map (λ (t : Table). prefixes_of t.routes)) at)
-
 within_by : (n len place : ℕ) (b : Bool) → ltb n len ≡ b → cond b (Some n) None ≡ Some place → place < len
 within_by n len place true t e = let same : n ≡ place = cc in omega (arith, same, ltb-true n len t)
 within_by n len place false t e = absurd (cc)
@@ -127,49 +106,17 @@ place_below : (keys : List ℕ) (device place : ℕ) (o : Option ℕ) → o ≡ 
 place_below keys device place o is some =
     let n : ℕ = position_or_len (nat_eq device) keys in within_by n (length keys) place (ltb n (length keys)) refl (sym is ∙ some)
 
--- what is known of the place of a device: its table, and the prefixes of the table's routes
-pub record IsPlace (f : Forwarding) (device place : ℕ) (ps : List Ipv4Prefix) : Type 0 where
-  pub within : place < length f.tables
-  pub table : Table
-  pub at : slice_get f.tables place ≡ Some table
-  pub routes_are : routes_of f device ≡ table.routes
-  pub prefixes_are : ps ≡ prefixes_of table.routes
+-- ---- the routes of a device
 
-table_here : (tables : List Table) (place : ℕ) → place < length tables → (t : Table) × (slice_get tables place ≡ Some t)
-table_here [] place lt = absurd (omega (arith, lt))
-table_here (t ∷ ts) zero lt = (t, refl)
-table_here (t ∷ ts) (suc n) lt = table_here ts n (omega arith)
-
-pub is_place : (f : Forwarding) (device place : ℕ) (keys : List ℕ) (prefixes : List (List Ipv4Prefix)) (o : Option ℕ) (ps : List Ipv4Prefix) → keys ≡ devices_of f.tables → prefixes ≡ map (λ (t : Table). prefixes_of t.routes) f.tables → o ≡ position (nat_eq device) keys → o ≡ Some place
-    → ps ≡ get_or prefixes place ps → IsPlace f device place ps
-is_place f device place keys prefixes o ps known prefixes_known is some read =
+pub routes_some : (f : Forwarding) (device place : ℕ) (keys : List ℕ) (tables : List Table) (o : Option ℕ) (table : Table) (routes : List Route) → keys ≡ devices_of f.tables → o ≡ position (nat_eq device) keys → o ≡ Some place
+    → tables ≡ f.tables → table ≡ get_or tables place table → routes ≡ table.routes → routes ≡ routes_of f device
+routes_some f device place keys tables o table routes known is some same read routes_are =
     let below : place < length f.tables = omega (arith, place_below keys device place o is some, ap length known, length-map f.tables (λ (t : Table). t.device)) in
-    let here = table_here f.tables place below in
-    let has : slice_get prefixes place ≡ Some ps = slice_get_read prefixes (length prefixes) place ps refl (omega (arith, below, ap length prefixes_known, length-map f.tables (λ (t : Table). prefixes_of t.routes))) read in
-    record {
-      within = below;
-      table = here.0;
-      at = here.1;
-      routes_are = routes_at f device place here.0 o (is ∙ ap (position (nat_eq device)) known) some here.1;
-      prefixes_are = table_prefixes f.tables prefixes place here.0 ps prefixes_known here.1 has;
-    }
+    let at : slice_get f.tables place ≡ Some table = slice_get_read f.tables (length f.tables) place table refl below (subst (λ (ts : List Table). table ≡ get_or ts place table) same read) in
+    routes_are ∙ sym (routes_at f device place table o (is ∙ ap (position (nat_eq device)) known) some at)
 
-pub place_none : (f : Forwarding) (device place a : ℕ) (ps : List Ipv4Prefix) (r : Option ℕ) → IsPlace f device place ps → r ≡ None → Longest ps a r → Chosen f device a None
-place_none f device place a ps r is none longest = subst (λ rs. ChosenOf rs a None) (sym is.routes_are) (none_chosen is.table.routes a r none (subst (λ qs. Longest qs a r) is.prefixes_are longest))
-
-pub place_routes : (f : Forwarding) (device place : ℕ) (ps : List Ipv4Prefix) (tables : List Table) (d : Table) (rs : List Route) → (is : IsPlace f device place ps) → tables ≡ f.tables → rs ≡ (get_or tables place d).routes → rs ≡ is.table.routes
-place_routes f device place ps tables d rs is same read =
-    read ∙ ap (λ (ts : List Table). (get_or ts place d).routes) same ∙ ap (λ (t : Table). t.routes) (get_or_from_slice_get f.tables place is.table d is.at)
-
-pub place_bound : (f : Forwarding) (device place a number : ℕ) (ps : List Ipv4Prefix) (r : Option ℕ) (rs : List Route) → (is : IsPlace f device place ps) → rs ≡ is.table.routes → r ≡ Some number → Longest ps a r → number < length rs
-place_bound f device place a number ps r rs is same found longest =
-    let below : number < length is.table.routes = number_below is.table.routes a number r found (subst (λ qs. Longest qs a r) is.prefixes_are longest) in omega (arith, below, ap length same)
-
-pub place_route : (f : Forwarding) (device place a number : ℕ) (ps : List Ipv4Prefix) (r : Option ℕ) (rs : List Route) (route : Route) → (is : IsPlace f device place ps) → rs ≡ is.table.routes → r ≡ Some number → Longest ps a r → route ≡ get_or rs number route → Chosen f device a (Some route)
-place_route f device place a number ps r rs route is same found longest read =
-    let below : number < length rs = place_bound f device place a number ps r rs is same found longest in
-    let at : slice_get rs number ≡ Some route = slice_get_read rs (length rs) number route refl below read in
-    subst (λ ss. ChosenOf ss a (Some route)) (same ∙ sym is.routes_are) (one_chosen rs a number r route found at (subst (λ qs. Longest qs a r) (is.prefixes_are ∙ ap prefixes_of (sym same)) longest))
+pub routes_none : (f : Forwarding) (device : ℕ) (keys : List ℕ) (o : Option ℕ) → keys ≡ devices_of f.tables → o ≡ position (nat_eq device) keys → o ≡ None → routes_of f device ≡ []
+routes_none f device keys o known is none = routes_nowhere f device o (is ∙ ap (position (nat_eq device)) known) none
 
 pub device_pushed : (tables : List Table) (i : ℕ) (t : Table) (keys keys' : List ℕ) → IsDistinct nat_eq (devices_of tables) → i < length tables → t ≡ get_or tables i t → keys ≡ devices_of (take i tables)
     → keys' ≡ cond (list_any (nat_eq t.device) keys) keys (keys ++ t.device ∷ []) → keys' ≡ devices_of (take (i + 1) tables)

@@ -1,3 +1,10 @@
 pub mod Uniform
 pub mod Indexing
-pub mod Graphs
+pub mod Found
+pub mod Steps
+pub mod Located
+pub mod Arrays
+pub mod Plain
+pub mod Flows
+pub mod Unique
+pub mod Chains

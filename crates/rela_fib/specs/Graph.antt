@@ -9,7 +9,6 @@ use Rattle.rela_tables.specs.Chosen.{Chosen}
 use Rattle.rela_tables.specs.Forwarding.{Forwarding}
 use Rattle.rela_tables.specs.declared.route.Route.{Route}
 use Rattle.rela_tables.specs.declared.table.Table.{Table}
-use Rattle.rela_fib.specs.declared.graph.ForwardingGraph.{ForwardingGraph}
 
 abbrev pub hops_of : Route → List ℕ
 hops_of route = unwrap_or route.hops []
@@ -40,12 +39,12 @@ abbrev pub is_delivered : Option Route → Bool
 is_delivered None = false
 is_delivered (Some route) = is_none route.hops
 
--- nothing is chosen, or what is chosen has an empty list of hops
 abbrev pub is_listed_empty : Option (List ℕ) → Bool
 is_listed_empty None = false
 is_listed_empty (Some []) = true
 is_listed_empty (Some (h ∷ hs)) = false
 
+-- nothing is chosen, or what is chosen has an empty list of hops
 abbrev pub is_dropped : Option Route → Bool
 is_dropped None = true
 is_dropped (Some route) = is_listed_empty route.hops
@@ -55,9 +54,9 @@ abbrev pub number_if : Bool → ℕ → List ℕ
 number_if passes k = if passes then k ∷ [] else []
 
 -- the numbers of those that pass, counted from k on
-abbrev pub numbers_from : (Option Route → Bool) → ℕ → List (Option Route) → List ℕ
+abbrev pub numbers_from : {A : Type 0} → (A → Bool) → ℕ → List A → List ℕ
 numbers_from test k [] = []
-numbers_from test k (c ∷ cs) = number_if (test c) k ++ numbers_from test (k + 1) cs
+numbers_from test k (x ∷ xs) = number_if (test x) k ++ numbers_from test (k + 1) xs
 
 -- the edges from a node to others
 abbrev pub edges_to : ℕ → List ℕ → List (ℕ × ℕ)
@@ -68,25 +67,21 @@ abbrev pub edges_from : ℕ → List (List ℕ) → List (ℕ × ℕ)
 edges_from k [] = []
 edges_from k (places ∷ more) = edges_to k places ++ edges_from (k + 1) more
 
--- The graph has, of the first nodes, an edge to each hop of what the node's device chooses for the address; those where the
--- chosen route has no list of hops are delivered, and those that have neither that nor a hop are dropped.
-pub record IsGraphOver (network : Network) (f : Forwarding) (nodes : List ℕ) (a : ℕ) (first : List ℕ) (graph : ForwardingGraph) : Type 0 where
+-- A graph whose nodes are named by their places in a list: its edges, and the nodes that deliver
+-- and that drop.
+pub record Graph : Type 0 where
+  pub edges : List (ℕ × ℕ)
+  pub delivered : List ℕ
+  pub dropped : List ℕ
+
+-- The graph has an edge from each node to each hop of what the node's device chooses for the
+-- address. A node is delivered where the chosen route has no list of hops, and dropped where it is
+-- neither delivered nor has a hop.
+pub record IsGraphAt (network : Network) (f : Forwarding) (nodes : List ℕ) (a : ℕ) (graph : Graph) : Type 0 where
   pub choices : List (Option Route)
-  pub chosen : AllZip (λ node choice. Chosen f (location_of Device network node) a choice) first choices
+  pub chosen : AllZip (λ node choice. Chosen f (location_of Device network node) a choice) nodes choices
   pub next : List (List ℕ)
   pub next_are : AllZip (λ choice places. ArePlacesOf nodes (chosen_hops choice) places) choices next
-  pub edges : graph.edges.items ≡ edges_from 0 next
-  pub delivered : graph.delivered.items ≡ numbers_from is_delivered 0 choices
-  pub dropped : graph.dropped.items ≡ numbers_from is_dropped 0 choices
-
--- the graph of all nodes
-abbrev pub IsGraphAt : Network → Forwarding → List ℕ → ℕ → ForwardingGraph → Type 0
-IsGraphAt network f nodes a graph = IsGraphOver network f nodes a nodes graph
-
--- a node goes to the graph, with what its device chooses
-pub record Adds (nodes : List ℕ) (k : ℕ) (choice : Option Route) (old new : ForwardingGraph) : Type 0 where
-  pub next : List ℕ
-  pub next_are : ArePlacesOf nodes (chosen_hops choice) next
-  pub edges : new.edges.items ≡ old.edges.items ++ edges_to k next
-  pub delivered : new.delivered.items ≡ old.delivered.items ++ number_if (is_delivered choice) k
-  pub dropped : new.dropped.items ≡ old.dropped.items ++ number_if (is_dropped choice) k
+  pub edges : graph.edges ≡ edges_from 0 next
+  pub delivered : graph.delivered ≡ numbers_from is_delivered 0 choices
+  pub dropped : graph.dropped ≡ numbers_from is_dropped 0 choices

@@ -1,3 +1,7 @@
 pub mod Prefixes
 pub mod Choices
 pub mod Graph
+pub mod Text
+pub mod Snapshot
+pub mod Steps
+pub mod Writing

@@ -23,7 +23,8 @@ pub fn address_classes(
     tables: &Tables,
     other: &Tables,
 ) -> Result<Vec<Ipv4Prefix>, AllocError>
-    ensures classes { IfOk result (λ classes. AreClasses (prefixes_in_both tables.now other.now) classes.items) }
+    ensures classes { IfOk result (λ classes.
+        AreClasses (prefixes_in_both tables.now other.now) classes.items) }
     ensures uniform { IfOk result (λ classes. All (IsUniform tables.now) classes.items) }
     ensures uniform_in_other { IfOk result (λ classes. All (IsUniform other.now) classes.items) }
 {

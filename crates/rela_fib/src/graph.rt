@@ -1,116 +1,79 @@
 //! The graph on which the packets to an address are forwarded.
 
-ghost use Rattle.std.specs.Prelude.{◌≡◌, ◌<◌, ◌^◌, ◌++◌, IfOk, OnOk, length};
-ghost use Rattle.std.specs.List.Sorted.{IsStrictlyIncreasing};
-ghost use Rattle.std.specs.Option.{option_copied};
-ghost use Rattle.rela_tables.specs.Located.{AreInterfaces};
-ghost use Rattle.rela_fib.specs.Graph.{Adds, ArePlacesOf, IsGraphAt, edges_to};
+ghost use Rattle.std.specs.Prelude.{◌≡◌, ◌<◌, ◌≤◌, ◌^◌, ◌++◌, IfOk, OnOk, length, map, nat_lt};
+ghost use Rattle.rela_fib.specs.Graph.{edges_to, number_if};
+ghost use Rattle.rela_fib.specs.Steps.{drawn, graph_of};
 
-use crate::choices::Choices;
-use crate::numbers::ascending;
-use rela_locations::Locations;
-use rela_names::{Level, Symbol};
-use rela_tables::Route;
+use crate::step::Step;
 use std::alloc::{AllocError, Global};
+
+/// The greatest number of edges of a graph.
+pub(crate) const MAX_EDGES: usize = 100_000;
 
 /// A graph, whose nodes are named by their places in a list.
 #[derive(Drop)]
-pub struct ForwardingGraph {
+pub(crate) struct ForwardingGraph {
     /// The edges, in the order of their first and then their second nodes.
-    pub edges: Vec<(u32, u32)>,
+    pub(crate) edges: Vec<(u32, u32)>,
     /// The nodes where packets are delivered, ascending.
-    pub delivered: Vec<u32>,
+    pub(crate) delivered: Vec<u32>,
     /// The nodes where packets are dropped, ascending.
-    pub dropped: Vec<u32>,
+    pub(crate) dropped: Vec<u32>,
 }
 
-/// The graph on which the packets to an address are forwarded. From each node there is an edge to
-/// each hop of the route that the node's device chooses for the address. A node is delivered where
-/// that route has no list of hops, and dropped where it is neither delivered nor has a hop.
+/// The graph where the devices of the nodes take these steps, in time linear in its size.
 ///
 /// # Errors
 ///
 /// Only where memory is wanted.
-pub fn graph_at(
-    alloc: Global,
-    locations: &Locations,
-    choices: &Choices,
-    nodes: &[Symbol],
-    address: u32,
-) -> Result<ForwardingGraph, AllocError>
-    requires few { length nodes.now < 2 ^ 32 }
-    requires ascending { IsStrictlyIncreasing nodes.now }
-    requires located { AreInterfaces locations.now nodes.now }
-    ensures { IfOk result (IsGraphAt locations.now choices.now nodes.now address) }
+pub(crate) fn graph_of(alloc: Global, steps: &[&Step]) -> Result<ForwardingGraph, AllocError>
+    requires { length steps.now < 2 ^ 32 }
+    ensures { IfOk result (λ graph. drawn graph ≡ graph_of (map (λ s. s.now) steps.now)) }
 {
     let mut graph = ForwardingGraph {
         edges: Vec::new(alloc),
         delivered: Vec::new(alloc),
         dropped: Vec::new(alloc),
     };
-    for (place, node) in nodes.iter().enumerate() {
-        let device = locations.lift(*node, Level::Device);
-        let route = choices.chosen(device, address);
-        add_node(alloc, &mut graph, nodes, place as u32, route)?;
+    for (place, step) in steps.iter().enumerate() {
+        push_edges(&mut graph.edges, place as u32, step.next.as_slice())?;
+        push_if(&mut graph.delivered, step.is_delivered, place as u32)?;
+        push_if(&mut graph.dropped, step.is_dropped, place as u32)?;
     }
     Ok(graph)
 }
 
-/// Adds a node with the route that its device chooses.
-fn add_node(
-    alloc: Global,
-    graph: &mut ForwardingGraph,
-    nodes: &[Symbol],
-    place: u32,
-    route: Option<&Route>,
-) -> Result<(), AllocError>
-    requires few { length nodes.now < 2 ^ 32 }
-    requires ascending { IsStrictlyIncreasing nodes.now }
-    ensures { OnOk result (Adds nodes.now place (option_copied route.entry) graph.old graph.new) }
+/// Whether the graph where the devices of the nodes take these steps has more than 100,000 edges.
+pub(crate) fn has_many_edges(steps: &[&Step]) -> bool
+    ensures { result ≡ nat_lt 100000 (length (graph_of (map (λ s. s.now) steps.now)).edges) }
 {
-    let Some(route) = route else {
-        graph.dropped.push(place)?;
-        return Ok(());
-    };
-    let Some(hops) = &route.hops else {
-        graph.delivered.push(place)?;
-        return Ok(());
-    };
-    let hops = hops.as_slice();
-    if hops.is_empty() {
-        graph.dropped.push(place)?;
-        return Ok(());
-    }
-    let next = places_of(alloc, nodes, hops)?;
-    push_edges(&mut graph.edges, place, next.as_slice())?;
-    Ok(())
-}
-
-/// The places of the nodes that are among these interfaces, ascending.
-pub fn places_of(
-    alloc: Global,
-    nodes: &[Symbol],
-    interfaces: &[Symbol],
-) -> Result<Vec<u32>, AllocError>
-    requires few { length nodes.now < 2 ^ 32 }
-    requires ascending { IsStrictlyIncreasing nodes.now }
-    ensures { IfOk result (λ places. ArePlacesOf nodes.now interfaces.now places.items) }
-{
-    let mut places = Vec::with_capacity(alloc, interfaces.len())?;
-    for interface in interfaces {
-        if let Ok(place) = nodes.binary_search(interface) {
-            places.push(place as u32)?;
+    let mut spare = MAX_EDGES;
+    for step in steps {
+        let count = step.next.as_slice().len();
+        if count > spare {
+            return true;
         }
+        spare -= count;
     }
-    Ok(ascending(places))
+    false
 }
 
 /// Adds the edges from a node to others.
 fn push_edges(edges: &mut Vec<(u32, u32)>, from: u32, to: &[u32]) -> Result<(), AllocError>
-    ensures { IfOk result (λ _. edges.new.items ≡ edges.old.items ++ edges_to from to.now) }
+    ensures { OnOk result (edges.new.items ≡ edges.old.items ++ edges_to from to.now) }
 {
     for place in to {
         edges.push((from, *place))?;
+    }
+    Ok(())
+}
+
+/// Adds a number, where it passes.
+fn push_if(numbers: &mut Vec<u32>, passes: bool, number: u32) -> Result<(), AllocError>
+    ensures { OnOk result (numbers.new.items ≡ numbers.old.items ++ number_if passes number) }
+{
+    if passes {
+        numbers.push(number)?;
     }
     Ok(())
 }

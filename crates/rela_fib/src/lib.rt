@@ -1,14 +1,21 @@
-//! What devices do with the packets to an address, by their forwarding tables, and the classes of
-//! addresses that they treat alike.
+//! What devices do with the packets to an address, by their forwarding tables, and the snapshots
+//! that two table files give: a flow for each class of addresses that all devices treat alike.
 #![tactic(auto)]
 
-mod choices;
 mod classes;
+mod device;
+mod devices;
+mod error;
 mod graph;
 mod nodes;
 mod numbers;
+mod pieces;
+mod places;
+mod snapshot;
+mod step;
+mod writing;
 
-pub use choices::Choices;
 pub use classes::address_classes;
-pub use graph::{ForwardingGraph, graph_at, places_of};
+pub use error::FibError;
 pub use nodes::nodes_of;
+pub use snapshot::snapshot_text;

@@ -25,7 +25,8 @@ pub fn nodes_of(alloc: Global, tables: &Tables) -> Result<Vec<Symbol>, AllocErro
 
 /// Adds the hops of the routes of some tables.
 fn push_hops(interfaces: &mut Vec<Symbol>, tables: &[Table]) -> Result<(), AllocError>
-    ensures { IfOk result (λ _. interfaces.new.items ≡ interfaces.old.items ++ flat_map hops_in tables.now) }
+    ensures { IfOk result (λ _. interfaces.new.items
+        ≡ interfaces.old.items ++ flat_map hops_in tables.now) }
 {
     for table in tables {
         push_each(interfaces, table.routes.as_slice())?;
@@ -34,7 +35,8 @@ fn push_hops(interfaces: &mut Vec<Symbol>, tables: &[Table]) -> Result<(), Alloc
 }
 
 fn push_each(interfaces: &mut Vec<Symbol>, routes: &[Route]) -> Result<(), AllocError>
-    ensures { IfOk result (λ _. interfaces.new.items ≡ interfaces.old.items ++ flat_map hops_of routes.now) }
+    ensures { IfOk result (λ _. interfaces.new.items
+        ≡ interfaces.old.items ++ flat_map hops_of routes.now) }
 {
     for route in routes {
         if let Some(hops) = &route.hops {

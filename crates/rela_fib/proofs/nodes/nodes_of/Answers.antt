@@ -1,5 +1,5 @@
 use Rattle.std.proofs.Common.{◌∙◌}
-use Rattle.rela_fib.proofs.Graphs.{nodes_are}
+use Rattle.rela_fib.proofs.Found.{nodes_are}
 use Rattle.rela_fib.proofs.nodes.nodes_of.Goals as goal
 
 pub returns : goal.returns

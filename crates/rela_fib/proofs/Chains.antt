@@ -1,0 +1,96 @@
+-- Pieces that are put behind one another, and the flow of a class.
+use Rattle.std.proofs.Common.{◌≡◌, ◌∙◌, refl, sym, ap, subst, ℕ, ◌<◌, ◌≤◌, Bool, true, false, ltb-true, ltb-false, List, [], ◌∷◌, ◌++◌, length, append_assoc, arith}
+use Rattle.std.specs.Prelude.{codes, nat_lt, get_or, Result, Ok, Err, IfOk, OnOk}
+use Rattle.std.proofs.lemmas.List.{get_or-map}
+use Rattle.json.specs.Print.{escape}
+use Rattle.rela_names.specs.declared.level.Level.TheVariants.{Interface}
+use Rattle.rela_locations.specs.Network.{Network, alphabet_of, name_of}
+use Rattle.serde_json.specs.Data.{string}
+use Rattle.serde_json.specs.Written.{comma_if, compact_text}
+use Rattle.rela_flows.specs.Notation.{text_of}
+use Rattle.rela_flows.specs.declared.prefix.Ipv4Prefix.{Ipv4Prefix}
+use Rattle.rela_flows.specs.declared.prefix.Prefix.TheVariants.{V4}
+use Rattle.rela_fib.specs.Graph.{Graph}
+use Rattle.rela_fib.specs.Steps.{AreStepsAt, graph_of}
+use Rattle.rela_fib.specs.Text.{Flow, edge_data, list_data, names_of, numbers_data}
+use Rattle.rela_fib.specs.Writing.{AddsFlow, HasManySteps, IsSteppedFlow, end_text, ends_text, flow_text, key_text, middle_text, plain_text}
+use Rattle.rela_fib.specs.declared.devices.Devices.{Devices}
+use Rattle.rela_fib.specs.declared.step.Step.{Step}
+
+pub append2 : (t0 t1 t2 a b : List ℕ) → t1 ≡ t0 ++ a → t2 ≡ t1 ++ b → t2 ≡ t0 ++ (a ++ b)
+append2 t0 t1 t2 a b one two = two ∙ ap (λ (t : List ℕ). t ++ b) one ∙ append_assoc t0 a b
+
+pub append3 : (t0 t1 t2 t3 a b c : List ℕ) → t1 ≡ t0 ++ a → t2 ≡ t1 ++ b → t3 ≡ t2 ++ c → t3 ≡ t0 ++ (a ++ (b ++ c))
+append3 t0 t1 t2 t3 a b c one two three = append2 t0 t1 t3 a (b ++ c) one (append2 t1 t2 t3 b c two three)
+
+pub append4 : (t0 t1 t2 t3 t4 a b c d : List ℕ) → t1 ≡ t0 ++ a → t2 ≡ t1 ++ b → t3 ≡ t2 ++ c → t4 ≡ t3 ++ d → t4 ≡ t0 ++ (a ++ (b ++ (c ++ d)))
+append4 t0 t1 t2 t3 t4 a b c d one two three four = append2 t0 t1 t4 a (b ++ (c ++ d)) one (append3 t1 t2 t3 t4 b c d two three four)
+
+pub append5 : (t0 t1 t2 t3 t4 t5 a b c d e : List ℕ) → t1 ≡ t0 ++ a → t2 ≡ t1 ++ b → t3 ≡ t2 ++ c → t4 ≡ t3 ++ d → t5 ≡ t4 ++ e → t5 ≡ t0 ++ (a ++ (b ++ (c ++ (d ++ e))))
+append5 t0 t1 t2 t3 t4 t5 a b c d e one two three four five = append2 t0 t1 t5 a (b ++ (c ++ (d ++ e))) one (append4 t1 t2 t3 t4 t5 b c d e two three four five)
+
+pub append6 : (t0 t1 t2 t3 t4 t5 t6 a b c d e f : List ℕ) → t1 ≡ t0 ++ a → t2 ≡ t1 ++ b → t3 ≡ t2 ++ c → t4 ≡ t3 ++ d → t5 ≡ t4 ++ e → t6 ≡ t5 ++ f → t6 ≡ t0 ++ (a ++ (b ++ (c ++ (d ++ (e ++ f)))))
+append6 t0 t1 t2 t3 t4 t5 t6 a b c d e f one two three four five six = append2 t0 t1 t6 a (b ++ (c ++ (d ++ (e ++ f)))) one (append5 t1 t2 t3 t4 t5 t6 b c d e f two three four five six)
+
+-- ---- the flow of a class
+
+stepped_by : (d : Devices) (class : Ipv4Prefix) (steps : List Step) → AreStepsAt d class.address steps → nat_lt 100000 (length (graph_of steps).edges) ≡ false → IsSteppedFlow d (record { class = class; graph = graph_of steps })
+stepped_by d class steps are few = record { steps = steps; steps_are = are; graph_is = refl; few = ltb-false 100000 (length (graph_of steps).edges) few }
+
+pub flow_skipped : (d : Devices) (end : List ℕ) (class : Ipv4Prefix) (later : Bool) (text : List ℕ) (steps : List Step) → AreStepsAt d class.address steps → nat_lt 100000 (length (graph_of steps).edges) ≡ false → 33554432 < length text → AddsFlow d end class later text text
+flow_skipped d end class later text steps are few long = record {
+  flow = record { class = class; graph = graph_of steps };
+  class_is = refl;
+  stepped = stepped_by d class steps are few;
+  added = record { long = λ _. refl; short = λ short. absurd (omega (arith, long, short)) };
+}
+
+pub flow_added : (d : Devices) (end : List ℕ) (class : Ipv4Prefix) (later : Bool) (text comma new : List ℕ) (graph : Graph) (steps : List Step) → AreStepsAt d class.address steps → nat_lt 100000 (length (graph_of steps).edges) ≡ false → length text ≤ 33554432
+    → graph ≡ graph_of steps → comma ≡ text ++ comma_if later → new ≡ comma ++ flow_text end (record { class = class; graph = graph }) → AddsFlow d end class later text new
+flow_added d end class later text comma new graph steps are few short same one two = record {
+  flow = record { class = class; graph = graph_of steps };
+  class_is = refl;
+  stepped = stepped_by d class steps are few;
+  added = record {
+    long = λ long. absurd (omega (arith, long, short));
+    short = λ _. subst (λ (g : Graph). new ≡ text ++ (comma_if later ++ flow_text end (record { class = class; graph = g }))) same (append2 text comma new (comma_if later) (flow_text end (record { class = class; graph = graph })) one two);
+  };
+}
+
+pub too_many_steps : (d : Devices) (class : Ipv4Prefix) (steps : List Step) → AreStepsAt d class.address steps → nat_lt 100000 (length (graph_of steps).edges) ≡ true → HasManySteps d class
+too_many_steps d class steps are many = record { steps = steps; steps_are = are; many = ltb-true 100000 (length (graph_of steps).edges) many }
+
+-- ---- the parts of a flow
+
+pub ends_written : (t0 t1 t2 t3 t4 t5 ds ps : List ℕ) (g : Graph) → ds ≡ g.delivered → ps ≡ g.dropped → t1 ≡ t0 ++ 123 ∷ [] → t2 ≡ t1 ++ key_text false (codes "delivered") → t3 ≡ t2 ++ compact_text (numbers_data ds) → t4 ≡ t3 ++ key_text true (codes "dropped") → t5 ≡ t4 ++ compact_text (numbers_data ps) → t5 ≡ t0 ++ ends_text g
+ends_written t0 t1 t2 t3 t4 t5 ds ps g same_d same_p one two three four five =
+    append5 t0 t1 t2 t3 t4 t5 (123 ∷ []) (key_text false (codes "delivered")) (compact_text (numbers_data g.delivered)) (key_text true (codes "dropped")) (compact_text (numbers_data g.dropped)) one two
+    (three ∙ ap (λ (ns : List ℕ). t2 ++ compact_text (numbers_data ns)) same_d) four (five ∙ ap (λ (ns : List ℕ). t4 ++ compact_text (numbers_data ns)) same_p)
+
+pub middle_written : (t0 t1 t2 t3 t4 t5 t6 name name' : List ℕ) (es : List (ℕ × ℕ)) (flow : Flow) → name ≡ text_of (V4 flow.class) → name' ≡ text_of (V4 flow.class) → es ≡ flow.graph.edges
+    → t1 ≡ t0 ++ key_text true (codes "dst") → t2 ≡ t1 ++ plain_text name → t3 ≡ t2 ++ key_text true (codes "edges") → t4 ≡ t3 ++ compact_text (list_data edge_data es) → t5 ≡ t4 ++ key_text true (codes "name") → t6 ≡ t5 ++ plain_text name' → t6 ≡ t0 ++ middle_text flow
+middle_written t0 t1 t2 t3 t4 t5 t6 name name' es flow same same' edges one two three four five six =
+    append6 t0 t1 t2 t3 t4 t5 t6 (key_text true (codes "dst")) (plain_text (text_of (V4 flow.class))) (key_text true (codes "edges")) (compact_text (list_data edge_data flow.graph.edges)) (key_text true (codes "name")) (plain_text (text_of (V4 flow.class))) one
+    (two ∙ ap (λ (s : List ℕ). t1 ++ plain_text s) same) three (four ∙ ap (λ (xs : List (ℕ × ℕ)). t3 ++ compact_text (list_data edge_data xs)) edges) five (six ∙ ap (λ (s : List ℕ). t5 ++ plain_text s) same')
+
+pub end_written : (t0 t1 t2 t3 t4 t5 : List ℕ) (names : List (List ℕ)) (starts : List ℕ) → t0 ≡ [] → t1 ≡ t0 ++ key_text true (codes "nodes") → t2 ≡ t1 ++ compact_text (list_data string names) → t3 ≡ t2 ++ key_text true (codes "starts") → t4 ≡ t3 ++ compact_text (numbers_data starts) → t5 ≡ t4 ++ 125 ∷ [] → t5 ≡ end_text names starts
+end_written t0 t1 t2 t3 t4 t5 names starts none one two three four five =
+    append5 t0 t1 t2 t3 t4 t5 (key_text true (codes "nodes")) (compact_text (list_data string names)) (key_text true (codes "starts")) (compact_text (numbers_data starts)) (125 ∷ []) one two three four five
+    ∙ ap (λ (t : List ℕ). t ++ end_text names starts) none
+
+-- ---- the name of a node
+
+pub name_entry : (network : Network) (nodes : List ℕ) (i : ℕ) (s : List ℕ) (names : List (List ℕ)) → i < length nodes → names ≡ alphabet_of Interface network → s ≡ get_or names (get_or nodes i 0) [] → escape s ≡ s → plain_text s ≡ compact_text (string (get_or (names_of network nodes) i []))
+name_entry network nodes i s names lt known is plain =
+    let same : s ≡ get_or (names_of network nodes) i [] = is ∙ ap (λ (ns : List (List ℕ)). get_or ns (get_or nodes i 0) []) known ∙ sym (get_or-map (name_of Interface network) nodes i 0 [] lt) in
+    ap (λ (t : List ℕ). 34 ∷ (t ++ 34 ∷ [])) (sym plain ∙ ap escape same)
+
+-- ---- results
+
+pub if_ok_weaker : {T E : Type 0} (r : Result T E) (P Q : T → Type 0) → ((t : T) → P t → Q t) → IfOk r P → IfOk r Q
+if_ok_weaker (Ok x) P Q f h = f x h
+if_ok_weaker (Err e) P Q f h = tt
+
+pub on_ok_from : {T E : Type 0} (r : Result T E) (P : T → Type 0) (Q : Type 0) → ((t : T) → P t → Q) → IfOk r P → OnOk r Q
+on_ok_from (Ok x) P Q f h = f x h
+on_ok_from (Err e) P Q f h = tt

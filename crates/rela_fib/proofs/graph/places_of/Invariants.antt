@@ -1,6 +1,0 @@
-use Rattle.std.proofs.Common.{take}
-use Rattle.rela_fib.proofs.Graphs.{IsFound}
-use Rattle.rela_fib.proofs.graph.places_of.Given as goal
-
-abbrev pub invariant-loop-interface : goal.invariant-loop-interface
-invariant-loop-interface l = IsFound l.nodes (take l.interface-index l.interfaces) l.places.items

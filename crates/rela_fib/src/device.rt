@@ -1,0 +1,86 @@
+//! A device, and what it does by each of its routes.
+
+ghost use Rattle.std.specs.Prelude.{◌≡◌, ◌<◌, ◌^◌, IfOk, length, map};
+ghost use Rattle.std.specs.List.{AllZip};
+ghost use Rattle.std.specs.List.Sorted.{IsStrictlyIncreasing};
+ghost use Rattle.rela_fib.specs.Prefixes.{prefixes_of};
+ghost use Rattle.rela_fib.specs.Steps.{IsDevice, IsStepAt, AreStepsBy};
+
+use crate::step::Step;
+use rela_flows::Ipv4Prefix;
+use rela_names::Symbol;
+use rela_prefixes::PrefixTable;
+use rela_tables::Route;
+use std::alloc::{AllocError, Global};
+
+/// A device, with what it does by each of its routes.
+#[derive(Drop)]
+pub(crate) struct Device {
+    /// Finds the longest of the routes' prefixes.
+    pub(crate) prefixes: PrefixTable,
+    /// What is done by each route, in the order of the table.
+    pub(crate) steps: Vec<Step>,
+    /// What is done where no route is chosen.
+    pub(crate) otherwise: Step,
+}
+
+impl Device {
+    /// The device of these routes, in time and space linear in the number of routes times the 32
+    /// bits of an address, and n log n in the number of their hops.
+    ///
+    /// # Errors
+    ///
+    /// Only where memory is wanted.
+    pub(crate) fn new(
+        alloc: Global,
+        nodes: &[Symbol],
+        routes: &[Route],
+    ) -> Result<Device, AllocError>
+        requires few { length nodes.now < 2 ^ 32 }
+        requires few_routes { length routes.now < 2 ^ 32 }
+        requires ascending { IsStrictlyIncreasing nodes.now }
+        ensures { IfOk result (IsDevice nodes.now routes.now) }
+    {
+        let steps = steps_by(alloc, nodes, routes)?;
+        let prefixes = prefixes_of(alloc, routes)?;
+        let prefixes = PrefixTable::new(alloc, prefixes)?;
+        Ok(Device {
+            prefixes,
+            steps,
+            otherwise: Step::without_route(alloc),
+        })
+    }
+
+    /// What the device does with the packets to an address, in a number of steps that is
+    /// logarithmic in the number of its routes.
+    pub(crate) fn step(&self, address: u32) -> &Step
+        requires { length self.now.prefixes ≡ length self.now.steps.items }
+        ensures { IsStepAt self.now address result.now }
+    {
+        match self.prefixes.longest(address) {
+            Some(place) => &self.steps[place as usize],
+            None => &self.otherwise,
+        }
+    }
+}
+
+/// What is done by each of these routes.
+fn steps_by(alloc: Global, nodes: &[Symbol], routes: &[Route]) -> Result<Vec<Step>, AllocError>
+    requires few { length nodes.now < 2 ^ 32 }
+    requires ascending { IsStrictlyIncreasing nodes.now }
+    ensures { IfOk result (λ steps. AreStepsBy nodes.now routes.now steps.items) }
+{
+    let mut steps = Vec::with_capacity(alloc, routes.len())?;
+    for route in routes {
+        let step = Step::by_route(alloc, nodes, route)?;
+        steps.push(step)?;
+    }
+    Ok(steps)
+}
+
+/// The prefixes of these routes.
+fn prefixes_of(alloc: Global, routes: &[Route]) -> Result<Vec<Ipv4Prefix>, AllocError>
+    ensures { IfOk result (λ found. found.items ≡ prefixes_of routes.now) }
+{
+    routes.iter().map(|route| route.prefix).collect(alloc)
+}

@@ -1,0 +1,40 @@
+//! Why no snapshot is written.
+
+ghost use Rattle.std.specs.Prelude.{◌≡◌};
+
+use std::alloc::{AllocError, AllocFailed};
+use thiserror::Error;
+
+/// Why no snapshot is written.
+#[derive(Debug, PartialEq, Eq, Drop, Error)]
+pub enum FibError {
+    /// There are more nodes or classes than a snapshot may have, or a graph has more edges.
+    #[error("a snapshot has at most 10,000 nodes and flows, and 100,000 edges a flow")]
+    TooMany,
+    /// The text is longer than a snapshot may be.
+    #[error("a snapshot has at most 33,554,432 bytes")]
+    TooLong,
+    /// Memory is wanted.
+    #[error("out of memory")]
+    Memory,
+}
+
+impl From<AllocError> for FibError {
+    ghost use Rattle.rela_fib.specs.declared.error.FibError.TheVariants.{Memory};
+
+    ghost from_gives = { λ _ e. e ≡ Memory };
+
+    fn from(_error: AllocError) -> FibError {
+        FibError::Memory
+    }
+}
+
+impl<T: Drop> From<AllocFailed<T>> for FibError {
+    ghost use Rattle.rela_fib.specs.declared.error.FibError.TheVariants.{Memory};
+
+    ghost from_gives = { λ _ e. e ≡ Memory };
+
+    fn from(_error: AllocFailed<T>) -> FibError {
+        FibError::Memory
+    }
+}

@@ -1,0 +1,166 @@
+//! The text of a snapshot.
+
+ghost use Rattle.std.specs.Prelude.{◌≡◌, ◌≢◌, ◌<◌, ◌^◌, ◌++◌, Err, IfOk, OnOk, length};
+ghost use Rattle.rela_fib.specs.Steps.{IsMatched, drawn};
+ghost use Rattle.rela_fib.specs.Text.{names_of};
+ghost use Rattle.rela_fib.specs.Writing.{AddsFlow, AddsFlows, HasManySteps, HasManyStepsIn, IsWhole, IsWholeTooLong, end_text, ends_text, flow_text, middle_text};
+
+use crate::devices::Devices;
+use crate::error::FibError;
+use crate::graph::{ForwardingGraph, graph_of, has_many_edges};
+use crate::pieces::{push_comma, push_edges, push_key, push_names, push_numbers, push_plain};
+use rela_flows::{Ipv4Prefix, Prefix};
+use rela_locations::Locations;
+use rela_names::Symbol;
+use std::alloc::{AllocError, Global};
+
+/// The greatest number of bytes of a snapshot.
+const MAX_BYTES: usize = 33_554_432;
+
+/// The text of the snapshot that has a flow for each of these classes, which all end in `end`. It
+/// takes time linear in the text, and a look of each device at each class.
+///
+/// # Errors
+///
+/// `TooMany` where the graph of a class has more than 100,000 edges; else `TooLong` where the text
+/// would have more than 33,554,432 bytes; `Memory`.
+pub(crate) fn text_of(
+    alloc: Global,
+    devices: &Devices,
+    classes: &[Ipv4Prefix],
+    end: &[u8],
+) -> Result<Vec<u8>, FibError>
+    requires matched { IsMatched devices.now }
+    requires few { length devices.now.of_nodes.items < 2 ^ 32 }
+    ensures text { IfOk result (λ text. IsWhole devices.now end.now classes.now text.items) }
+    ensures too_many { result ≡ Err FibError.TooMany → HasManyStepsIn devices.now classes.now }
+    ensures too_long { result ≡ Err FibError.TooLong
+        → IsWholeTooLong devices.now end.now classes.now }
+{
+    let mut text = Vec::new(alloc);
+    text.extend_from_slice(b"{\"flows\":[")?;
+    push_flows(alloc, &mut text, devices, classes, end)?;
+    text.extend_from_slice(b"],\"version\":1}\n")?;
+    if text.len() > MAX_BYTES {
+        return Err(FibError::TooLong);
+    }
+    Ok(text)
+}
+
+/// Adds the flows of these classes, until the text is too long.
+fn push_flows(
+    alloc: Global,
+    text: &mut Vec<u8>,
+    devices: &Devices,
+    classes: &[Ipv4Prefix],
+    end: &[u8],
+) -> Result<(), FibError>
+    requires matched { IsMatched devices.now }
+    requires few { length devices.now.of_nodes.items < 2 ^ 32 }
+    ensures flows { OnOk result
+        (AddsFlows devices.now end.now classes.now text.old.items text.new.items) }
+    ensures too_many { result ≡ Err FibError.TooMany → HasManyStepsIn devices.now classes.now }
+    ensures not_long { result ≢ Err FibError.TooLong }
+{
+    for (place, class) in classes.iter().enumerate() {
+        push_class(alloc, text, devices, *class, place > 0, end)?;
+    }
+    Ok(())
+}
+
+/// Adds the flow of a class, unless the text is too long.
+fn push_class(
+    alloc: Global,
+    text: &mut Vec<u8>,
+    devices: &Devices,
+    class: Ipv4Prefix,
+    later: bool,
+    end: &[u8],
+) -> Result<(), FibError>
+    requires matched { IsMatched devices.now }
+    requires few { length devices.now.of_nodes.items < 2 ^ 32 }
+    ensures flow { OnOk result
+        (AddsFlow devices.now end.now class later text.old.items text.new.items) }
+    ensures too_many { result ≡ Err FibError.TooMany → HasManySteps devices.now class }
+    ensures not_long { result ≢ Err FibError.TooLong }
+{
+    let steps = devices.steps(alloc, class.address)?;
+    if has_many_edges(steps.as_slice()) {
+        return Err(FibError::TooMany);
+    }
+    if text.len() > MAX_BYTES {
+        return Ok(());
+    }
+    let graph = graph_of(alloc, steps.as_slice())?;
+    push_comma(text, later)?;
+    push_flow(alloc, text, class, &graph, end)?;
+    Ok(())
+}
+
+/// Adds a flow.
+fn push_flow(
+    alloc: Global,
+    text: &mut Vec<u8>,
+    class: Ipv4Prefix,
+    graph: &ForwardingGraph,
+    end: &[u8],
+) -> Result<(), AllocError>
+    ensures { OnOk result (text.new.items
+        ≡ text.old.items ++ flow_text end.now (record { class = class; graph = drawn graph.now })) }
+{
+    push_ends(text, graph)?;
+    push_middle(alloc, text, class, graph)?;
+    text.extend_from_slice(end)?;
+    Ok(())
+}
+
+/// Adds the ends of the paths.
+fn push_ends(text: &mut Vec<u8>, graph: &ForwardingGraph) -> Result<(), AllocError>
+    ensures { OnOk result (text.new.items ≡ text.old.items ++ ends_text (drawn graph.now)) }
+{
+    text.push(b'{')?;
+    push_key(text, false, b"delivered")?;
+    push_numbers(text, graph.delivered.as_slice())?;
+    push_key(text, true, b"dropped")?;
+    push_numbers(text, graph.dropped.as_slice())?;
+    Ok(())
+}
+
+/// Adds the class and the edges.
+fn push_middle(
+    alloc: Global,
+    text: &mut Vec<u8>,
+    class: Ipv4Prefix,
+    graph: &ForwardingGraph,
+) -> Result<(), AllocError>
+    ensures { OnOk result (text.new.items
+        ≡ text.old.items ++ middle_text (record { class = class; graph = drawn graph.now })) }
+{
+    let name = Prefix::V4(class).text(alloc)?;
+    push_key(text, true, b"dst")?;
+    push_plain(text, name.as_slice())?;
+    push_key(text, true, b"edges")?;
+    push_edges(text, graph.edges.as_slice())?;
+    push_key(text, true, b"name")?;
+    push_plain(text, name.as_slice())?;
+    Ok(())
+}
+
+/// What ends each flow: the nodes and the starts.
+pub(crate) fn end_of(
+    alloc: Global,
+    locations: &Locations,
+    nodes: &[Symbol],
+    starts: &[u32],
+) -> Result<Vec<u8>, AllocError>
+    ensures { IfOk result (λ end. end.items
+        ≡ end_text (names_of locations.now nodes.now) starts.now) }
+{
+    let mut end = Vec::new(alloc);
+    push_key(&mut end, true, b"nodes")?;
+    push_names(&mut end, locations, nodes)?;
+    push_key(&mut end, true, b"starts")?;
+    push_numbers(&mut end, starts)?;
+    end.push(b'}')?;
+    Ok(end)
+}
