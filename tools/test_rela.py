@@ -47,6 +47,9 @@ def passes_on(copy):
     holds("status 2 has the words on standard error", (status, out) == (2, ANSWER) and "BEFORE AFTER" in err)
     gone = copy.run("check", "x", "gone", "x", "status")
     holds("status 5 names the operand", gone == (5, ANSWER, "rela: AFTER can't be opened: gone\n", []))
+    holds("options are no operands", copy.run("check", "--states", "5", "x", "x", "x", "status") == (0, ANSWER, "", []))
+    gone = copy.run("check", "--states", "5", "x", "gone", "x", "status")
+    holds("status 5 names the operand behind an option", gone == (5, ANSWER, "rela: AFTER can't be opened: gone\n", []))
     closed = copy.run("check", preexec_fn=lambda: os.close(2))
     holds("a closed standard error changes nothing", closed[:2] == (2, ANSWER))
 

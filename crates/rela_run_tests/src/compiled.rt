@@ -19,6 +19,9 @@ const PRESERVE: &[u8] = b"level device; check c1 : { .* : preserve };";
 
 const REPLACE: &[u8] = b"level device; check c1 : { .* : replace(r1 r3, r1 r2) };";
 
+/// The words whose eleventh symbol from the end isn't r1.
+const COMPLEMENT: &[u8] = b"level device; check c1 : { !(.* r1 .{10}) : preserve };";
+
 /// The check that the text asks for, as the last one.
 fn check_of(rt: &impl Abort, alloc: Global, text: &[u8]) -> Result<Check, Fail> {
     assert!(rt; text.len() <= 1_000);
@@ -48,7 +51,7 @@ fn compiles_what_asks_for_no_change(rt: HostRuntime) -> Result<(), Fail> {
     let alphabet = locations.alphabet(Level::Device);
     let check = check_of(&rt, alloc, PRESERVE)?;
     assert!(rt; are_listed(check.classes(), alphabet));
-    let compiled = compile(alloc, &check, alphabet)?;
+    let compiled = compile(alloc, &check, alphabet, 1_000)?;
     assert!(rt; compiled.complete());
     assert!(rt; compiled.treats_sides_alike());
     // The locations, drop and loop.
@@ -65,12 +68,27 @@ fn compiles_what_asks_for_a_change(rt: HostRuntime) -> Result<(), Fail> {
     let alphabet = locations.alphabet(Level::Device);
     let check = check_of(&rt, alloc, REPLACE)?;
     assert!(rt; are_listed(check.classes(), alphabet));
-    let compiled = compile(alloc, &check, alphabet)?;
+    let compiled = compile(alloc, &check, alphabet, 1_000)?;
+    assert!(rt; compiled.complete());
     assert!(rt; !compiled.treats_sides_alike());
     // r1, r2, r3, r4, drop and loop.
     assert_eq!(rt; compiled.blocks().blocks(), 6);
     assert!(rt; compiled.before().relates(alloc, &[0, 2], &[0, 1])?);
     assert!(rt; !compiled.before().relates(alloc, &[0, 2], &[0, 2])?);
     assert!(rt; compiled.after().relates(alloc, &[0, 1], &[0, 1])?);
+    Ok(())
+}
+
+// The complement tells 2,048 words apart by how they may go on.
+#[test]
+fn leaves_a_check_open_past_the_limit(rt: HostRuntime) -> Result<(), Fail> {
+    let alloc = rt.alloc();
+    let locations = network(alloc)?;
+    let alphabet = locations.alphabet(Level::Device);
+    let check = check_of(&rt, alloc, COMPLEMENT)?;
+    assert!(rt; are_listed(check.classes(), alphabet));
+    let compiled = compile(alloc, &check, alphabet, 1_000)?;
+    assert_eq!(rt; compiled.states(), 1_000);
+    assert!(rt; !compiled.complete());
     Ok(())
 }

@@ -1,7 +1,7 @@
 //! Runs over files and sinks in memory, with the answers of a small network.
 
 use rela_io::{MemoryFile, MemoryFiles, MemorySink};
-use rela_top::{BAD_WORDS, MET, READ_FAULT, REFUSED, VIOLATED, WRITE_FAULT, run};
+use rela_top::{BAD_WORDS, MET, READ_FAULT, REFUSED, UNDECIDED, VIOLATED, WRITE_FAULT, run};
 use std::alloc::{AllocError, Global};
 use std::test::Fail;
 
@@ -18,6 +18,15 @@ const KEEP: &str = "check c1 : { r1:0 r2:0 r4:0 r4:1 : preserve };";
 
 const COMPLIANT: &str =
     "flow f1 check c1 compliant\ntotal 1 compliant 1 violated 0 undecided 0 unselected 0\n";
+
+/// A check of the words whose eleventh symbol from the end isn't r1. These tell 2,048 words apart by
+/// how they may go on.
+const COMPLEMENT: &str = "level device; check c1 : { !(.* r1 .{10}) : preserve };";
+
+const OPEN: &str =
+    "flow f1 check c1 undecided\ntotal 1 compliant 0 violated 0 undecided 1 unselected 0\n";
+
+const UNREAD: &str = "rela: bad command line\n";
 
 const LOST: &str =
     "flow f1 check c1 violated\n  missing: r1:0 r2:0 r4:0 r4:1\n  before: r1:0 r2:0 r4:0 r4:1\ntotal 1 compliant 0 violated 1 undecided 0 unselected 0\n";
@@ -167,13 +176,122 @@ fn writes_the_canonical_text(rt: HostRuntime) -> Result<(), Fail> {
     Ok(())
 }
 
+// The status and the text of a check of a flow that stays as it is, for these words.
+fn answer_to(alloc: Global, words: &[&str], spec: &str) -> Result<(u8, MemorySink), AllocError> {
+    let mut files = MemoryFiles::new(files(alloc, OVER_R2, spec)?, Vec::new(alloc), 1_000_000);
+    let mut out = MemorySink::new(alloc, 1_000, Vec::new(alloc), 1_000)?;
+    let words = strings(alloc, words)?;
+    let status = run(alloc, &words, &mut files, &mut out);
+    Ok((status, out))
+}
+
+#[test]
+fn keeps_to_the_limit(rt: HostRuntime) -> Result<(), Fail> {
+    let alloc = rt.alloc();
+    for (words, spec, wanted, text) in [
+        (
+            [
+                "check",
+                "--states",
+                "10",
+                "before",
+                "after",
+                "locations",
+                "spec",
+            ]
+            .as_slice(),
+            KEEP,
+            MET,
+            COMPLIANT,
+        ),
+        (
+            [
+                "check",
+                "before",
+                "after",
+                "locations",
+                "spec",
+                "--states=5",
+            ]
+            .as_slice(),
+            KEEP,
+            MET,
+            COMPLIANT,
+        ),
+        (
+            [
+                "check",
+                "before",
+                "--states=1000",
+                "after",
+                "--",
+                "locations",
+                "spec",
+            ]
+            .as_slice(),
+            COMPLEMENT,
+            UNDECIDED,
+            OPEN,
+        ),
+    ] {
+        let (status, out) = answer_to(alloc, words, spec)?;
+        assert_eq!(rt; out.taken(), text.as_bytes());
+        assert_eq!(rt; status, wanted);
+    }
+    Ok(())
+}
+
 #[test]
 fn refuses_words(rt: HostRuntime) -> Result<(), Fail> {
     let alloc = rt.alloc();
-    let mut files = MemoryFiles::new(Vec::new(alloc), Vec::new(alloc), 8);
-    let mut out = MemorySink::new(alloc, 1_000, Vec::new(alloc), 1_000)?;
-    let words = strings(alloc, &["frob"])?;
-    assert_eq!(rt; run(alloc, &words, &mut files, &mut out), BAD_WORDS);
-    assert_eq!(rt; out.taken(), b"rela: bad command line\n".as_slice());
+    for words in [
+        ["frob"].as_slice(),
+        ["check", "before", "after", "locations"].as_slice(),
+        [
+            "check",
+            "--states",
+            "0",
+            "before",
+            "after",
+            "locations",
+            "spec",
+        ]
+        .as_slice(),
+        [
+            "check",
+            "--states=4000001",
+            "before",
+            "after",
+            "locations",
+            "spec",
+        ]
+        .as_slice(),
+        [
+            "check",
+            "--states=05",
+            "before",
+            "after",
+            "locations",
+            "spec",
+        ]
+        .as_slice(),
+        [
+            "check",
+            "--states=5",
+            "before",
+            "after",
+            "locations",
+            "spec",
+            "--states=5",
+        ]
+        .as_slice(),
+        ["check", "before", "after", "locations", "spec", "--states"].as_slice(),
+        ["check", "before", "after", "locations", "-spec"].as_slice(),
+        ["fmt", "--states=5", "spec"].as_slice(),
+    ] {
+        let (status, out) = answer_to(alloc, words, KEEP)?;
+        assert_eq!(rt; out.taken(), UNREAD.as_bytes());
+        assert_eq!(rt; status, BAD_WORDS);
+    }
     Ok(())
 }

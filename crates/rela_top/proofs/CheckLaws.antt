@@ -40,60 +40,60 @@ has_flows holds now later command network before after locations same first stil
   second = told holds later command After (ReadsFlows After network) (Ok after) (still ∙ same) second;
 }
 
-pub locations_refused : (holds : Option FilesByName) (command : Command) (refusal : Refusal)
-    → Gives holds command Locations ReadsNetwork (Err refusal) → Checked holds command (Err refusal)
+pub locations_refused : (holds : Option FilesByName) (command : Command) (states : ℕ) (refusal : Refusal)
+    → Gives holds command Locations ReadsNetwork (Err refusal) → Checked holds command states (Err refusal)
 unfolding Checked
-locations_refused holds command refusal locations = (Err refusal, locations, refl)
+locations_refused holds command states refusal locations = (Err refusal, locations, refl)
 
-pub before_refused : (holds : Option FilesByName) (command : Command) (network : Network) (refusal : Refusal)
+pub before_refused : (holds : Option FilesByName) (command : Command) (states : ℕ) (network : Network) (refusal : Refusal)
     → Gives holds command Locations ReadsNetwork (Ok network) → Gives holds command Before (ReadsFlows Before network) (Err refusal)
-    → Checked holds command (Err refusal)
+    → Checked holds command states (Err refusal)
 unfolding Checked
-before_refused holds command network refusal locations before = (Ok network, locations, (Err refusal, before, refl))
+before_refused holds command states network refusal locations before = (Ok network, locations, (Err refusal, before, refl))
 
-pub after_refused : (holds : Option FilesByName) (command : Command) (network : Network) (before : List Flow) (refusal : Refusal)
+pub after_refused : (holds : Option FilesByName) (command : Command) (states : ℕ) (network : Network) (before : List Flow) (refusal : Refusal)
     → Gives holds command Locations ReadsNetwork (Ok network) → Gives holds command Before (ReadsFlows Before network) (Ok before)
-    → Gives holds command After (ReadsFlows After network) (Err refusal) → Checked holds command (Err refusal)
+    → Gives holds command After (ReadsFlows After network) (Err refusal) → Checked holds command states (Err refusal)
 unfolding Checked
-after_refused holds command network before refusal locations flows after = (Ok network, locations, (Ok before, flows, (Err refusal, after, refl)))
+after_refused holds command states network before refusal locations flows after = (Ok network, locations, (Ok before, flows, (Err refusal, after, refl)))
 
-pub pairing_refused : (holds : Option FilesByName) (command : Command) (network : Network) (before after : List Flow) (refusal : Refusal)
-    → HasFlows holds command network before after → ArePaired before after (Err refusal) → Checked holds command (Err refusal)
+pub pairing_refused : (holds : Option FilesByName) (command : Command) (states : ℕ) (network : Network) (before after : List Flow) (refusal : Refusal)
+    → HasFlows holds command network before after → ArePaired before after (Err refusal) → Checked holds command states (Err refusal)
 unfolding Checked
-pairing_refused holds command network before after refusal flows paired =
+pairing_refused holds command states network before after refusal flows paired =
     (Ok network, flows.locations, (Ok before, flows.first, (Ok after, flows.second, (Err refusal, paired, refl))))
 
-pub specification_refused : (holds : Option FilesByName) (command : Command) (network : Network) (before after : List Flow) (pairs : List FlowPair) (refusal : Refusal)
+pub specification_refused : (holds : Option FilesByName) (command : Command) (states : ℕ) (network : Network) (before after : List Flow) (pairs : List FlowPair) (refusal : Refusal)
     → HasFlows holds command network before after → ArePaired before after (Ok pairs)
-    → Gives holds command Spec (ReadsChecks network) (Err refusal) → Checked holds command (Err refusal)
+    → Gives holds command Spec (ReadsChecks network) (Err refusal) → Checked holds command states (Err refusal)
 unfolding Checked
-specification_refused holds command network before after pairs refusal flows paired spec =
+specification_refused holds command states network before after pairs refusal flows paired spec =
     (Ok network, flows.locations, (Ok before, flows.first, (Ok after, flows.second, (Ok pairs, paired, (Err refusal, spec, refl)))))
 
-checked : (holds : Option FilesByName) (command : Command) (network : Network) (before after : List Flow) (pairs : List FlowPair) (specified : Specified) (r : Result Report Refusal)
+checked : (holds : Option FilesByName) (command : Command) (states : ℕ) (network : Network) (before after : List Flow) (pairs : List FlowPair) (specified : Specified) (r : Result Report Refusal)
     → HasFlows holds command network before after → ArePaired before after (Ok pairs)
     → Gives holds command Spec (ReadsChecks network) (Ok specified)
-    → AreRows (alphabet_of specified.level network) specified.checks pairs r → Checked holds command r
+    → AreRows (alphabet_of specified.level network) states specified.checks pairs r → Checked holds command states r
 unfolding Checked
-checked holds command network before after pairs specified r flows paired spec rows =
+checked holds command states network before after pairs specified r flows paired spec rows =
     (Ok network, flows.locations, (Ok before, flows.first, (Ok after, flows.second, (Ok pairs, paired, (Ok specified, spec, rows)))))
 
 -- what tells the rows of the flows tells what the check gives
-pub tells_check : (holds : Option FilesByName) (command : Command) (network : Network) (names : List (List ℕ)) (before after : List Flow) (pairs slice : List FlowPair) (specified : Specified) (checks : List Check)
+pub tells_check : (holds : Option FilesByName) (command : Command) (states : ℕ) (network : Network) (names : List (List ℕ)) (before after : List Flow) (pairs slice : List FlowPair) (specified : Specified) (checks : List Check)
     (text : List ℕ) (status : ℕ) → HasFlows holds command network before after → ArePaired before after (Ok pairs)
     → names ≡ alphabet_of specified.level network → slice ≡ pairs → checks ≡ specified.checks
     → Gives holds command Spec (ReadsChecks network) (Ok specified)
-    → TellsRows names checks slice text status → TellsCheck holds command text status
-tells_check holds command network names before after pairs slice specified checks text status flows paired named same all spec told =
-    let rows : AreRows (alphabet_of specified.level network) checks slice (Ok told.report) =
-    subst (λ (n : List (List ℕ)). AreRows n checks slice (Ok told.report)) named told.rows in
-    let by_all : AreRows (alphabet_of specified.level network) specified.checks slice (Ok told.report) =
-    subst (λ (cs : List Check). AreRows (alphabet_of specified.level network) cs slice (Ok told.report)) all rows in
-    let rows_of : AreRows (alphabet_of specified.level network) specified.checks pairs (Ok told.report) =
-    subst (λ (p : List FlowPair). AreRows (alphabet_of specified.level network) specified.checks p (Ok told.report)) same by_all in
+    → TellsRows names states checks slice text status → TellsCheck holds command states text status
+tells_check holds command states network names before after pairs slice specified checks text status flows paired named same all spec told =
+    let rows : AreRows (alphabet_of specified.level network) states checks slice (Ok told.report) =
+    subst (λ (n : List (List ℕ)). AreRows n states checks slice (Ok told.report)) named told.rows in
+    let by_all : AreRows (alphabet_of specified.level network) states specified.checks slice (Ok told.report) =
+    subst (λ (cs : List Check). AreRows (alphabet_of specified.level network) states cs slice (Ok told.report)) all rows in
+    let rows_of : AreRows (alphabet_of specified.level network) states specified.checks pairs (Ok told.report) =
+    subst (λ (p : List FlowPair). AreRows (alphabet_of specified.level network) states specified.checks p (Ok told.report)) same by_all in
     record {
       report = told.report;
-      checked = checked holds command network before after pairs specified (Ok told.report) flows paired spec rows_of;
+      checked = checked holds command states network before after pairs specified (Ok told.report) flows paired spec rows_of;
       tells = told.tells;
     }
 

@@ -9,5 +9,10 @@ pub mod RowLaws
 pub mod Shown
 pub mod CheckLaws
 pub mod TreeLaws
-pub mod SamePaths
 pub mod Shared
+pub mod WordViews
+pub mod WordsBehind
+pub mod WordsTaken
+pub mod StateNumbers
+pub mod AskedCommands
+pub mod NextOperands

@@ -2,7 +2,11 @@
 use Rattle.std.proofs.Common.{◌≡◌, ℕ, ◌+◌, ◌<◌, ◌≤◌, ◌⊎◌, inl, inr, List, [], ◌∷◌, length, refl, sym, subst, arith}
 use Rattle.std.specs.List.{All}
 use Rattle.std.proofs.lemmas.List.Elements.{All-nil, All-cons, All-append, All-weaker}
-use Rattle.rela_engine.specs.RowOf.{RowOf}
+use Rattle.rela_engine.specs.RowOf.{Says}
+use Rattle.rela_engine.specs.Scenes.{paths_of}
+use Rattle.rela_graph.specs.Paths.{Paths as GraphPaths}
+use Rattle.rela_graph.specs.Topology.{Topology}
+use Rattle.rela_names.specs.declared.level.Level.{Level}
 use Rattle.rela_report.specs.Text.{HasTexts, VerdictHasTexts}
 use Rattle.rela_report.specs.declared.rows.Row.{Row}
 use Rattle.rela_report.specs.declared.rows.Row.TheVariants.{Compliant, Violated, Undecided}
@@ -155,13 +159,13 @@ module _ (classes : List SymbolSet) (n : ℕ) where
   pub outputs : (body : Core) → BodyOutputs body
   outputs = ind-Core BodyOutputs (λ x y is. subst (λ z. BodyOutputs (roll-Core z)) is (layer_outputs y))
 
--- each word that a verdict prints has a text, where each path has
-pub verdict_texts : (names : List (List ℕ)) (check : Check) (pre post : WordSet) (row : Row) → All IsMarker (markers_of check.body)
-    → ((w : List ℕ) → pre w → HasTexts names w) → ((w : List ℕ) → post w → HasTexts names w)
-    → RowOf check (length names) pre post row → VerdictHasTexts names row
-verdict_texts names check pre post Compliant few old new is = tt
-verdict_texts names check pre post (Violated word side.Before source) few old new is =
+-- each word that a verdict prints has a text, where each path of the two graphs has
+pub verdict_texts : (names : List (List ℕ)) (check : Check) (level : Level) (before after : Topology) (limit : ℕ) (row : Row) → All IsMarker (markers_of check.body)
+    → ((w : List ℕ) → GraphPaths before level names w → HasTexts names w) → ((w : List ℕ) → GraphPaths after level names w → HasTexts names w)
+    → Says check (length names) (paths_of level names before after) limit row → VerdictHasTexts names row
+verdict_texts names check level before after limit Compliant few old new is = tt
+verdict_texts names check level before after limit (Violated word side.Before source) few old new is =
     ((outputs check.classes (length names) check.body few).before_shown is.in_image.source word is.in_image.related, old source is.first_source.member.0)
-verdict_texts names check pre post (Violated word side.After source) few old new is =
+verdict_texts names check level before after limit (Violated word side.After source) few old new is =
     ((outputs check.classes (length names) check.body few).after_shown is.in_image.source word is.in_image.related, new source is.first_source.member.0)
-verdict_texts names check pre post Undecided few old new is = absurd is
+verdict_texts names check level before after limit Undecided few old new is = tt

@@ -1,5 +1,5 @@
 -- What a run answers, and how it is written out.
-use Rattle.std.specs.Prelude.{◌≡◌, ℕ, ◌⊎◌, Bool, true, false, nat_lt, List, codes, Option, Some, None, Ok, Err}
+use Rattle.std.specs.Prelude.{◌≡◌, ℕ, ◌⊎◌, Bool, true, false, nat_lt, List, codes, Option, Ok, Err}
 use Rattle.rela_io.specs.Bytes.{after_told, GrewByPart}
 use Rattle.rela_io.specs.Held.{FilesByName}
 use Rattle.rela_report.specs.declared.rows.ReportRow.{ReportRow}
@@ -9,7 +9,7 @@ use Rattle.rela_snapshot.specs.declared.pairing.FlowPair.{FlowPair}
 use Rattle.rela_translate.specs.Checked.{Checked as CheckOf}
 use Rattle.rela_top.specs.Checked.{Report, AreRows, Checked}
 use Rattle.rela_top.specs.Specifications.{Formatted}
-use Rattle.rela_top.specs.Words.{Command, Check, Fmt}
+use Rattle.rela_top.specs.Words.{Command, Check, Fmt, Ask, AskNothing}
 use Rattle.rela_top.specs.declared.refusal.Refusal.{Refusal}
 use Rattle.rela_top.specs.Refusal.{refusal_line}
 use Rattle.rela_top.specs.Reading.{IsRefusalOf, max_file_bytes}
@@ -44,12 +44,13 @@ is_refusing (Printing text) = false
 -- under `fmt`.
 abbrev pub Outcome : Option FilesByName → Command → Answer → Type 0
 Outcome holds command BadWords = ⊥
-Outcome holds (Check before after locations spec) (Refusing refusal) = Checked holds (Check before after locations spec) (Err refusal)
+Outcome holds (Check before after locations spec states) (Refusing refusal) =
+    Checked holds (Check before after locations spec states) states (Err refusal)
 Outcome holds (Fmt spec) (Refusing refusal) = Formatted holds (Fmt spec) (Err refusal)
-Outcome holds (Check before after locations spec) (Reporting names rows) =
-    Checked holds (Check before after locations spec) (Ok (record { names = names; rows = rows }))
+Outcome holds (Check before after locations spec states) (Reporting names rows) =
+    Checked holds (Check before after locations spec states) states (Ok (record { names = names; rows = rows }))
 Outcome holds (Fmt spec) (Reporting names rows) = ⊥
-Outcome holds (Check before after locations spec) (Printing text) = ⊥
+Outcome holds (Check before after locations spec states) (Printing text) = ⊥
 Outcome holds (Fmt spec) (Printing text) = Formatted holds (Fmt spec) (Ok text)
 
 -- a refusal fits what the files of a command gave
@@ -57,11 +58,11 @@ abbrev pub RefusalFits : Option FilesByName → Command → ℕ → Answer → T
 RefusalFits holds command given (Refusing refusal) = IsRefusalOf holds command given refusal
 RefusalFits holds command given other = nat_lt max_file_bytes given ≡ false
 
--- The answer fits what the words ask for and what the file opened last gave: bad words exactly where they weren't read,
--- a refusal as too long exactly where that file gave more bytes than are allowed, and else what the files give.
-abbrev pub Fits : Option Command → Option FilesByName → ℕ → Answer → Type 0
-Fits asked holds given BadWords = asked ≡ None
-Fits asked holds given answer = (command : Command) × (asked ≡ Some command) × RefusalFits holds command given answer × Outcome holds command answer
+-- The answer fits what the words ask for and what the file opened last gave: bad words exactly where they ask for
+-- nothing, a refusal as too long exactly where that file gave more bytes than are allowed, and else what the files give.
+abbrev pub Fits : List (List ℕ) → Option FilesByName → ℕ → Answer → Type 0
+Fits words holds given BadWords = AskNothing words
+Fits words holds given answer = (command : Command) × Ask words command × RefusalFits holds command given answer × Outcome holds command answer
 
 -- The whole text was taken and the status is the answer's, or a write failed after a proper prefix of it.
 abbrev pub Delivers : Option (List ℕ) → Option (List ℕ) → ℕ → List ℕ → ℕ → Type 0
@@ -71,7 +72,8 @@ Delivers old new intended text status =
 -- this text with this status is an answer to this command
 abbrev pub GivenBy : Command → Option FilesByName → ℕ → List ℕ → ℕ → Type 0
 GivenBy command holds given text status =
-    (answer : Answer) × Fits (Some command) holds given answer × (text ≡ answer_text answer) × (status ≡ answer_status answer)
+    (answer : Answer) × RefusalFits holds command given answer × Outcome holds command answer
+    × (text ≡ answer_text answer) × (status ≡ answer_status answer)
 
 -- this text with this status tells this report
 pub record Tells (report : Report) (text : List ℕ) (status : ℕ) : Type 0 where
@@ -79,15 +81,15 @@ pub record Tells (report : Report) (text : List ℕ) (status : ℕ) : Type 0 whe
   pub is_status : status ≡ status_of report.rows
 
 -- this text with this status tells the rows of these flows under these checks
-pub record TellsRows (names : List (List ℕ)) (checks : List CheckOf) (pairs : List FlowPair) (text : List ℕ) (status : ℕ) : Type 0 where
+pub record TellsRows (names : List (List ℕ)) (states : ℕ) (checks : List CheckOf) (pairs : List FlowPair) (text : List ℕ) (status : ℕ) : Type 0 where
   pub report : Report
-  pub rows : AreRows names checks pairs (Ok report)
+  pub rows : AreRows names states checks pairs (Ok report)
   pub tells : Tells report text status
 
 -- this text with this status tells what a check of the files gives
-pub record TellsCheck (holds : Option FilesByName) (command : Command) (text : List ℕ) (status : ℕ) : Type 0 where
+pub record TellsCheck (holds : Option FilesByName) (command : Command) (states : ℕ) (text : List ℕ) (status : ℕ) : Type 0 where
   pub report : Report
-  pub checked : Checked holds command (Ok report)
+  pub checked : Checked holds command states (Ok report)
   pub tells : Tells report text status
 
 -- this text with this status is what the files of the command give, and no refusal
@@ -98,7 +100,7 @@ pub record IsMade (holds : Option FilesByName) (command : Command) (text : List 
   pub is_text : text ≡ answer_text answer
   pub is_status : status ≡ answer_status answer
 
--- What a run asked and was told gives rise to some answer, and that was delivered.
-abbrev pub Answers : Option Command → Option FilesByName → ℕ → Option (List ℕ) → Option (List ℕ) → ℕ → Type 0
-Answers asked holds given old new status =
-    (answer : Answer) × Fits asked holds given answer × Delivers old new (answer_status answer) (answer_text answer) status
+-- What the words ask for and the files told gives rise to some answer, and that was delivered.
+abbrev pub Answers : List (List ℕ) → Option FilesByName → ℕ → Option (List ℕ) → Option (List ℕ) → ℕ → Type 0
+Answers words holds given old new status =
+    (answer : Answer) × Fits words holds given answer × Delivers old new (answer_status answer) (answer_text answer) status

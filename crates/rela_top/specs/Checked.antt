@@ -33,14 +33,16 @@ unfoldable pub ArePaired : List Flow → List Flow → Result (List FlowPair) Re
 ArePaired before after r = (x : Result (List FlowPair) PairError) × Pairing before after x × IsPairedAs x r
 
 -- the rows of the flows under the checks, with the names of the locations
-unfoldable pub AreRows : List (List ℕ) → List Check → List FlowPair → Result Report Refusal → Type 0
-AreRows names checks pairs r = (rows : List ReportRow) × AreRowsOf names checks pairs rows × (r ≡ Ok (record { names = names; rows = rows }))
+unfoldable pub AreRows : List (List ℕ) → ℕ → List Check → List FlowPair → Result Report Refusal → Type 0
+AreRows names states checks pairs r =
+    (rows : List ReportRow) × AreRowsOf names states checks pairs rows × (r ≡ Ok (record { names = names; rows = rows }))
 
-unfoldable pub Checked : Option FilesByName → Command → Result Report Refusal → Type 0
-Checked holds command = do
+-- under this state limit
+unfoldable pub Checked : Option FilesByName → Command → ℕ → Result Report Refusal → Type 0
+Checked holds command states = do
   network ← Gives holds command Locations ReadsNetwork
   before ← Gives holds command Before (ReadsFlows Before network)
   after ← Gives holds command After (ReadsFlows After network)
   pairs ← ArePaired before after
   specified ← Gives holds command Spec (ReadsChecks network)
-  AreRows (alphabet_of specified.level network) specified.checks pairs
+  AreRows (alphabet_of specified.level network) states specified.checks pairs

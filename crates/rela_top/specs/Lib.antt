@@ -1,5 +1,6 @@
 pub mod Words
 pub mod Commands
+pub mod Arguments
 pub mod Refusal
 pub mod Answer
 pub mod Reading

@@ -2,7 +2,7 @@
 use Rattle.std.specs.Prelude.{◌≡◌, ℕ, ◌<◌, Bool, true, false, nat_lt, List, length, Option, IfSome}
 use Rattle.rela_io.specs.Count.{Rose}
 use Rattle.rela_io.specs.Held.{FilesByName, HoldsName}
-use Rattle.rela_top.specs.Words.{Command, Check, Fmt}
+use Rattle.rela_top.specs.Words.{Command, Check, Fmt, Ask}
 use Rattle.rela_top.specs.declared.refusal.Input.{Input}
 use Rattle.rela_top.specs.declared.refusal.Input.TheVariants.{Locations, Before, After, Spec}
 use Rattle.rela_top.specs.declared.refusal.Refusal.{Refusal}
@@ -16,15 +16,19 @@ max_file_bytes = 33554432
 
 -- the name under which this input of the command stands; `fmt` has one input alone
 abbrev pub name_of : Command → Input → List ℕ
-name_of (Check before after locations spec) Locations = locations
-name_of (Check before after locations spec) Before = before
-name_of (Check before after locations spec) After = after
-name_of (Check before after locations spec) Spec = spec
+name_of (Check before after locations spec states) Locations = locations
+name_of (Check before after locations spec states) Before = before
+name_of (Check before after locations spec states) After = after
+name_of (Check before after locations spec states) Spec = spec
 name_of (Fmt spec) input = spec
 
 -- it is told that each file of the command is there
 abbrev pub HoldsFiles : Option FilesByName → Command → Type 0
 HoldsFiles holds command = (input : Input) → HoldsName holds (name_of command input)
+
+-- and of each command that the words ask for
+abbrev pub HoldsAsked : Option FilesByName → List (List ℕ) → Type 0
+HoldsAsked holds words = (command : Command) → Ask words command → HoldsFiles holds command
 
 -- it isn't told that the file has as many bytes as are allowed, or fewer
 abbrev pub IsLong : Option FilesByName → List ℕ → Type 0

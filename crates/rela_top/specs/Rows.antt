@@ -1,11 +1,12 @@
--- The rows of a report: flow after flow, one for each check that selects the flow, or one alone.
+-- The rows of a report: flow after flow, one for each check that selects the flow, or one alone. `names` are the
+-- locations of the checks' level, and `states` is the state limit.
 use Rattle.std.specs.Prelude.{◌≡◌, ℕ, ◌<◌, List, length, map, slice_get, IsSomeAnd, All}
 use Rattle.std.specs.List.{AllZip}
 use Rattle.rela_engine.specs.RowOf.{RowOf}
+use Rattle.rela_engine.specs.Scenes.{paths_of}
 use Rattle.rela_flows.specs.Plan.{Plan}
 use Rattle.rela_flows.specs.declared.planning.PlannedRow.{PlannedRow}
 use Rattle.rela_flows.specs.declared.planning.PlannedRow.TheVariants as planned
-use Rattle.rela_graph.specs.Paths.{Paths}
 use Rattle.rela_names.specs.Alphabet.{path_symbols}
 use Rattle.rela_report.specs.declared.rows.ReportRow.{ReportRow}
 use Rattle.rela_report.specs.declared.rows.ReportRow.TheVariants.{Unselected, Checked}
@@ -15,15 +16,15 @@ use Rattle.rela_snapshot.specs.declared.pairing.FlowPair.{FlowPair}
 use Rattle.rela_translate.specs.Checked.{Checked as Check}
 
 -- the row has the names of this flow and this check, and the verdict of the check on the flow's paths before and after
--- the change; `names` are the locations of the check's level
-pub record IsDecided (names : List (List ℕ)) (pair : FlowPair) (check : Check) (flow name : List ℕ) (row : Row) : Type 0 where
+-- the change
+pub record IsDecided (names : List (List ℕ)) (states : ℕ) (pair : FlowPair) (check : Check) (flow name : List ℕ) (row : Row) : Type 0 where
   pub flow_name : flow ≡ pair.class.name
   pub check_name : name ≡ check.name
-  pub verdict : RowOf check (length names) (Paths pair.before check.level names) (Paths pair.after check.level names) row
+  pub verdict : RowOf check (length names) (paths_of check.level names pair.before pair.after) states row
 
-abbrev pub IsUnder : List (List ℕ) → FlowPair → Check → ReportRow → Type 0
-IsUnder names pair check (Checked flow name row) = IsDecided names pair check flow name row
-IsUnder names pair check (Unselected flow) = ⊥
+abbrev pub IsUnder : List (List ℕ) → ℕ → FlowPair → Check → ReportRow → Type 0
+IsUnder names states pair check (Checked flow name row) = IsDecided names states pair check flow name row
+IsUnder names states pair check (Unselected flow) = ⊥
 
 -- the row is of this flow alone
 abbrev pub IsAlone : FlowPair → ReportRow → Type 0
@@ -31,10 +32,10 @@ IsAlone pair (Unselected flow) = flow ≡ pair.class.name
 IsAlone pair (Checked flow name row) = ⊥
 
 -- the row of the report that a planned row becomes; flows and checks are planned by their places
-abbrev pub IsRowOf : List (List ℕ) → List Check → List FlowPair → PlannedRow → ReportRow → Type 0
-IsRowOf names checks pairs (planned.Unselected flow) row = IsSomeAnd (slice_get pairs flow) (λ pair. IsAlone pair row)
-IsRowOf names checks pairs (planned.Checked flow check) row =
-    IsSomeAnd (slice_get pairs flow) (λ pair. IsSomeAnd (slice_get checks check) (λ by. IsUnder names pair by row))
+abbrev pub IsRowOf : List (List ℕ) → ℕ → List Check → List FlowPair → PlannedRow → ReportRow → Type 0
+IsRowOf names states checks pairs (planned.Unselected flow) row = IsSomeAnd (slice_get pairs flow) (λ pair. IsAlone pair row)
+IsRowOf names states checks pairs (planned.Checked flow check) row =
+    IsSomeAnd (slice_get pairs flow) (λ pair. IsSomeAnd (slice_get checks check) (λ by. IsUnder names states pair by row))
 
 -- the places of a planned row are below these counts
 abbrev pub IsWithin : ℕ → ℕ → PlannedRow → Type 0
@@ -42,10 +43,10 @@ IsWithin flows checks (planned.Unselected flow) = flow < flows
 IsWithin flows checks (planned.Checked flow check) = (flow < flows) × (check < checks)
 
 -- the rows of these flows under these checks: those that are planned by the flows' classes and the checks' predicates
-pub record AreRowsOf (names : List (List ℕ)) (checks : List Check) (pairs : List FlowPair) (rows : List ReportRow) : Type 0 where
+pub record AreRowsOf (names : List (List ℕ)) (states : ℕ) (checks : List Check) (pairs : List FlowPair) (rows : List ReportRow) : Type 0 where
   pub planned : List PlannedRow
   pub plan : Plan (map (λ pair. pair.class) pairs) (map (λ check. check.when) checks) planned
-  pub each : AllZip (IsRowOf names checks pairs) planned rows
+  pub each : AllZip (IsRowOf names states checks pairs) planned rows
 
 -- the classes of the check list path symbols of these locations
 abbrev pub ListsPathSymbols : List (List ℕ) → Check → Type 0

@@ -2,6 +2,7 @@
 #![tactic(auto)]
 
 mod answer;
+mod arguments;
 mod asking;
 mod formatting;
 mod loading;
@@ -27,4 +28,4 @@ pub use refusal::{Input, Refusal, refusal_line};
 pub use reporting::report;
 pub use rows::rows_of;
 pub use running::run;
-pub use words::{Command, read_words};
+pub use words::{Command, DEFAULT_STATES, MAX_STATES, read_words};

@@ -24,11 +24,17 @@ use rela_translate::Check;
 use std::alloc::{AllocError, Global};
 
 /// Reads the locations, the snapshot before, the snapshot after and the specification, in this
-/// order, and makes the report. The first refusal or fault ends it.
-pub fn report<F: Files>(alloc: Global, files: &mut F, command: &Command<'_>) -> Result<Answer, Halt>
-    ensures reports { IfOk result (λ answer. TellsCheck (F.holds files.old) (command_of command.now) answer.text.items answer.status) }
+/// order, and makes the report under this state limit. The first refusal or fault ends it.
+pub fn report<F: Files>(
+    alloc: Global,
+    files: &mut F,
+    command: &Command<'_>,
+    states: usize,
+) -> Result<Answer, Halt>
+    requires some { 1 ≤ states }
+    ensures reports { IfOk result (λ answer. TellsCheck (F.holds files.old) (command_of command.now) states answer.text.items answer.status) }
     ensures refused { IfErr result (λ halt. (refusal : Refusal) → halt ≡ Halt.Refused refusal →
-        Checked (F.holds files.old) (command_of command.now) (Err refusal)) }
+        Checked (F.holds files.old) (command_of command.now) states (Err refusal)) }
     ensures ok_given { OnOk result (F.given files.new ≤ max_file_bytes) }
     ensures ok_keeps_count { OnOk result (F.faults files.new ≡ F.faults files.old) }
     ensures halts { IfErr result (HaltsBy (F.holds files.old) (command_of command.now)
@@ -37,7 +43,7 @@ pub fn report<F: Files>(alloc: Global, files: &mut F, command: &Command<'_>) -> 
         result ≢ Err Halt.ReadFault }
 {
     let locations = load_locations(alloc, files, command)?;
-    report_over(alloc, files, command, &locations)
+    report_over(alloc, files, command, &locations, states)
 }
 
 // The same over the locations that were read first.
@@ -46,11 +52,13 @@ fn report_over<F: Files>(
     files: &mut F,
     command: &Command<'_>,
     locations: &Locations,
+    states: usize,
 ) -> Result<Answer, Halt>
-    requires { Gives (F.holds files.old) (command_of command.now) Input.Locations ReadsNetwork (Ok locations.now) }
-    ensures reports { IfOk result (λ answer. TellsCheck (F.holds files.old) (command_of command.now) answer.text.items answer.status) }
+    requires some { 1 ≤ states }
+    requires locations { Gives (F.holds files.old) (command_of command.now) Input.Locations ReadsNetwork (Ok locations.now) }
+    ensures reports { IfOk result (λ answer. TellsCheck (F.holds files.old) (command_of command.now) states answer.text.items answer.status) }
     ensures refused { IfErr result (λ halt. (refusal : Refusal) → halt ≡ Halt.Refused refusal →
-        Checked (F.holds files.old) (command_of command.now) (Err refusal)) }
+        Checked (F.holds files.old) (command_of command.now) states (Err refusal)) }
     ensures ok_given { OnOk result (F.given files.new ≤ max_file_bytes) }
     ensures ok_keeps_count { OnOk result (F.faults files.new ≡ F.faults files.old) }
     ensures halts { IfErr result (HaltsBy (F.holds files.old) (command_of command.now)
@@ -70,6 +78,7 @@ fn report_over<F: Files>(
         &pairs,
         &asked.checks,
         locations.alphabet(asked.level),
+        states,
     )?)
 }
 
@@ -79,11 +88,13 @@ fn report_on(
     pairs: &[FlowPair],
     checks: &[Check],
     names: &Alphabet,
+    states: usize,
 ) -> Result<Answer, AllocError>
-    requires { AreChecksAt names.now pairs.now checks.now }
-    ensures { IfOk result (λ answer. TellsRows names.now checks.now pairs.now answer.text.items answer.status) }
+    requires some { 1 ≤ states }
+    requires checks { AreChecksAt names.now pairs.now checks.now }
+    ensures { IfOk result (λ answer. TellsRows names.now states checks.now pairs.now answer.text.items answer.status) }
 {
-    let rows = rows_of(alloc, pairs, checks, names)?;
+    let rows = rows_of(alloc, pairs, checks, names, states)?;
     let text = text(alloc, &rows, names)?;
     let status = status(&rows);
     Ok(Answer { text, status })

@@ -1,14 +1,14 @@
 //! The rows of a run.
 
-ghost use Rattle.std.specs.Prelude.{◌≡◌, IfOk, OnOk, All, length, map};
+ghost use Rattle.std.specs.Prelude.{◌≡◌, ◌≤◌, IfOk, OnOk, All, length, map};
 ghost use Rattle.std.specs.List.{AllZip};
 ghost use Rattle.rela_report.specs.Text.{RowHasTexts};
 ghost use Rattle.rela_snapshot.specs.PairsLocated.{ArePairsLocated};
-ghost use Rattle.rela_top.specs.Rows.{AreChecksAt, AreRowsOf, IsRowOf, IsWithin, ListsPathSymbols};
-ghost use Rattle.rela_top.specs.Sharing.{AreAlike, AreVerdicts};
+ghost use Rattle.rela_top.specs.Rows.{AreChecksAt, AreRowsOf, IsWithin, ListsPathSymbols};
+ghost use Rattle.rela_top.specs.Sharing.{AreAlike, AreVerdicts, IsRowBy};
 
 use crate::planning::plan_rows;
-use crate::sharing::{Verdicts, alike, verdict_on};
+use crate::sharing::{Verdicts, alike, share_verdicts, verdict_on};
 use rela_engine::{Compiled, compile};
 use rela_flows::PlannedRow;
 use rela_names::Alphabet;
@@ -19,36 +19,42 @@ use std::alloc::{AllocError, Global};
 use std::collections::HashMap;
 
 /// The rows of the flows under the checks, whose locations are those of the alphabet: flow after flow,
-/// one for each check that selects it, in their order, or one alone. Each check is compiled once, and
-/// decided once for all flows that look the same at its level, where the checks have one level.
+/// one for each check that selects it, in their order, or one alone. `states` is the state limit. Each
+/// check is compiled once, and decided once for all flows that look the same at its level, where the
+/// checks have one level.
 pub fn rows_of(
     alloc: Global,
     pairs: &[FlowPair],
     checks: &[Check],
     alphabet: &Alphabet,
+    states: usize,
 ) -> Result<Vec<ReportRow>, AllocError>
-    requires { AreChecksAt alphabet.now pairs.now checks.now }
-    ensures rows { IfOk result (λ rows. AreRowsOf alphabet.now checks.now pairs.now rows.items) }
+    requires some { 1 ≤ states }
+    requires checks { AreChecksAt alphabet.now pairs.now checks.now }
+    ensures rows { IfOk result (λ rows. AreRowsOf alphabet.now states checks.now pairs.now rows.items) }
     ensures texts { IfOk result (λ rows. All (RowHasTexts alphabet.now) rows.items) }
 {
     let planned = plan_rows(alloc, pairs, checks)?;
-    let compiled = compile_all(alloc, checks, alphabet)?;
+    let compiled = compile_all(alloc, checks, alphabet, states)?;
     decide_all(alloc, &planned, pairs, &compiled, alphabet)
 }
 
-// Each check, compiled.
+// Each check, compiled under the state limit.
 fn compile_all<'a>(
     alloc: Global,
     checks: &'a [Check],
     alphabet: &Alphabet,
+    states: usize,
 ) -> Result<Vec<Compiled<'a>>, AllocError>
-    requires { All (ListsPathSymbols alphabet.now) checks.now }
+    requires some { 1 ≤ states }
+    requires listed { All (ListsPathSymbols alphabet.now) checks.now }
     ensures checks { IfOk result (λ compiled. map (λ c. c.check) compiled.items ≡ checks.now) }
     ensures locations { IfOk result (λ compiled. All (λ c. c.locations ≡ length alphabet.now) compiled.items) }
+    ensures states { IfOk result (λ compiled. All (λ c. c.states ≡ states) compiled.items) }
 {
     let mut compiled = Vec::with_capacity(alloc, checks.len())?;
     for check in checks {
-        compiled.push(compile(alloc, check, alphabet)?)?;
+        compiled.push(compile(alloc, check, alphabet, states)?)?;
     }
     Ok(compiled)
 }
@@ -64,7 +70,7 @@ fn decide_all(
     requires planned { All (IsWithin (length pairs.now) (length compiled.now)) planned.now }
     requires locations { All (λ c. c.locations ≡ length alphabet.now) compiled.now }
     requires located { All (λ c. ArePairsLocated alphabet.now c.check.level pairs.now) compiled.now }
-    ensures rows { IfOk result (λ rows. AllZip (IsRowOf alphabet.now (map (λ c. c.check) compiled.now) pairs.now) planned.now rows.items) }
+    ensures rows { IfOk result (λ rows. AllZip (IsRowBy alphabet.now compiled.now pairs.now) planned.now rows.items) }
     ensures texts { IfOk result (λ rows. All (RowHasTexts alphabet.now) rows.items) }
 {
     let others = alike(alloc, pairs, compiled)?;
@@ -98,10 +104,10 @@ fn row_of(
     requires locations { All (λ c. c.locations ≡ length alphabet.now) compiled.now }
     requires located { All (λ c. ArePairsLocated alphabet.now c.check.level pairs.now) compiled.now }
     requires alike { All (λ c. AreAlike c.check.level pairs.now others.now) compiled.now }
-    requires verdicts { AreVerdicts alphabet.now (map (λ c. c.check) compiled.now) pairs.now verdicts.old }
-    ensures row { IfOk result (IsRowOf alphabet.now (map (λ c. c.check) compiled.now) pairs.now planned.now) }
+    requires verdicts { AreVerdicts alphabet.now compiled.now pairs.now verdicts.old }
+    ensures row { IfOk result (IsRowBy alphabet.now compiled.now pairs.now planned.now) }
     ensures texts { IfOk result (RowHasTexts alphabet.now) }
-    ensures verdicts { OnOk result (AreVerdicts alphabet.now (map (λ c. c.check) compiled.now) pairs.now verdicts.new) }
+    ensures verdicts { OnOk result (AreVerdicts alphabet.now compiled.now pairs.now verdicts.new) }
 {
     match *planned {
         PlannedRow::Unselected { flow } => Ok(ReportRow::Unselected {
@@ -110,7 +116,9 @@ fn row_of(
         PlannedRow::Checked { flow, check } => {
             let other = others[flow];
             let row = verdict_on(alloc, verdicts, other, check, pairs, compiled, alphabet)?;
-            row_under(alloc, &pairs[flow], compiled[check].check(), row)
+            let (pair, by) = (&pairs[flow], &compiled[check]);
+            share_verdicts(by, pair, &pairs[other], alphabet);
+            row_under(alloc, pair, by.check(), row)
         }
     }
 }

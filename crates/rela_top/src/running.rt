@@ -1,9 +1,9 @@
 //! The one call that the program makes.
 
-ghost use Rattle.std.specs.Prelude.{◌≡◌, ◌≢◌, ◌<◌, ◌≤◌, ◌⊎◌, None, Err, IsTrue, IfSome, IfOk, IfErr, OnOk, map, string_bytes};
+ghost use Rattle.std.specs.Prelude.{◌≡◌, ◌≢◌, ◌<◌, ◌≤◌, ◌⊎◌, Err, IsTrue, IfOk, IfErr, OnOk, map, string_bytes};
 ghost use Rattle.rela_io.specs.Count.{Rose};
-ghost use Rattle.rela_top.specs.Words.{Words};
-ghost use Rattle.rela_top.specs.Reading.{max_file_bytes, HoldsFiles, HaltsBy};
+ghost use Rattle.rela_top.specs.Words.{AskNothing, HasStates};
+ghost use Rattle.rela_top.specs.Reading.{max_file_bytes, HoldsAsked, HoldsFiles, HaltsBy};
 ghost use Rattle.rela_top.specs.Answer.{Answers, GivenBy, IsMade, Outcome, Refusing};
 ghost use Rattle.rela_top.specs.declared.refusal.Refusal.{Refusal};
 ghost use Rattle.rela_top.specs.Commands.{command_of};
@@ -21,17 +21,17 @@ use std::alloc::Global;
 /// answer to `out`, and gives the exit status. The answer is made before any of it is written.
 pub fn run<F: Files, K: Sink>(alloc: Global, words: &[String], files: &mut F, out: &mut K) -> u8
     // An answer that fits the words and what the files gave was written, to its end or up to a failed write.
-    ensures answers { result ≢ READ_FAULT → result ≢ NO_MEMORY → Answers (Words (map string_bytes words.now))
+    ensures answers { result ≢ READ_FAULT → result ≢ NO_MEMORY → Answers (map string_bytes words.now)
         (F.holds files.old) (F.given files.new) (K.taken out.old) (K.taken out.new) result }
-    ensures bad_words { result ≡ BAD_WORDS → Words (map string_bytes words.now) ≡ None }
-    ensures unread_words { Words (map string_bytes words.now) ≡ None → (result ≡ BAD_WORDS) ⊎ (result ≡ WRITE_FAULT) }
-    ensures unread_words_open_nothing { Words (map string_bytes words.now) ≡ None → files.new ≡ files.old }
+    ensures bad_words { result ≡ BAD_WORDS → AskNothing (map string_bytes words.now) }
+    ensures unread_words { AskNothing (map string_bytes words.now) → (result ≡ BAD_WORDS) ⊎ (result ≡ WRITE_FAULT) }
+    ensures unread_words_open_nothing { AskNothing (map string_bytes words.now) → files.new ≡ files.old }
 
     // A read fault, exactly where one was counted.
     ensures read_fault_counted { result ≡ READ_FAULT → Rose (F.faults files.old) (F.faults files.new) }
     ensures counted_is_read_fault { F.faults files.old < F.faults files.new → result ≡ READ_FAULT }
     ensures steady_is_no_fault { IsTrue (F.steady files.old) →
-        IfSome (Words (map string_bytes words.now)) (HoldsFiles (F.holds files.old)) →
+        HoldsAsked (F.holds files.old) (map string_bytes words.now) →
         (result ≢ READ_FAULT) × (F.faults files.new ≡ F.faults files.old) }
 
     // A write fault, exactly where one was counted.
@@ -60,6 +60,7 @@ enum Stop {
 
 // What the command makes, or the line that an input is refused with.
 fn answer<F: Files>(alloc: Global, files: &mut F, command: &Command<'_>) -> Result<Answer, Stop>
+    requires { HasStates (command_of command.now) }
     ensures fits { IfOk result (λ answer. GivenBy (command_of command.now) (F.holds files.old) (F.given files.new)
         answer.text.items answer.status) }
     ensures ok_keeps_count { OnOk result (F.faults files.new ≡ F.faults files.old) }
@@ -84,6 +85,7 @@ fn answer<F: Files>(alloc: Global, files: &mut F, command: &Command<'_>) -> Resu
 
 // The report or the canonical text.
 fn carry_out<F: Files>(alloc: Global, files: &mut F, command: &Command<'_>) -> Result<Answer, Halt>
+    requires { HasStates (command_of command.now) }
     ensures made { IfOk result (λ answer. IsMade (F.holds files.old) (command_of command.now) answer.text.items answer.status) }
     ensures refused { IfErr result (λ halt. (refusal : Refusal) → halt ≡ Halt.Refused refusal →
         Outcome (F.holds files.old) (command_of command.now) (Refusing refusal)) }
@@ -95,7 +97,7 @@ fn carry_out<F: Files>(alloc: Global, files: &mut F, command: &Command<'_>) -> R
         result ≢ Err Halt.ReadFault }
 {
     match command {
-        Command::Check { .. } => report(alloc, files, command),
+        Command::Check { states, .. } => report(alloc, files, command, *states),
         Command::Fmt { .. } => format(alloc, files, command),
     }
 }

@@ -1,18 +1,23 @@
 //! Verdicts that flows share: those that look the same at a check's level have the same paths there.
 
-ghost use Rattle.std.specs.Prelude.{◌≡◌, ◌<◌, IfOk, IfSome, OnOk, All, length, map};
+ghost use Rattle.std.specs.Prelude.{◌≡◌, ℕ, ◌<◌, IfOk, IfSome, OnOk, All, length};
 ghost use Rattle.rela_names.specs.declared.level.Level.{Level};
 ghost use Rattle.rela_snapshot.specs.PairsLocated.{ArePairsLocated};
-ghost use Rattle.rela_top.specs.Sharing.{AreAlike, AreNumbered, AreVerdicts, IsVerdictOf, LooksAs};
+ghost use Rattle.rela_engine.specs.RowOf.{RowOf};
+ghost use Rattle.rela_engine.specs.Scenes.{SamePathSets};
+ghost use Rattle.rela_report.specs.declared.rows.Row.{Row};
+ghost use Rattle.rela_translate.specs.Checked.{Checked};
+ghost use Rattle.rela_top.specs.Sharing.{look_of, AreAlike, AreNumbered, AreVerdicts, IsVerdict, IsVerdictOf, LooksAs};
 
 use crate::verdict::verdict;
-use rela_engine::Compiled;
+use rela_engine::{Compiled, TwoPathSets, rows_carry_over};
 use rela_graph::LevelGraph;
 use rela_names::{Alphabet, Level};
 use rela_report::Row;
 use rela_snapshot::FlowPair;
 use std::alloc::{AllocError, Global};
 use std::collections::HashMap;
+use std::marker::Brand;
 
 /// Verdicts by the numbers of their flows and checks.
 pub(crate) type Verdicts = HashMap<(usize, usize), Row>;
@@ -90,6 +95,38 @@ fn number_of<'a>(
     Ok(n)
 }
 
+/// A verdict on one flow is one on each flow that looks the same at the check's level. The call does
+/// nothing, and its contract is this law.
+pub(crate) fn share_verdicts(
+    by: &Compiled<'_>,
+    pair: &FlowPair,
+    other: &FlowPair,
+    alphabet: &Alphabet,
+)
+    ensures { look_of by.now.check.level pair.now ≡ look_of by.now.check.level other.now → (row : Row) →
+        IsVerdict alphabet.now by.now other.now row → IsVerdict alphabet.now by.now pair.now row }
+{
+    let level = by.level();
+    other.before.same_outline_same_paths(&pair.before, level);
+    other.before.same_outline_same_arrivals(&pair.before, level);
+    other.after.same_outline_same_paths(&pair.after, level);
+    other.after.same_outline_same_arrivals(&pair.after, level);
+    carry_over::<Brand, Brand>(by, pair, other, alphabet);
+}
+
+// The law for rows, at paths that the caller's proof picks by these values.
+fn carry_over<P: TwoPathSets, Q: TwoPathSets>(
+    _by: &Compiled<'_>,
+    _pair: &FlowPair,
+    _other: &FlowPair,
+    _alphabet: &Alphabet,
+)
+    ensures { SamePathSets P.paths Q.paths → (check : Checked) (locations limit : ℕ) (row : Row) →
+        RowOf check locations P.paths limit row → RowOf check locations Q.paths limit row }
+{
+    rows_carry_over::<P, Q>();
+}
+
 /// The verdict of a check on a flow, by their numbers: a kept one, or else it is decided and kept.
 pub(crate) fn verdict_on(
     alloc: Global,
@@ -104,9 +141,9 @@ pub(crate) fn verdict_on(
     requires check { check < length compiled.now }
     requires locations { All (λ c. c.locations ≡ length alphabet.now) compiled.now }
     requires located { All (λ c. ArePairsLocated alphabet.now c.check.level pairs.now) compiled.now }
-    requires verdicts { AreVerdicts alphabet.now (map (λ c. c.check) compiled.now) pairs.now verdicts.old }
-    ensures verdict { IfOk result (IsVerdictOf alphabet.now (map (λ c. c.check) compiled.now) pairs.now flow check) }
-    ensures verdicts { OnOk result (AreVerdicts alphabet.now (map (λ c. c.check) compiled.now) pairs.now verdicts.new) }
+    requires verdicts { AreVerdicts alphabet.now compiled.now pairs.now verdicts.old }
+    ensures verdict { IfOk result (IsVerdictOf alphabet.now compiled.now pairs.now flow check) }
+    ensures verdicts { OnOk result (AreVerdicts alphabet.now compiled.now pairs.now verdicts.new) }
 {
     if let Some(row) = verdicts.get(&(flow, check)) {
         return row.copy(alloc);

@@ -2,7 +2,7 @@
 
 ghost use Rattle.std.specs.Prelude.{◌≡◌, IfOk, length};
 ghost use Rattle.rela_engine.specs.RowOf.{RowOf};
-ghost use Rattle.rela_graph.specs.Paths.{Paths};
+ghost use Rattle.rela_engine.specs.Scenes.{paths_of};
 ghost use Rattle.rela_report.specs.Text.{VerdictHasTexts};
 ghost use Rattle.rela_snapshot.specs.PairsLocated.{IsPairLocated};
 
@@ -21,7 +21,8 @@ pub(crate) fn verdict(
 ) -> Result<Row, AllocError>
     requires locations { compiled.now.locations ≡ length alphabet.now }
     requires located { IsPairLocated alphabet.now compiled.now.check.level pair.now }
-    ensures row { IfOk result (RowOf compiled.now.check (length alphabet.now) (Paths pair.now.before compiled.now.check.level alphabet.now) (Paths pair.now.after compiled.now.check.level alphabet.now)) }
+    ensures row { IfOk result (RowOf compiled.now.check (length alphabet.now)
+        (paths_of compiled.now.check.level alphabet.now pair.now.before pair.now.after) compiled.now.states) }
     ensures texts { IfOk result (VerdictHasTexts alphabet.now) }
 {
     // With its body a check tells that its markers are few.

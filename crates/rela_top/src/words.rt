@@ -1,11 +1,18 @@
 //! What the words of the command line ask for.
 
-ghost use Rattle.std.specs.Prelude.{◌≡◌, [], ◌∷◌, map, option_map, string_bytes};
-ghost use Rattle.rela_top.specs.Words.{Words, is_operand};
+ghost use Rattle.std.specs.Prelude.{◌≡◌, ◌∷◌, map, option_map, string_bytes, codes};
+ghost use Rattle.rela_top.specs.Words.{AskJust};
 ghost use Rattle.rela_top.specs.Commands.{command_of};
 ghost use Rattle.rela_top.specs.Reading.{name_of};
 
+use crate::arguments::Arguments;
 use crate::refusal::Input;
+
+/// The state limit where the words give none.
+pub const DEFAULT_STATES: usize = 100_000;
+
+/// The highest state limit that the words may give.
+pub const MAX_STATES: usize = 4_000_000;
 
 /// What the words ask for, with the names of the files that it reads.
 #[derive(Clone, Copy, Debug)]
@@ -20,6 +27,8 @@ pub enum Command<'a> {
         locations: &'a str,
         /// The specification.
         spec: &'a str,
+        /// The state limit of each verdict.
+        states: usize,
     },
     /// To write the canonical text of a specification.
     Fmt {
@@ -40,6 +49,7 @@ impl<'a> Command<'a> {
                 after,
                 locations,
                 spec,
+                states: _,
             } => match input {
                 Input::Locations => locations,
                 Input::Before => before,
@@ -50,63 +60,47 @@ impl<'a> Command<'a> {
     }
 }
 
-/// Reads `check BEFORE AFTER LOCATIONS SPEC` and `fmt SPEC`, where no file's name begins with a dash,
-/// and `None` for any other words.
+/// Reads `check BEFORE AFTER LOCATIONS SPEC` and `fmt SPEC`, and `None` for any other words. Anywhere
+/// after `check` may stand `--states N` or `--states=N`, and the word `--`, after which each word is an
+/// operand. The time is linear in the bytes of the words.
 pub fn read_words(words: &[String]) -> Option<Command<'_>>
-    ensures { option_map command_of result ≡ Words (map string_bytes words.now) }
+    ensures { AskJust (map string_bytes words.now) (option_map command_of result) }
 {
-    match words {
-        [command, spec] => read_fmt(command.as_str(), spec.as_str()),
-        [command, before, after, locations, spec] => read_check(
-            command.as_str(),
-            before.as_str(),
-            after.as_str(),
-            locations.as_str(),
-            spec.as_str(),
-        ),
+    let (name, rest) = words.split_first()?;
+    match name.as_str() {
+        "check" => read_check(rest),
+        "fmt" => read_fmt(rest),
         _ => None,
     }
 }
 
-fn read_fmt<'a>(command: &str, spec: &'a str) -> Option<Command<'a>>
-    ensures { option_map command_of result ≡ Words (command.now ∷ spec.now ∷ []) }
+// What the words after `check` ask for.
+fn read_check(rest: &[String]) -> Option<Command<'_>>
+    ensures { AskJust (codes "check" ∷ map string_bytes rest.now) (option_map command_of result) }
 {
-    if command == "fmt" && is_operand(spec) {
-        Some(Command::Fmt { spec })
-    } else {
-        None
-    }
+    let mut arguments = Arguments::new(rest);
+    let before = arguments.operand()?;
+    let after = arguments.operand()?;
+    let locations = arguments.operand()?;
+    let spec = arguments.operand()?;
+    let states = arguments.end()?;
+    Some(Command::Check {
+        before,
+        after,
+        locations,
+        spec,
+        states: states.unwrap_or(DEFAULT_STATES),
+    })
 }
 
-fn read_check<'a>(
-    command: &str,
-    before: &'a str,
-    after: &'a str,
-    locations: &'a str,
-    spec: &'a str,
-) -> Option<Command<'a>>
-    ensures { option_map command_of result ≡ Words (command.now ∷ before.now ∷ after.now ∷ locations.now ∷ spec.now ∷ []) }
+// What the words after `fmt` ask for.
+fn read_fmt(rest: &[String]) -> Option<Command<'_>>
+    ensures { AskJust (codes "fmt" ∷ map string_bytes rest.now) (option_map command_of result) }
 {
-    if command == "check"
-        && is_operand(before)
-        && is_operand(after)
-        && is_operand(locations)
-        && is_operand(spec)
-    {
-        Some(Command::Check {
-            before,
-            after,
-            locations,
-            spec,
-        })
-    } else {
-        None
+    let mut arguments = Arguments::new(rest);
+    let spec = arguments.operand()?;
+    match arguments.end()? {
+        None => Some(Command::Fmt { spec }),
+        Some(_) => None,
     }
-}
-
-// Whether the word begins with no dash.
-fn is_operand(word: &str) -> bool
-    ensures { result ≡ is_operand word.now }
-{
-    word.as_bytes().first() != Some(&b'-')
 }

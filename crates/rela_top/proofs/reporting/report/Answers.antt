@@ -5,10 +5,10 @@ use Rattle.rela_top.proofs.reporting.report.Goals as goal
 pub returns-in_err-locations-clause-refused : goal.returns-in_err-locations-clause-refused
 returns-in_err-locations-clause-refused g c =
     let fault : c.from_residual.result ≡ Err c.in_err-locations.field-0.0 = grind arith in
-    rw fault (λ refusal is. locations_refused _ _ refusal (c.in_err-locations.ensures.refused refusal is))
+    rw fault (λ refusal is. locations_refused _ _ _ refusal (c.in_err-locations.ensures.refused refusal is))
 
-pub report_over-requires : goal.report_over-requires
-report_over-requires g c = rw c.in_ok-locations.ensures.same_holds c.in_ok-locations.ensures.network
+pub report_over-requires-clause-locations : goal.report_over-requires-clause-locations
+report_over-requires-clause-locations g c = rw c.in_ok-locations.ensures.same_holds c.in_ok-locations.ensures.network
 
 pub returns-clause-reports : goal.returns-clause-reports
 returns-clause-reports g c = rw c.in_ok-locations.ensures.same_holds at c.report_over.ensures.reports

@@ -10,4 +10,7 @@ loop-check-preserved c = record {
   locations =
       All-more (λ compiled. compiled.locations ≡ length c.args.alphabet.now) c.loop-check.compiled.items c.push.new.self.items c.in_ok-compile.field-0
       c.in_ok-push.ensures.items c.loop-check.invariant.locations c.in_ok-compile.ensures.locations;
+  limits =
+      All-more (λ compiled. compiled.states ≡ c.args.states) c.loop-check.compiled.items c.push.new.self.items c.in_ok-compile.field-0
+      c.in_ok-push.ensures.items c.loop-check.invariant.limits c.in_ok-compile.ensures.states;
 }

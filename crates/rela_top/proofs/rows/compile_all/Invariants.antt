@@ -6,4 +6,5 @@ abbrev pub invariant-loop-check : goal.invariant-loop-check
 invariant-loop-check l = record {
   same : map (λ c. c.check) l.compiled.items ≡ take l.check-index l.checks;
   locations : All (λ c. c.locations ≡ length l.alphabet) l.compiled.items;
+  limits : All (λ c. c.states ≡ l.states) l.compiled.items;
 }

@@ -1,14 +1,13 @@
-use Rattle.std.proofs.Common.{ℕ, List, All, map, subst, sym, arith}
+use Rattle.std.proofs.Common.{ℕ, List, All, subst, sym, arith}
 use Rattle.rela_report.specs.Text.{RowHasTexts}
-use Rattle.rela_top.specs.Rows.{IsRowOf}
-use Rattle.rela_top.specs.Sharing.{AreAlike}
+use Rattle.rela_top.specs.Sharing.{AreAlike, IsRowBy}
 use Rattle.rela_top.proofs.Loops.{All-more, zip_more}
 use Rattle.rela_top.proofs.rows.decide_all.Goals as goal
 
 pub loop-row-preserved : goal.loop-row-preserved
 loop-row-preserved c = record {
   rows =
-      zip_more (IsRowOf c.args.alphabet.now (map (λ compiled. compiled.check) c.args.compiled.now) c.args.pairs.now) c.args.planned.now
+      zip_more (IsRowBy c.args.alphabet.now c.args.compiled.now c.args.pairs.now) c.args.planned.now
       c.loop-row.rows.items c.push.new.self.items c.loop-row.row-index _ c.in_ok-row_of.field-0 (omega arith)
       c.loop-row.invariant.rows c.in_ok-push.ensures.items c.in_ok-row_of.ensures.row;
   texts =

@@ -3,7 +3,8 @@ use Rattle.std.specs.List.{All, AllZip}
 use Rattle.std.proofs.lemmas.List.{length-map}
 use Rattle.rela_flows.specs.Plan.{Plan}
 use Rattle.rela_snapshot.specs.PairsLocated.{ArePairsLocated}
-use Rattle.rela_top.specs.Rows.{AreRowsOf, IsRowOf}
+use Rattle.rela_top.specs.Rows.{AreRowsOf}
+use Rattle.rela_top.specs.Sharing.{IsRowBy}
 use Rattle.rela_top.proofs.Given.{if_ok}
 use Rattle.rela_top.proofs.PlanLaws.{within_counts, All-unmap}
 use Rattle.rela_top.proofs.RowLaws.{are_rows}
@@ -19,12 +20,13 @@ pub decide_all-requires-clause-located : goal.decide_all-requires-clause-located
 decide_all-requires-clause-located c =
     subst (λ compiled. All (λ one. ArePairsLocated c.args.alphabet.now one.check.level c.args.pairs.now) compiled) (sym c.deref-2.ensures.value)
     (All-unmap (λ check. ArePairsLocated c.args.alphabet.now check.level c.args.pairs.now) (λ compiled. compiled.check) c.in_ok-compiled.compiled.items
-    (subst (λ checks. All (λ check. ArePairsLocated c.args.alphabet.now check.level c.args.pairs.now) checks) (sym c.in_ok-compiled.ensures.checks) c.requires.located))
+    (subst (λ checks. All (λ check. ArePairsLocated c.args.alphabet.now check.level c.args.pairs.now) checks) (sym c.in_ok-compiled.ensures.checks) c.requires.checks.located))
 
 pub returns-clause-rows : goal.returns-clause-rows
 returns-clause-rows c =
-    if_ok (λ rows. AllZip (IsRowOf c.args.alphabet.now (map (λ compiled. compiled.check) c.deref-2.result.now) c.args.pairs.now) c.deref.result.now rows.items)
-    (λ rows. AreRowsOf c.args.alphabet.now c.args.checks.now c.args.pairs.now rows.items) c.decide_all.result
-    (λ rows each. are_rows c.args.alphabet.now c.args.checks.now c.args.pairs.now c.in_ok-compiled.compiled.items c.deref-2.result.now
-    c.in_ok-planned.planned.items c.deref.result.now rows.items c.deref-2.ensures.value c.in_ok-compiled.ensures.checks c.deref.ensures.value c.in_ok-planned.ensures each)
+    if_ok (λ rows. AllZip (IsRowBy c.args.alphabet.now c.deref-2.result.now c.args.pairs.now) c.deref.result.now rows.items)
+    (λ rows. AreRowsOf c.args.alphabet.now c.args.states c.args.checks.now c.args.pairs.now rows.items) c.decide_all.result
+    (λ rows each. are_rows c.args.alphabet.now c.args.states c.args.checks.now c.args.pairs.now c.in_ok-compiled.compiled.items c.deref-2.result.now
+    c.in_ok-planned.planned.items c.deref.result.now rows.items c.deref-2.ensures.value c.in_ok-compiled.ensures.checks c.in_ok-compiled.ensures.states
+    c.deref.ensures.value c.in_ok-planned.ensures each)
     c.decide_all.ensures.rows

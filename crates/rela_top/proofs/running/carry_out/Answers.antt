@@ -9,8 +9,8 @@ pub returns-in-Check-clause-made : goal.returns-in-Check-clause-made
 returns-in-Check-clause-made g c =
     let holds = g.F.Files.holds c.args.files.now in
     let command = command_of c.args.command.now in
-    if_ok (λ answer. TellsCheck holds command answer.text.items answer.status) (λ answer. IsMade holds command answer.text.items answer.status) c.report.result
-    (λ answer told. made_report holds command c.in-Check.before.now c.in-Check.after.now c.in-Check.locations.now c.in-Check.spec.now answer.text.items answer.status (ap command_of c.in-Check.is) told)
+    if_ok (λ answer. TellsCheck holds command c.in-Check.states answer.text.items answer.status) (λ answer. IsMade holds command answer.text.items answer.status) c.report.result
+    (λ answer told. made_report holds command c.in-Check.before.now c.in-Check.after.now c.in-Check.locations.now c.in-Check.spec.now c.in-Check.states answer.text.items answer.status (ap command_of c.in-Check.is) told)
     c.report.ensures.reports
 
 pub returns-in-Fmt-clause-made : goal.returns-in-Fmt-clause-made

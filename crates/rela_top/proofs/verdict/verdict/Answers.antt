@@ -1,7 +1,7 @@
 use Rattle.std.proofs.Common.{subst, length}
 use Rattle.std.specs.List.{All}
 use Rattle.rela_engine.specs.RowOf.{RowOf}
-use Rattle.rela_graph.specs.Paths.{Paths}
+use Rattle.rela_engine.specs.Scenes.{paths_of}
 use Rattle.rela_report.specs.Text.{VerdictHasTexts}
 use Rattle.rela_snapshot.specs.Located.{StandsAt}
 use Rattle.rela_translate.specs.Checked.{markers_of}
@@ -19,8 +19,9 @@ returns-clause-texts c =
     let level = check.level in
     let before = c.args.pair.now.before in
     let after = c.args.pair.now.after in
+    let limit = c.args.compiled.now.states in
     let few = subst (λ checked. All IsMarker (markers_of checked.body)) c.check.ensures c.body-body.ensures.markers in
-    if_ok (RowOf check (length names) (Paths before level names) (Paths after level names)) (VerdictHasTexts names) c.decide_compiled.result
-    (λ row is. verdict_texts names check (Paths before level names) (Paths after level names) row few
-    (path_has_texts before level names c.requires.located.0) (path_has_texts after level names c.requires.located.1) is)
+    if_ok (RowOf check (length names) (paths_of level names before after) limit) (VerdictHasTexts names) c.decide_compiled.result
+    (λ row is. verdict_texts names check level before after limit row few
+    (path_has_texts before level names c.requires.located.0) (path_has_texts after level names c.requires.located.1) is.says)
     c.decide_compiled.ensures
