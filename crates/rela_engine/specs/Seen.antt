@@ -32,7 +32,8 @@ abbrev pub NodesStandAlone : List ℕ → Level → List Node → Type 0
 NodesStandAlone blocks level nodes = All (λ node. StandsAlone blocks (symbol_at level node)) nodes
 
 -- a finer partition, in which the locations of the nodes of two graphs stand alone, and so do `drop` and `loop`
-pub record AreFiner (coarse : List ℕ) (locations : ℕ) (level : Level) (pre post : Topology) (blocks : List ℕ) : Type 0 where
+pub record AreFiner (coarse : List ℕ) (locations : ℕ) (level : Level) (pre post : Topology)
+    (blocks : List ℕ) : Type 0 where
   pub partition : IsPartition blocks
   pub refines : Refines blocks coarse
   pub before : NodesStandAlone blocks level pre.nodes
@@ -48,9 +49,10 @@ AreLeastSymbols blocks word = All (λ s. IsLeastOf blocks (block_of blocks s) s)
 abbrev pub IsImageBy : Automaton → Machine → Automaton → Type 0
 IsImageBy paths relation image = (pairs : List Pair) × IsImage paths relation pairs image
 
--- the automaton of a set of words, each of which has least symbols alone, a transducer of the relation for those words, and the
--- automaton of the image
-pub record AreSeen (blocks : List ℕ) (words : List ℕ → Type 0) (pairs : List ℕ → List ℕ → Type 0) (paths : Automaton) (relation : Machine) (image : Automaton) : Type 0 where
+-- the automaton of a set of words, each of which has least symbols alone, a transducer of the relation for
+-- those words, and the automaton of the image
+pub record AreSeen (blocks : List ℕ) (words : List ℕ → Type 0) (pairs : List ℕ → List ℕ → Type 0)
+    (paths : Automaton) (relation : Machine) (image : Automaton) : Type 0 where
   pub of_paths : Recognises blocks words paths
   pub of_relation : RealisesFrom blocks words pairs relation
   pub of_image : Recognises blocks (ImageOf words pairs) image
@@ -65,18 +67,22 @@ abbrev pub machine_of : Form → Twofold → Machine
 machine_of form.Plain relation = relation.plain
 machine_of form.Small relation = relation.small
 
--- each pair of words of symbols that leads to a state of the one transducer leads to the same state of the other
+-- each pair of words of symbols that leads to a state of one transducer leads to the same state of the other
 abbrev pub LeadAlike : List ℕ → Machine → List ℕ → Machine → Type 0
-LeadAlike coarse plain blocks relation = (q : ℕ) (u v : List ℕ) → LeadsR blocks relation q u v ↔ LeadsR coarse plain q u v
+LeadAlike coarse plain blocks relation =
+    (q : ℕ) (u v : List ℕ) → LeadsR blocks relation q u v ↔ LeadsR coarse plain q u v
 
--- the states of the automaton stand for the places of the graph's paths, and those of the transducer are reached as
--- those of the plain one are, whose letters are the coarse blocks
-pub record KeepPlaces (coarse blocks : List ℕ) (level : Level) (names : List (List ℕ)) (g : Topology) (plain : Machine) (paths : Automaton) (relation : Machine) : Type 0 where
+-- the states of the automaton stand for the places of the graph's paths, and those of the transducer are
+-- reached as those of the plain one are, whose letters are the coarse blocks
+pub record KeepPlaces (coarse blocks : List ℕ) (level : Level) (names : List (List ℕ))
+    (g : Topology) (plain : Machine) (paths : Automaton) (relation : Machine) : Type 0 where
   pub of_paths : PathStates (length g.nodes) (arrivals_of level names g) (Leads blocks paths)
   pub of_relation : LeadAlike coarse plain blocks relation
 
--- the two are such machines, over the blocks, and more pairs of their states than the limit are reached from one source each
-pub record ImagePasses (coarse blocks : List ℕ) (level : Level) (names : List (List ℕ)) (g : Topology) (plain : Machine) (limit : ℕ) : Type 0 where
+-- the two are such machines, over the blocks, and more pairs of their states than the limit are each reached
+-- from one source
+pub record ImagePasses (coarse blocks : List ℕ) (level : Level) (names : List (List ℕ))
+    (g : Topology) (plain : Machine) (limit : ℕ) : Type 0 where
   pub paths : Automaton
   pub relation : Machine
   pub kept : KeepPlaces coarse blocks level names g plain paths relation
@@ -94,7 +100,8 @@ abbrev pub IsSource : Automaton → Machine → List ℕ → List ℕ → Type 0
 IsSource paths relation word source = Accepts paths source × Relates (λ k. k) relation source word
 
 -- the letters of the symbols are the first source of the word
-pub record IsFirstSource (blocks : List ℕ) (paths : Automaton) (relation : Machine) (word symbols : List ℕ) : Type 0 where
+pub record IsFirstSource (blocks : List ℕ) (paths : Automaton) (relation : Machine)
+    (word symbols : List ℕ) : Type 0 where
   pub letters : List ℕ
   pub first : First (IsSource paths relation word) letters
   pub symbols_are : AreLeast blocks letters symbols

@@ -52,10 +52,12 @@ pub fn decide(
     alphabet: &Alphabet,
     states: usize,
 ) -> Result<Row, AllocError>
-    requires classes { All (λ set. All (λ s. s < path_symbols alphabet.now) set.members) check.now.classes }
+    requires classes { All (λ set. All (λ s. s < path_symbols alphabet.now) set.members)
+        check.now.classes }
     requires located { IsPairLocated alphabet.now check.now.level pair.now }
     requires some { 1 ≤ states }
-    ensures { IfOk result (RowOf check.now (length alphabet.now) (paths_of check.now.level alphabet.now pair.now.before pair.now.after) states) }
+    ensures { IfOk result (RowOf check.now (length alphabet.now)
+        (paths_of check.now.level alphabet.now pair.now.before pair.now.after) states) }
 {
     let compiled = compile(alloc, check, alphabet, states)?;
     decide_compiled(alloc, &compiled, pair, alphabet)
@@ -72,7 +74,8 @@ pub fn decide_compiled(
     requires alphabet { length alphabet.now ≡ compiled.now.locations }
     requires located { IsPairLocated alphabet.now compiled.now.check.level pair.now }
     ensures { IfOk result (RowOf compiled.now.check (length alphabet.now)
-        (paths_of compiled.now.check.level alphabet.now pair.now.before pair.now.after) compiled.now.states) }
+        (paths_of compiled.now.check.level alphabet.now pair.now.before pair.now.after)
+        compiled.now.states) }
 {
     // Equal outlines don't decide a row that has to be left open.
     let Some(relations) = compiled.relations() else {
@@ -88,7 +91,9 @@ pub fn decide_compiled(
 /// its level. No automaton is made for that, and it takes the time of the nodes and the edges.
 fn is_met_by_looks(compiled: &Compiled<'_>, pair: &FlowPair) -> bool
     ensures { IsTrue result → (names : List (List ℕ)) →
-        Meets compiled.now.check compiled.now.locations (Paths pair.now.before compiled.now.check.level names) (Paths pair.now.after compiled.now.check.level names) }
+        Meets compiled.now.check compiled.now.locations
+        (Paths pair.now.before compiled.now.check.level names)
+        (Paths pair.now.after compiled.now.check.level names) }
 {
     let level = compiled.level();
     pair.before.same_outline_same_paths(&pair.after, level);
@@ -107,7 +112,8 @@ fn row_by_automata(
     requires located { IsPairLocated alphabet.now compiled.now.check.level pair.now }
     requires relations { AreRelations compiled.now relations.now }
     ensures { IfOk result (RowOf compiled.now.check (length alphabet.now)
-        (paths_of compiled.now.check.level alphabet.now pair.now.before pair.now.after) compiled.now.states) }
+        (paths_of compiled.now.check.level alphabet.now pair.now.before pair.now.after)
+        compiled.now.states) }
 {
     let blocks = finer_blocks(
         alloc,
@@ -136,10 +142,12 @@ fn row_over<L: LabelSet>(
     requires alphabet { length alphabet.now ≡ compiled.now.locations }
     requires located { IsPairLocated alphabet.now compiled.now.check.level pair.now }
     requires relations { AreRelations compiled.now relations.now }
-    requires blocks { AreFiner compiled.now.blocks (length alphabet.now) compiled.now.check.level pair.now.before pair.now.after blocks.now }
+    requires blocks { AreFiner compiled.now.blocks (length alphabet.now) compiled.now.check.level
+        pair.now.before pair.now.after blocks.now }
     requires fits { L.fits (block_count blocks.now) }
     ensures { IfOk result (RowOf compiled.now.check (length alphabet.now)
-        (paths_of compiled.now.check.level alphabet.now pair.now.before pair.now.after) compiled.now.states) }
+        (paths_of compiled.now.check.level alphabet.now pair.now.before pair.now.after)
+        compiled.now.states) }
 {
     match row_by::<L>(
         alloc,
@@ -170,10 +178,12 @@ fn plain_row<L: LabelSet>(
     requires alphabet { length alphabet.now ≡ compiled.now.locations }
     requires located { IsPairLocated alphabet.now compiled.now.check.level pair.now }
     requires relations { AreRelations compiled.now relations.now }
-    requires blocks { AreFiner compiled.now.blocks (length alphabet.now) compiled.now.check.level pair.now.before pair.now.after blocks.now }
+    requires blocks { AreFiner compiled.now.blocks (length alphabet.now) compiled.now.check.level
+        pair.now.before pair.now.after blocks.now }
     requires fits { L.fits (block_count blocks.now) }
     ensures { IfOk result (RowOf compiled.now.check (length alphabet.now)
-        (paths_of compiled.now.check.level alphabet.now pair.now.before pair.now.after) compiled.now.states) }
+        (paths_of compiled.now.check.level alphabet.now pair.now.before pair.now.after)
+        compiled.now.states) }
 {
     match row_by::<L>(
         alloc,
@@ -209,12 +219,16 @@ fn row_by<L: LabelSet>(
     requires alphabet { length alphabet.now ≡ compiled.now.locations }
     requires located { IsPairLocated alphabet.now compiled.now.check.level pair.now }
     requires relations { AreRelations compiled.now relations.now }
-    requires blocks { AreFiner compiled.now.blocks (length alphabet.now) compiled.now.check.level pair.now.before pair.now.after blocks.now }
+    requires blocks { AreFiner compiled.now.blocks (length alphabet.now) compiled.now.check.level
+        pair.now.before pair.now.after blocks.now }
     requires fits { L.fits (block_count blocks.now) }
     ensures row { IfOk result (RowOf compiled.now.check (length alphabet.now)
-        (paths_of compiled.now.check.level alphabet.now pair.now.before pair.now.after) compiled.now.states) }
-    ensures limit { IfErr result (λ e. e ≡ BuildError.Limit → form ≡ Form.Plain → MayBeOpen compiled.now.check (length alphabet.now)
-        (paths_of compiled.now.check.level alphabet.now pair.now.before pair.now.after) compiled.now.states) }
+        (paths_of compiled.now.check.level alphabet.now pair.now.before pair.now.after)
+        compiled.now.states) }
+    ensures limit { IfErr result (λ e. e ≡ BuildError.Limit → form ≡ Form.Plain →
+        MayBeOpen compiled.now.check (length alphabet.now)
+        (paths_of compiled.now.check.level alphabet.now pair.now.before pair.now.after)
+        compiled.now.states) }
 {
     // By what each compiled check keeps, its blocks are of its symbols.
     let _ = compiled.blocks();

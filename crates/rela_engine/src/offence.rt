@@ -37,11 +37,15 @@ pub(crate) fn first_offence<L: LabelSet>(
     states: usize,
 ) -> Result<Option<Offence>, BuildError>
     requires { before.now.letters ≡ after.now.letters }
-    ensures none { IfOk result (λ found. IfNone found (AreMet at_most (Accepts before.now) (Accepts after.now))) }
-    ensures first { IfOk result (λ found. IfSome found (λ offence. First (Offends at_most (Accepts before.now) (Accepts after.now)) offence.letters)) }
-    ensures side { IfOk result (λ found. IfSome found (λ offence. words_of offence.side (Accepts before.now) (Accepts after.now) offence.letters)) }
+    ensures none { IfOk result (λ found. IfNone found
+        (AreMet at_most (Accepts before.now) (Accepts after.now))) }
+    ensures first { IfOk result (λ found. IfSome found (λ offence.
+        First (Offends at_most (Accepts before.now) (Accepts after.now)) offence.letters)) }
+    ensures side { IfOk result (λ found. IfSome found (λ offence.
+        words_of offence.side (Accepts before.now) (Accepts after.now) offence.letters)) }
     ensures limit { IfErr result (λ e. e ≡ BuildError.Limit →
-        ReachPairsBefore before.now after.now (Offends at_most (Accepts before.now) (Accepts after.now)) (states + 1)) }
+        ReachPairsBefore before.now after.now
+        (Offends at_most (Accepts before.now) (Accepts after.now)) (states + 1)) }
 {
     if at_most {
         first_new(alloc, before, after, states)
@@ -58,11 +62,15 @@ fn first_new<L: LabelSet>(
     states: usize,
 ) -> Result<Option<Offence>, BuildError>
     requires { before.now.letters ≡ after.now.letters }
-    ensures none { IfOk result (λ found. IfNone found (AreMet true (Accepts before.now) (Accepts after.now))) }
-    ensures first { IfOk result (λ found. IfSome found (λ offence. First (Offends true (Accepts before.now) (Accepts after.now)) offence.letters)) }
-    ensures side { IfOk result (λ found. IfSome found (λ offence. words_of offence.side (Accepts before.now) (Accepts after.now) offence.letters)) }
+    ensures none { IfOk result (λ found. IfNone found
+        (AreMet true (Accepts before.now) (Accepts after.now))) }
+    ensures first { IfOk result (λ found. IfSome found (λ offence.
+        First (Offends true (Accepts before.now) (Accepts after.now)) offence.letters)) }
+    ensures side { IfOk result (λ found. IfSome found (λ offence.
+        words_of offence.side (Accepts before.now) (Accepts after.now) offence.letters)) }
     ensures limit { IfErr result (λ e. e ≡ BuildError.Limit →
-        ReachPairsBefore before.now after.now (Offends true (Accepts before.now) (Accepts after.now)) (states + 1)) }
+        ReachPairsBefore before.now after.now
+        (Offends true (Accepts before.now) (Accepts after.now)) (states + 1)) }
 {
     match included(alloc, after, before, states)? {
         Verdict::Same => Ok(None),
@@ -81,11 +89,15 @@ fn first_difference<L: LabelSet>(
     states: usize,
 ) -> Result<Option<Offence>, BuildError>
     requires { before.now.letters ≡ after.now.letters }
-    ensures none { IfOk result (λ found. IfNone found (AreMet false (Accepts before.now) (Accepts after.now))) }
-    ensures first { IfOk result (λ found. IfSome found (λ offence. First (Offends false (Accepts before.now) (Accepts after.now)) offence.letters)) }
-    ensures side { IfOk result (λ found. IfSome found (λ offence. words_of offence.side (Accepts before.now) (Accepts after.now) offence.letters)) }
+    ensures none { IfOk result (λ found. IfNone found
+        (AreMet false (Accepts before.now) (Accepts after.now))) }
+    ensures first { IfOk result (λ found. IfSome found (λ offence.
+        First (Offends false (Accepts before.now) (Accepts after.now)) offence.letters)) }
+    ensures side { IfOk result (λ found. IfSome found (λ offence.
+        words_of offence.side (Accepts before.now) (Accepts after.now) offence.letters)) }
     ensures limit { IfErr result (λ e. e ≡ BuildError.Limit →
-        ReachPairsBefore before.now after.now (Offends false (Accepts before.now) (Accepts after.now)) (states + 1)) }
+        ReachPairsBefore before.now after.now
+        (Offends false (Accepts before.now) (Accepts after.now)) (states + 1)) }
 {
     match equal(alloc, before, after, states)? {
         Verdict::Same => Ok(None),

@@ -62,17 +62,23 @@ pub(crate) fn see<L: LabelSet>(
     form: Form,
 ) -> Result<Seen<L>, BuildError>
     requires alphabet { length alphabet.now ≡ compiled.now.locations }
-    requires placed { All (λ node. symbol_at compiled.now.check.level node < length alphabet.now) graph.now.nodes }
-    requires blocks { AreFiner compiled.now.blocks (length alphabet.now) compiled.now.check.level graph.now graph.now blocks.now }
+    requires placed { All (λ node. symbol_at compiled.now.check.level node < length alphabet.now)
+        graph.now.nodes }
+    requires blocks { AreFiner compiled.now.blocks (length alphabet.now) compiled.now.check.level
+        graph.now graph.now blocks.now }
     requires plain { relation.now.plain.letters ≡ block_count compiled.now.blocks }
     requires small { relation.now.small.letters ≡ block_count compiled.now.blocks }
     requires fits { L.fits (block_count blocks.now) }
-    ensures seen { IfOk result (λ seen. AreSeen blocks.now (Paths graph.now compiled.now.check.level alphabet.now)
-        (Relates (read_by compiled.now.blocks) (machine_of form relation.now)) seen.paths seen.relation seen.image) }
-    ensures places { IfOk result (λ seen. form ≡ Form.Plain → KeepPlaces compiled.now.blocks blocks.now
-        compiled.now.check.level alphabet.now graph.now relation.now.plain seen.paths seen.relation) }
-    ensures limit { IfErr result (λ e. e ≡ BuildError.Limit → form ≡ Form.Plain → ImagePasses compiled.now.blocks blocks.now
-        compiled.now.check.level alphabet.now graph.now relation.now.plain compiled.now.states) }
+    ensures seen { IfOk result (λ seen.
+        AreSeen blocks.now (Paths graph.now compiled.now.check.level alphabet.now)
+        (Relates (read_by compiled.now.blocks) (machine_of form relation.now))
+        seen.paths seen.relation seen.image) }
+    ensures places { IfOk result (λ seen. form ≡ Form.Plain →
+        KeepPlaces compiled.now.blocks blocks.now compiled.now.check.level alphabet.now
+        graph.now relation.now.plain seen.paths seen.relation) }
+    ensures limit { IfErr result (λ e. e ≡ BuildError.Limit → form ≡ Form.Plain →
+        ImagePasses compiled.now.blocks blocks.now compiled.now.check.level alphabet.now
+        graph.now relation.now.plain compiled.now.states) }
 {
     let level = compiled.level();
     let coarse = compiled.blocks();
@@ -105,9 +111,11 @@ fn paths_over<L: LabelSet>(
     requires fits { L.fits (block_count blocks.now) }
     ensures paths { IfOk result (Recognises blocks.now (Paths graph.now level alphabet.now)) }
     ensures automaton { IfOk result IsAutomaton }
-    ensures least { IfOk result (λ _. (w : List ℕ) → Paths graph.now level alphabet.now w → AreLeastSymbols blocks.now w) }
+    ensures least { IfOk result (λ _. (w : List ℕ) →
+        Paths graph.now level alphabet.now w → AreLeastSymbols blocks.now w) }
     ensures places { IfOk result (λ nfa. form ≡ Form.Plain →
-        PathStates (length graph.now.nodes) (arrivals_of level alphabet.now graph.now) (Leads blocks.now nfa)) }
+        PathStates (length graph.now.nodes) (arrivals_of level alphabet.now graph.now)
+        (Leads blocks.now nfa)) }
 {
     match form {
         Form::Small => short_paths(alloc, graph, level, alphabet, blocks),
@@ -131,8 +139,11 @@ fn plain_paths<L: LabelSet>(
     requires fits { L.fits (block_count blocks.now) }
     ensures paths { IfOk result (Recognises blocks.now (Paths graph.now level alphabet.now)) }
     ensures automaton { IfOk result IsAutomaton }
-    ensures least { IfOk result (λ _. (w : List ℕ) → Paths graph.now level alphabet.now w → AreLeastSymbols blocks.now w) }
-    ensures places { IfOk result (λ nfa. PathStates (length graph.now.nodes) (arrivals_of level alphabet.now graph.now) (Leads blocks.now nfa)) }
+    ensures least { IfOk result (λ _. (w : List ℕ) →
+        Paths graph.now level alphabet.now w → AreLeastSymbols blocks.now w) }
+    ensures places { IfOk result (λ nfa.
+        PathStates (length graph.now.nodes) (arrivals_of level alphabet.now graph.now)
+        (Leads blocks.now nfa)) }
 {
     prove!(graph.nodes().len() <= MAX_NODES);
     let nfa = graph.to_nfa(alloc, level, alphabet, blocks)?;
@@ -157,7 +168,8 @@ fn short_paths<L: LabelSet>(
     requires fits { L.fits (block_count blocks.now) }
     ensures paths { IfOk result (Recognises blocks.now (Paths graph.now level alphabet.now)) }
     ensures automaton { IfOk result IsAutomaton }
-    ensures least { IfOk result (λ _. (w : List ℕ) → Paths graph.now level alphabet.now w → AreLeastSymbols blocks.now w) }
+    ensures least { IfOk result (λ _. (w : List ℕ) →
+        Paths graph.now level alphabet.now w → AreLeastSymbols blocks.now w) }
 {
     let whole = plain_paths(alloc, graph, level, alphabet, blocks)?;
     let nfa = whole.shortened(alloc)?;
@@ -179,10 +191,12 @@ fn relation_over<L: LabelSet>(
     requires small { relation.now.small.letters ≡ block_count coarse.now }
     requires paths { paths.now.letters ≡ block_count blocks.now }
     requires fits { L.fits (block_count blocks.now) }
-    ensures relation { IfOk result (RealisesFrom blocks.now (λ u. Accepts paths.now (map (read_by blocks.now) u))
+    ensures relation { IfOk result (RealisesFrom blocks.now
+        (λ u. Accepts paths.now (map (read_by blocks.now) u))
         (Relates (read_by coarse.now) (machine_of form relation.now))) }
     ensures machine { IfOk result IsMachine }
-    ensures reached { IfOk result (λ t. form ≡ Form.Plain → LeadAlike coarse.now relation.now.plain blocks.now t) }
+    ensures reached { IfOk result (λ t. form ≡ Form.Plain →
+        LeadAlike coarse.now relation.now.plain blocks.now t) }
 {
     match form {
         Form::Small => small_relation(alloc, &relation.small, paths, coarse, blocks),
@@ -206,7 +220,9 @@ fn small_relation<L: LabelSet>(
     requires letters { relation.now.letters ≡ block_count coarse.now }
     requires paths { paths.now.letters ≡ block_count blocks.now }
     requires fits { L.fits (block_count blocks.now) }
-    ensures relation { IfOk result (RealisesFrom blocks.now (λ u. Accepts paths.now (map (read_by blocks.now) u)) (Relates (read_by coarse.now) relation.now)) }
+    ensures relation { IfOk result (RealisesFrom blocks.now
+        (λ u. Accepts paths.now (map (read_by blocks.now) u))
+        (Relates (read_by coarse.now) relation.now)) }
     ensures machine { IfOk result IsMachine }
 {
     if relation.states() / FEW_FOR_EACH <= paths.states() {
@@ -226,7 +242,8 @@ fn whole_relation<L: LabelSet>(
     requires refines { Refines blocks.now coarse.now }
     requires letters { relation.now.letters ≡ block_count coarse.now }
     requires fits { L.fits (block_count blocks.now) }
-    ensures relation { IfOk result (Realises blocks.now (Relates (read_by coarse.now) relation.now)) }
+    ensures relation { IfOk result (Realises blocks.now
+        (Relates (read_by coarse.now) relation.now)) }
     ensures machine { IfOk result IsMachine }
     ensures reached { IfOk result (LeadAlike coarse.now relation.now blocks.now) }
 {
@@ -247,7 +264,9 @@ fn read_relation<L: LabelSet>(
     requires refines { Refines blocks.now coarse.now }
     requires letters { relation.now.letters ≡ block_count coarse.now }
     requires paths { paths.now.letters ≡ block_count blocks.now }
-    ensures relation { IfOk result (RealisesFrom blocks.now (λ u. Accepts paths.now (map (read_by blocks.now) u)) (Relates (read_by coarse.now) relation.now)) }
+    ensures relation { IfOk result (RealisesFrom blocks.now
+        (λ u. Accepts paths.now (map (read_by blocks.now) u))
+        (Relates (read_by coarse.now) relation.now)) }
     ensures machine { IfOk result IsMachine }
 {
     let finer = relation.relabel_reached(alloc, paths, coarse, blocks)?;
