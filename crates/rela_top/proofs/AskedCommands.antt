@@ -1,5 +1,5 @@
 -- What commands words ask for, by what their arguments give.
-use Rattle.std.proofs.Common.{◌≡◌, ◌≢◌, ℕ, ◌+◌, ◌≤◌, ◌↔◌, List, [], ◌∷◌, length, map, Option, Some, None, Result, Ok, Err, refl, sym, ap, subst, ◌∙◌, arith}
+use Rattle.std.proofs.Common.{◌≡◌, ◌≢◌, ℕ, ◌+◌, ◌≤◌, ◌↔◌, List, [], ◌∷◌, length, Option, Some, None, Result, Ok, Err, refl, sym, ap, subst, ◌∙◌, arith}
 use Rattle.std.specs.Prelude.{codes, option_map, unwrap_or, OnErr}
 use Rattle.rela_top.specs.Arguments.{StillGive, GiveJust, GiveNone, Passes}
 use Rattle.rela_top.specs.Words.{Command, Check, Fmt, Ask, AskJust, HasStates, Give, default_states}

@@ -1,5 +1,5 @@
 -- The next operand, or the end.
-use Rattle.std.proofs.Common.{◌≡◌, ℕ, ◌↔◌, ◌⊎◌, Bool, true, false, List, [], ◌∷◌, length, map, Option, refl, sym, subst, ◌∙◌, arith}
+use Rattle.std.proofs.Common.{◌≡◌, ℕ, ◌↔◌, ◌⊎◌, Bool, true, List, [], ◌∷◌, length, map, Option, refl, sym, subst, arith}
 use Rattle.rela_top.specs.Arguments.{GiveBehind}
 use Rattle.rela_top.proofs.WordsBehind.{Word, first_operand, at_the_end}
 use Rattle.rela_top.proofs.WordViews.{IsPlain}

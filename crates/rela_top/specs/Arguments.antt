@@ -1,5 +1,5 @@
 -- Words that are read one after another.
-use Rattle.std.specs.Prelude.{◌≡◌, ℕ, ◌+◌, ◌++◌, ◌⊎◌, codes, Bool, true, false, List, [], ◌∷◌, length, map, Option, Some, None, ◌↔◌, string_bytes}
+use Rattle.std.specs.Prelude.{◌≡◌, ℕ, ◌++◌, ◌⊎◌, codes, Bool, true, false, List, ◌∷◌, length, map, Option, Some, None, ◌↔◌, string_bytes}
 use Rattle.rela_top.specs.Words.{Give}
 use Rattle.rela_top.specs.declared.arguments.Arguments.{Arguments}
 

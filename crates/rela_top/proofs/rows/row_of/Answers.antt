@@ -1,5 +1,4 @@
 use Rattle.std.proofs.Common.{◌∙◌, ◌≡◌, ap, get_or, subst, sym}
-use Rattle.rela_report.specs.Text.{RowHasTexts}
 use Rattle.rela_report.specs.declared.rows.ReportRow.{ReportRow}
 use Rattle.rela_report.specs.declared.rows.ReportRow.TheVariants.{Checked}
 use Rattle.rela_translate.specs.Checked.{Checked as Check}

@@ -1,7 +1,6 @@
-use Rattle.std.proofs.Common.{◌≡◌, Some, map}
+use Rattle.std.proofs.Common.{map}
 use Rattle.std.specs.Prelude.{string_bytes}
 use Rattle.rela_top.specs.Commands.{command_of}
-use Rattle.rela_top.specs.Words.{Ask}
 use Rattle.rela_top.proofs.AskedCommands.{has_states, asked_of}
 use Rattle.rela_top.proofs.running.run.Goals as goal
 

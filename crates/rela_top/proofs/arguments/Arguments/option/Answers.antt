@@ -1,6 +1,5 @@
-use Rattle.std.proofs.Common.{◌≡◌, ◌≢◌, ℕ, List, Option, Some, None, true, map, refl, sym, ap, ◌∙◌}
+use Rattle.std.proofs.Common.{◌≡◌, Some, true, map, sym, ap, ◌∙◌}
 use Rattle.std.specs.Prelude.{codes, string_bytes, is_some}
-use Rattle.rela_top.specs.Words.{GivesStates}
 use Rattle.rela_top.proofs.AskedCommands.{on_err}
 use Rattle.rela_top.proofs.WordsTaken.{is_text, isnt_text, none_is, taken_dashes, no_number, given_twice, bad_number, taken_option, only_number, none_given}
 use Rattle.rela_top.proofs.arguments.Arguments.option.Goals as goal
