@@ -1,4 +1,4 @@
-//! Tests of locations, flows and snapshots, and of what is read as them, by public calls alone.
+//! Tests of locations, flows, snapshots and forwarding tables, by public calls alone.
 #![tactic(auto)]
 
 #[cfg(test)]
@@ -9,3 +9,5 @@ mod locations;
 mod network;
 #[cfg(test)]
 mod snapshots;
+#[cfg(test)]
+mod tables;
