@@ -16,6 +16,7 @@ pub mod SplitBlocks
 pub mod Continued
 pub mod LimitedParts
 pub mod LeastComplements
+pub mod ReducedParts
 pub mod CheckLetters
 pub mod CheckedRelations
 pub mod AlikeBodies

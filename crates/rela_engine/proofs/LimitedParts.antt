@@ -29,7 +29,7 @@ use Rattle.rela_build.specs.Reading.{read_by, HoldsJust}
 use Rattle.rela_build.specs.declared.stop.Stop.{Stop}
 use Rattle.rela_build.specs.declared.stop.Stop.TheVariants.{Limit, Refused, Memory}
 use Rattle.rela_build.proofs.ReadWords.{over as over_path}
-use Rattle.rela_engine.proofs.Continued.{told_by_end}
+use Rattle.rela_engine.specs.Telling.{IsTold, TellsWords}
 
 -- pairs of a list that is mapped
 mapped_pairs : {X Y : Type 0} (R : Y → Y → Type 0) (f : X → Y) (xs : List X) → AllPairs R (map f xs) → AllPairs (λ x y. R (f x) (f y)) xs
@@ -130,40 +130,46 @@ module _ (l : Lettering) (paths : Paths) where
       subst (λ (n : ℕ). ReachedInsideR m (n + 1) r) same (refused_inside covers exactly first (states + 1) number r stopped)
   stopped_inside covers exactly states limit first same r Memory stopped other = absurd (other refl)
 
-  -- ---- no more sets of states than the limit: no more words are told by continuing them
+  -- ---- each complement was made: no more words are told by continuing them than the limit
 
-  told_on : (exactly : Type 0) (x : PathTerm) (a : Automaton) → IsMade exactly l paths x a → (v w : List ℕ) → ToldByContinuing m x v w → AreApart a (map f v) (map f w)
+  told_on : (exactly : Type 0) (x : PathTerm) (a : Automaton) (over : List Bool) → IsPart exactly l paths x a over → (v w : List ℕ) → ToldByContinuing m x v w → IsTold a over (map f v) (map f w)
   unfolding IsMade
-  told_on exactly x a made v w (z, path, inl first) =
-      let apart = told_by_end a (map f v) (map f w) (map f z)
-      (subst (Accepts a) (map-append f v z) ((made.language (v ++ z)).1 first.0))
-      (λ accepted. first.1 ((made.language (w ++ z)).0 (subst (Accepts a) (sym (map-append f w z)) accepted))) in
-      (apart.0, inl apart.1)
-  told_on exactly x a made v w (z, path, inr second) =
-      let apart = told_by_end a (map f w) (map f v) (map f z)
-      (subst (Accepts a) (map-append f w z) ((made.language (w ++ z)).1 second.1))
-      (λ accepted. second.0 ((made.language (v ++ z)).0 (subst (Accepts a) (sym (map-append f v z)) accepted))) in
-      (apart.0, inr apart.1)
+  told_on exactly x a over is v w (z, path, inl first) = (
+    map f z,
+    (over_path f over l.path_symbols is.of_path.holds z).1 path,
+    inl (
+      subst (Accepts a) (map-append f v z) ((is.made.language (v ++ z)).1 first.0),
+      λ accepted. first.1 ((is.made.language (w ++ z)).0 (subst (Accepts a) (sym (map-append f w z)) accepted)),
+    ),
+  )
+  told_on exactly x a over is v w (z, path, inr second) = (
+    map f z,
+    (over_path f over l.path_symbols is.of_path.holds z).1 path,
+    inr (
+      subst (Accepts a) (map-append f w z) ((is.made.language (w ++ z)).1 second.1),
+      λ accepted. second.0 ((is.made.language (v ++ z)).0 (subst (Accepts a) (sym (map-append f v z)) accepted)),
+    ),
+  )
 
-  sets_of_words : (exactly : Type 0) (x : PathTerm) (a : Automaton) (over : List Bool) (k : ℕ) → IsPart exactly l paths x a over → AreTold m x k → ReachSets a over k
-  sets_of_words exactly x a over k is told = record {
+  told_words : (exactly : Type 0) (x : PathTerm) (a : Automaton) (over : List Bool) (k : ℕ) → IsPart exactly l paths x a over → AreTold m x k → TellsWords a over k
+  told_words exactly x a over k is told = record {
     words = map (map f) told.words;
     count = length-map told.words (map f) ∙ told.many;
     letters = All-map (IsOver over) (map f) told.words
         (All-weaker IsPath (λ w. IsOver over (map f w)) (λ w. (over_path f over l.path_symbols is.of_path.holds w).1) told.words told.symbols);
-    apart = pairs_mapped (AreApart a) (map f) told.words []
-        (weaker_pairs (ToldByContinuing m x) (λ v w. AreApart a (map f v) (map f w)) (told_on exactly x a is.made) told.words told.told);
+    told = pairs_mapped (IsTold a over) (map f) told.words []
+        (weaker_pairs (ToldByContinuing m x) (λ v w. IsTold a over (map f v) (map f w)) (told_on exactly x a over is) told.words told.told);
   }
 
   abbrev Answers : {N : Type 0} → ℕ → ℕ → Automaton → List Bool → N → Type 0
-  Answers k number a over note = ¬ ReachSets a over k
+  Answers k number a over note = ¬ TellsWords a over k
 
   none_told : {N : Type 0} (exactly : Type 0) (k first : ℕ) (parts : List PathTerm) (notes : List N) → AreNoted (Answers k) exactly l paths first parts notes
       → (part : PathTerm) → Contains parts part → ¬ AreTold m part k
   none_told exactly k first [] notes noted part (i, inside, at) told = absurd (omega (arith, inside))
   none_told exactly k first (p ∷ parts) [] noted part listed told = absurd noted
   none_told exactly k first (p ∷ parts) (note ∷ notes) (here, later) part (zero, inside, at) told =
-      here.3 (sets_of_words exactly p here.0 here.1 k here.2 (subst (λ (x : PathTerm). AreTold m x k) (sym at) told))
+      here.3 (told_words exactly p here.0 here.1 k here.2 (subst (λ (x : PathTerm). AreTold m x k) (sym at) told))
   none_told exactly k first (p ∷ parts) (note ∷ notes) (here, later) part (suc i, inside, at) told =
       none_told exactly k (first + 1) parts notes later part (i, omega (arith, inside), at) told
 

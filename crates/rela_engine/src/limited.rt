@@ -4,16 +4,19 @@ ghost use Rattle.rela_minimise.specs.Classes.{IsMinimal};
 ghost use Rattle.rela_nfa.specs.Runs.{Accepts};
 ghost use Rattle.rela_subset.specs.Deterministic.{IsAccepted, IsOver, state_after};
 ghost use Rattle.rela_subset.specs.Subsets.{KeepsApart, ReachSame, ReachSets};
+ghost use Rattle.rela_engine.specs.Telling.{TellsWords};
 
 use rela_build::{Answer, Complements};
 use rela_labels::WideSet;
 use rela_minimise::minimise;
 use rela_nfa::{BuildError, Nfa};
+use rela_reduce::reduce;
 use rela_subset::{Dfa, determinise};
 use std::alloc::Global;
 
-/// Makes a complement of the minimal automaton of its part. One is refused just where words of path
-/// symbols reach more sets of states of the part than the limit.
+/// Makes a complement of the minimal automaton of its part. One is refused only where words of path
+/// symbols reach more sets of states of the part than the limit, and always where more such words are
+/// told apart by continuing them.
 #[derive(Drop)]
 pub(crate) struct Limited {
     /// The limit: how many sets of states words may reach.
@@ -36,7 +39,7 @@ impl Complements for Limited {
 
     ghost tells_all = { ⊥ };
 
-    ghost answers = { λ limited _ a over _. ¬ ReachSets a over (limited.states + 1) };
+    ghost answers = { λ limited _ a over _. ¬ TellsWords a over (limited.states + 1) };
 
     ghost refuses = { λ limited _ a over. ReachSets a over (limited.states + 1) };
 
@@ -55,9 +58,9 @@ impl Complements for Limited {
     }
 }
 
-/// The minimal automaton of the words over these letters that the automaton accepts, where they reach
-/// no more sets of its states than the limit. The one with all these sets, which may be far larger, is
-/// let go here.
+/// The minimal automaton of the words over these letters that the automaton accepts, where its states are
+/// no more than the limit. It is made by way of one that reaches fewer sets of states, and the one with
+/// all these sets, which may be far larger, is let go here.
 fn least_over(
     alloc: Global,
     a: &Nfa<WideSet>,
@@ -73,10 +76,11 @@ fn least_over(
         ReachSame a.now v w → state_after dfa v ≡ state_after dfa w) }
     ensures told { IfOk result (KeepsApart a.now over.now) }
     ensures minimal { IfOk result IsMinimal }
-    ensures within { IfOk result (λ _. ¬ ReachSets a.now over.now (limit + 1)) }
+    ensures within { IfOk result (λ _. ¬ TellsWords a.now over.now (limit + 1)) }
     ensures past { IfErr result (λ e. e ≡ BuildError.Limit → ReachSets a.now over.now (limit + 1)) }
 {
-    let sets = determinise(alloc, a, over, limit)?;
+    let small = reduce(alloc, a)?;
+    let sets = determinise(alloc, &small, over, limit)?;
     let least = minimise(alloc, &sets)?;
     Ok(least)
 }

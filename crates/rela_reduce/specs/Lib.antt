@@ -1,0 +1,4 @@
+pub mod Apart
+pub mod Numbered
+pub mod Simulation
+pub mod Stored

@@ -1,0 +1,15 @@
+//! Automata whose words reach fewer sets of states, by silent edges to states that others simulate.
+#![tactic(auto)]
+
+mod arrow;
+mod closed;
+mod containment;
+mod edges;
+mod flags;
+mod labels;
+mod numbered;
+mod reducing;
+mod simulation;
+mod widening;
+
+pub use reducing::reduce;

@@ -1,0 +1,77 @@
+//! The automaton whose words reach fewer sets of states.
+ghost use Rattle.std.specs.Prelude.{◌≡◌, ℕ, ◌<◌, ◌↔◌, List, IfOk, length};
+ghost use Rattle.rela_nfa.specs.Automaton.{states};
+ghost use Rattle.rela_nfa.specs.Runs.{Accepts, Reach};
+ghost use Rattle.rela_reduce.specs.Apart.{AreApart, ReachSame};
+ghost use Rattle.rela_reduce.specs.Numbered.{IsPlain};
+ghost use Rattle.rela_reduce.specs.Simulation.{IsSet, Simulates};
+ghost use Rattle.rela_reduce.specs.Stored.{lists_of, plain};
+
+use crate::closed::closed_steps;
+use crate::containment::containments;
+use crate::edges::edge_lists;
+use crate::labels::Labels;
+use crate::numbered::{Numbered, with_numbers};
+use crate::simulation::simulation;
+use crate::widening::widened;
+use rela_labels::LabelSet;
+use rela_nfa::Nfa;
+use std::alloc::{AllocError, Global};
+
+/// The most states, labels and steps of an automaton whose states are compared.
+const MOST_STATES: usize = 2_048;
+
+const MOST_LABELS: usize = 256;
+
+const MOST_STEPS: usize = 4_096;
+
+/// The automaton with the same states and edges, and a silent edge from each state to each that it
+/// simulates, which adds no word to the language. A word so reaches, with a state, all that are less: of
+/// sets that differ in these alone, which there may be by the thousand, one is left. No two words are told
+/// apart that were not.
+///
+/// States are compared where the automaton is small, and else none is said to simulate another. It costs a
+/// look at each pair of states for each of a few rounds, and at pairs of edges.
+pub fn reduce<L: LabelSet>(alloc: Global, a: &Nfa<L>) -> Result<Nfa<L>, AllocError>
+    ensures letters { IfOk result (λ nfa. nfa.letters ≡ a.now.letters) }
+    ensures states { IfOk result (λ nfa. states nfa ≡ states a.now) }
+    ensures language { IfOk result (λ nfa. (w : List ℕ) → Accepts nfa w ↔ Accepts a.now w) }
+    ensures reached { IfOk result (λ nfa. (q : ℕ) (w : List ℕ) → Reach a.now q w → Reach nfa q w) }
+    ensures same { IfOk result (λ nfa. (v w : List ℕ) → ReachSame a.now v w → ReachSame nfa v w) }
+    ensures apart { IfOk result (λ nfa. (v w : List ℕ) → AreApart nfa v w → AreApart a.now v w) }
+{
+    let mut labels = Labels::new(alloc);
+    let whole = with_numbers(alloc, a, &mut labels)?;
+    let relation = relation_of(alloc, &whole, &labels)?;
+    let lists = widened(alloc, &whole, &relation)?;
+    let edges = edge_lists(alloc, &lists, &labels)?;
+    let Numbered {
+        labels: _,
+        start,
+        finals,
+        arrows: _,
+    } = whole;
+    Ok(Nfa::from_lists(a.letters(), start, finals, edges))
+}
+
+/// For each state a flag for each that it simulates; no flag is set where the automaton isn't small.
+fn relation_of<L: LabelSet>(
+    alloc: Global,
+    whole: &Numbered,
+    labels: &Labels<'_, L>,
+) -> Result<Vec<Vec<bool>>, AllocError>
+    requires { IsPlain (plain whole.now) }
+    ensures { IfOk result (λ rows. (p q : ℕ) → p < length whole.now.finals.items → q < length whole.now.finals.items → IsSet (lists_of rows.items) p q
+        → Simulates labels.now (plain whole.now) (lists_of rows.items) p q) }
+{
+    if whole.finals.len() > MOST_STATES || labels.len() > MOST_LABELS {
+        return Ok(Vec::new(alloc));
+    }
+    match closed_steps(alloc, whole, MOST_STEPS)? {
+        Some(closed) => {
+            let within = containments(alloc, labels)?;
+            simulation(alloc, whole, &closed, &within)
+        }
+        None => Ok(Vec::new(alloc)),
+    }
+}
