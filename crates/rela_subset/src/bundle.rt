@@ -68,11 +68,15 @@ impl<L: LabelSet> Bundle<L> {
         Ok(())
     }
 
-    /// The edges.
+    /// The edges, without room for more: an automaton keeps them for each of its states.
     pub(crate) fn into_edges(self) -> Vec<Edge<L>>
         ensures { map (move_of L.letters) result.items ≡ self }
     {
-        let Bundle { edges, places: _ } = self;
+        let Bundle {
+            mut edges,
+            places: _,
+        } = self;
+        edges.shrink_to_fit();
         edges
     }
 }

@@ -28,7 +28,7 @@ impl<L: LabelSet> Transducer<L> {
         finals.push(false)?;
         finals.extend_from_slice(&self.finals)?;
         finals.extend_from_slice(&other.finals)?;
-        let mut moves = Vec::new(alloc);
+        let mut moves = Vec::with_capacity(alloc, finals.len())?;
         moves.push(silent_moves(alloc, &[1 + self.start(), 1 + count + other.start()])?)?;
         self.copy_onto(alloc, &mut moves, 1, None)?;
         other.copy_onto(alloc, &mut moves, 1 + count, None)?;
@@ -56,7 +56,7 @@ impl<L: LabelSet> Transducer<L> {
         let count = self.states();
         let mut finals = vec![in alloc; false; count]?;
         finals.extend_from_slice(&other.finals)?;
-        let mut moves = Vec::new(alloc);
+        let mut moves = Vec::with_capacity(alloc, finals.len())?;
         self.copy_onto(alloc, &mut moves, 0, Some(count + other.start()))?;
         other.copy_onto(alloc, &mut moves, count, None)?;
         Ok(Transducer {
@@ -82,7 +82,7 @@ impl<L: LabelSet> Transducer<L> {
         finals.push(true)?;
         finals.extend_from_slice(&self.finals)?;
         let entry = 1 + self.start();
-        let mut moves = Vec::new(alloc);
+        let mut moves = Vec::with_capacity(alloc, finals.len())?;
         moves.push(silent_moves(alloc, &[entry])?)?;
         self.copy_onto(alloc, &mut moves, 1, Some(entry))?;
         Ok(Transducer {

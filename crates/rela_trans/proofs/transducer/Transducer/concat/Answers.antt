@@ -35,7 +35,7 @@ module _ (g : Over) (c : goal.After-start-2 g) where
         moves =
             c.in_ok-copy_onto-2.ensures
             ∙ ap (λ l. l ++ copied b c.states-count.result None)
-            (c.in_ok-copy_onto.ensures ∙ ap (λ l. moves_in g.L.LabelSet.letters l ++ copied a 0 (Some (c.states-count.result + c.start.result))) c.new-moves.ensures.items
+            (c.in_ok-copy_onto.ensures ∙ ap (λ l. moves_in g.L.LabelSet.letters l ++ copied a 0 (Some (c.states-count.result + c.start.result))) c.in_ok-moves.ensures.items
             ∙ ap (λ n. copied a 0 (Some (c.states-count.result + n))) c.start.ensures.start)
             ∙ ap (λ n. copied a 0 (Some (n + b.start)) ++ copied b n None) count;
         finals =

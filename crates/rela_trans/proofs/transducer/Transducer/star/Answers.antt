@@ -24,7 +24,7 @@ module _ (g : Over) (c : goal.In_ok-copy_onto g) where
       let a = c.args.self.now in
       let moves = moves_in g.L.LabelSet.letters in
       let entry : moves c.push-2.new.self.items ≡ map silent ((1 + c.start-entry.result) ∷ []) ∷ [] =
-      ap moves c.in_ok-push-2.ensures.items ∙ ap (λ v. moves (v ++ c.in_ok-silent_moves.field-0 ∷ [])) c.new-moves.ensures.items ∙ ap (λ m. m ∷ []) c.in_ok-silent_moves.ensures in
+      ap moves c.in_ok-push-2.ensures.items ∙ ap (λ v. moves (v ++ c.in_ok-silent_moves.field-0 ∷ [])) c.in_ok-moves.ensures.items ∙ ap (λ m. m ∷ []) c.in_ok-silent_moves.ensures in
       record {
         letters = ap (λ (x : Machine). x.letters) c.self.view_is;
         start = refl;

@@ -29,7 +29,7 @@ module _ (g : Over) (c : goal.In_ok-copy_onto-2 g) where
       let moves = moves_in g.L.LabelSet.letters in
       let ends = map silent ((1 + a.start) ∷ (1 + machine_states a + b.start) ∷ []) in
       let entry : moves c.push-2.new.self.items ≡ ends ∷ [] =
-      ap moves c.in_ok-push-2.ensures.items ∙ ap (λ v. moves (v ++ c.in_ok-silent_moves.field-0 ∷ [])) c.new-moves.ensures.items
+      ap moves c.in_ok-push-2.ensures.items ∙ ap (λ v. moves (v ++ c.in_ok-silent_moves.field-0 ∷ [])) c.in_ok-moves.ensures.items
       ∙ ap (λ m. m ∷ []) (c.in_ok-silent_moves.ensures ∙ cc) in
       record {
         letters = ap (λ (x : Machine). x.letters) c.self.view_is;
