@@ -8,3 +8,9 @@ pub mod Plain
 pub mod Flows
 pub mod Unique
 pub mod Chains
+pub mod Newlines
+pub mod ReadBack
+pub mod Numbered
+pub mod PrefixNames
+pub mod Entries
+pub mod Loading

@@ -8,7 +8,7 @@ use Rattle.std.proofs.lemmas.Bool.{and_parts, eqb-true, leb-true, or_cases}
 use Rattle.std.proofs.lemmas.Fmt.{decimal_is_IsNumeral}
 use Rattle.std.proofs.lemmas.Str.Parse.{digit_at}
 use Rattle.std.proofs.lemmas.List.{get_or_default}
-use Rattle.std.proofs.lemmas.List.Elements.{All-nil, All-cons, All-append, All-head, All-tail, All-weaker}
+use Rattle.std.proofs.lemmas.List.Elements.{All-nil, All-cons, All-append, All-head, All-tail}
 use Rattle.json.specs.Print.{escape}
 use Rattle.json.proofs.Printed.Strings.{escape_byte_plain}
 use Rattle.rela_names.specs.Name.{IsName, is_name_byte}
@@ -19,9 +19,6 @@ use Rattle.rela_flows.specs.declared.prefix.Prefix.TheVariants.{V4}
 -- a byte of ASCII that needs no escape
 abbrev pub IsPlain : ℕ → Type 0
 IsPlain x = (35 ≤ x) × (x ≡ 92 → ⊥) × (x < 128)
-
-pub plain_ascii : (s : List ℕ) → All IsPlain s → All (λ (x : ℕ). x < 128) s
-plain_ascii s h = All-weaker IsPlain (λ (x : ℕ). x < 128) (λ x p. p.2) s h
 
 pub plain_escape : (s : List ℕ) → All IsPlain s → escape s ≡ s
 plain_escape [] h = refl

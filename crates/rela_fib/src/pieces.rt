@@ -4,8 +4,9 @@ ghost use Rattle.std.specs.Prelude.{◌≡◌, ◌++◌, ◌∷◌, [], OnOk, de
 ghost use Rattle.json.specs.Print.{escape};
 ghost use Rattle.serde_json.specs.Data.{string};
 ghost use Rattle.serde_json.specs.Written.{comma_if, compact_text};
+ghost use Rattle.rela_names.specs.Alphabet.{IsAlphabet};
 ghost use Rattle.rela_names.specs.declared.level.Level.TheVariants.{Interface};
-ghost use Rattle.rela_locations.specs.Network.{name_of};
+ghost use Rattle.rela_locations.specs.Network.{alphabet_of};
 ghost use Rattle.rela_fib.specs.Text.{edge_data, list_data, names_of, numbers_data};
 ghost use Rattle.rela_fib.specs.Writing.{key_text, plain_text};
 
@@ -88,6 +89,14 @@ pub(crate) fn push_edges(text: &mut Vec<u8>, edges: &[(u32, u32)]) -> Result<(),
     }
     text.push(b']')?;
     Ok(())
+}
+
+/// The names of the interfaces ascend, and each is one that a location may have. The call reads
+/// their number alone, and its contract is this law.
+pub(crate) fn interfaces_ascend(locations: &Locations)
+    ensures { IsAlphabet (alphabet_of Interface locations.now) }
+{
+    let _len = locations.alphabet(Level::Interface).len();
 }
 
 /// The name of a symbol, which needs no escapes.

@@ -2,12 +2,14 @@
 
 ghost use Rattle.std.specs.Prelude.{◌≡◌, Err, IfOk, OnOk};
 ghost use Rattle.rela_tables.specs.Located.{IsForwardingIn};
+ghost use Rattle.rela_fib.specs.Loading.{LoadsAs};
 ghost use Rattle.rela_fib.specs.Snapshot.{IsSnapshotOf, IsTooLong, IsTooMany};
 
 use crate::classes::address_classes;
 use crate::devices::Devices;
 use crate::error::FibError;
 use crate::nodes::nodes_of;
+use crate::pieces::interfaces_ascend;
 use crate::places::places_of;
 use crate::writing::{end_of, text_of};
 use rela_locations::Locations;
@@ -25,7 +27,8 @@ const MAX_FLOWS: usize = 10_000;
 /// It has a flow for each class of addresses that the routes of both files cut, in the order of the
 /// addresses. The flow's name and `dst` are the class. Its nodes are the interfaces of the starts
 /// and hops of `tables`. From each there is an edge to each hop of the route that its device
-/// chooses, by `tables`, for the addresses of the class.
+/// chooses, by `tables`, for the addresses of the class. Read as a snapshot of these locations, the
+/// text gives just these flows, each from any address and in the class `default`.
 ///
 /// Time and space are linear in the number of routes times the 32 bits of an address, n log n in
 /// the number of hops, and linear in the text; and each device of a node chooses once for each
@@ -45,6 +48,8 @@ pub fn snapshot_text(
     requires { IsForwardingIn locations.now tables.now }
     ensures text { IfOk result (λ text.
         IsSnapshotOf locations.now tables.now other.now text.items) }
+    ensures loads { IfOk result (λ text.
+        LoadsAs locations.now tables.now other.now text.items) }
     ensures too_many { result ≡ Err FibError.TooMany
         → IsTooMany locations.now tables.now other.now }
     ensures too_long { result ≡ Err FibError.TooLong
@@ -64,6 +69,7 @@ pub fn snapshot_text(
     }
     let starts = places_of(alloc, nodes.as_slice(), tables.starts())?;
     let devices = Devices::new(alloc, locations, tables, nodes.as_slice())?;
+    interfaces_ascend(locations);
     let end = end_of(alloc, locations, nodes.as_slice(), starts.as_slice())?;
     text_of(alloc, &devices, classes.as_slice(), end.as_slice())
 }

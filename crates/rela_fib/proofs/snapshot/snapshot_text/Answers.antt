@@ -2,6 +2,7 @@ use Rattle.std.proofs.Common.{ap, arith, inr, length, subst, sym}
 use Rattle.rela_tables.specs.Located.{AreInterfaces}
 use Rattle.rela_fib.proofs.Chains.{if_ok_weaker, on_ok_from}
 use Rattle.rela_fib.proofs.Flows.{many_edges, not_long_by, not_many_by, planned, too_long, written}
+use Rattle.rela_fib.proofs.Loading.{loads_as}
 use Rattle.rela_fib.proofs.Located.{nodes_located}
 use Rattle.rela_fib.proofs.Steps.{as_many_nodes, matched}
 use Rattle.rela_fib.proofs.snapshot.snapshot_text.Goals as goal
@@ -20,6 +21,13 @@ returns-clause-text c =
     let plan = planned c.args.locations.now c.args.tables.now c.args.other.now _ _ _ _ _ _ _ _ _ _ _ _ c.as_slice.ensures.value c.as_slice-2.ensures.value c.as_slice-3.ensures.value c.starts.ensures c.as_slice-4.ensures.value c.as_slice-5.ensures.value c.as_slice-6.ensures.value
     c.in_ok-nodes.ensures (omega (arith, c.if-len-gt-MAX_NODES.false, c.len.ensures, c.in_ok-nodes.nodes.ok.0)) c.in_ok-starts.ensures c.in_ok-classes.ensures.classes c.in_ok-classes.ensures.uniform (omega (arith, c.if-len-gt-MAX_FLOWS.false, c.len-2.ensures, c.in_ok-classes.classes.ok.0)) c.in_ok-devices.ensures c.in_ok-end.ensures in
     if_ok_weaker c.text_of.result _ _ (λ text is. written c.args.locations.now c.args.tables.now c.args.other.now _ _ _ c.in_ok-devices.devices _ text.items plan is) c.text_of.ensures.text
+
+pub returns-clause-loads : goal.returns-clause-loads
+returns-clause-loads c =
+    let plan = planned c.args.locations.now c.args.tables.now c.args.other.now _ _ _ _ _ _ _ _ _ _ _ _ c.as_slice.ensures.value c.as_slice-2.ensures.value c.as_slice-3.ensures.value c.starts.ensures c.as_slice-4.ensures.value c.as_slice-5.ensures.value c.as_slice-6.ensures.value
+    c.in_ok-nodes.ensures (omega (arith, c.if-len-gt-MAX_NODES.false, c.len.ensures, c.in_ok-nodes.nodes.ok.0)) c.in_ok-starts.ensures c.in_ok-classes.ensures.classes c.in_ok-classes.ensures.uniform (omega (arith, c.if-len-gt-MAX_FLOWS.false, c.len-2.ensures, c.in_ok-classes.classes.ok.0)) c.in_ok-devices.ensures c.in_ok-end.ensures in
+    if_ok_weaker c.text_of.result _ _ (λ text is. loads_as c.args.locations.now c.args.tables.now c.args.other.now text.items c.interfaces_ascend.ensures c.requires plan.devices_are.tables
+    (written c.args.locations.now c.args.tables.now c.args.other.now _ _ _ c.in_ok-devices.devices _ text.items plan is)) c.text_of.ensures.text
 
 pub returns-clause-too_many : goal.returns-clause-too_many
 returns-clause-too_many c =
