@@ -15,9 +15,10 @@ pub enum Side {
 /// The verdict on a check for one flow.
 #[derive(Debug, Drop)]
 pub enum Row {
-    /// The images are equal.
+    /// The check is met: the images are equal, or the one after the change lies in the one before it
+    /// where the check asks for no more.
     Compliant,
-    /// The images differ.
+    /// The check isn't met.
     Violated {
         /// The shortlex-first word of one image that the other lacks.
         word: Word,
@@ -26,7 +27,7 @@ pub enum Row {
         /// The shortlex-first path of that side's snapshot that is related to the word.
         source: Word,
     },
-    /// A construction had more states than were allowed.
+    /// The verdict is left open, since it would take more states than are allowed.
     Undecided,
 }
 

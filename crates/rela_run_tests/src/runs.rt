@@ -34,7 +34,7 @@ const LOST: &str =
 const LOST_DEVICES: &str =
     "flow f1 check c1 violated\n  missing: r1 r2 r4\n  before: r1 r2 r4\ntotal 1 compliant 0 violated 1 undecided 0 unselected 0\n";
 
-fn strings(alloc: Global, texts: &[&str]) -> Result<Vec<String>, AllocError> {
+pub(crate) fn strings(alloc: Global, texts: &[&str]) -> Result<Vec<String>, AllocError> {
     let mut strings = Vec::new(alloc);
     for text in texts {
         strings.push(String::from_str(alloc, text)?)?;
@@ -288,6 +288,7 @@ fn refuses_words(rt: HostRuntime) -> Result<(), Fail> {
         ["check", "before", "after", "locations", "spec", "--states"].as_slice(),
         ["check", "before", "after", "locations", "-spec"].as_slice(),
         ["fmt", "--states=5", "spec"].as_slice(),
+        ["fib", "--states=5", "tables", "other", "locations"].as_slice(),
     ] {
         let (status, out) = answer_to(alloc, words, KEEP)?;
         assert_eq!(rt; out.taken(), UNREAD.as_bytes());

@@ -7,7 +7,9 @@ pub mod PathTexts
 pub mod PlanLaws
 pub mod RowLaws
 pub mod Shown
+pub mod PairLaws
 pub mod CheckLaws
+pub mod DrawLaws
 pub mod TreeLaws
 pub mod Shared
 pub mod WordViews

@@ -17,12 +17,13 @@ use Rattle.rela_snapshot.specs.declared.pairing.FlowPair.{FlowPair}
 use Rattle.rela_snapshot.specs.declared.pairing.PairError.{PairError}
 use Rattle.rela_snapshot.specs.declared.pairing.PairError.TheVariants as pair
 use Rattle.rela_snapshot.specs.declared.snapshot.Flow.{Flow}
-use Rattle.rela_top.specs.Checked.{ArePaired}
-use Rattle.rela_top.specs.Inputs.{HasBytes, Gives, ReadsNetwork, ReadsFlows, load_of}
+use Rattle.rela_tables.specs.Forwarding.{Forwarding}
+use Rattle.rela_tables.specs.Load.{LoadTables}
+use Rattle.rela_top.specs.Inputs.{HasBytes, Gives, ReadsNetwork, ReadsFlows, ReadsTables, load_of}
 use Rattle.rela_top.specs.Loading.{load_halt, spec_halt, pair_halt}
+use Rattle.rela_top.specs.Paired.{ArePaired}
 use Rattle.rela_top.specs.Reading.{max_file_bytes, HaltsBy}
 use Rattle.rela_top.specs.Specified.{Specified, ReadsSpecified, ReadsChecks}
-use Rattle.rela_top.specs.Words.{Command}
 use Rattle.rela_top.specs.declared.reading.Halt.{Halt}
 use Rattle.rela_top.specs.declared.reading.Halt.TheVariants.{Refused, Memory}
 use Rattle.rela_top.specs.declared.refusal.Input.{Input}
@@ -36,7 +37,7 @@ record IsRefused (input : Input) (e : LoadError) (refusal : Refusal) : Type 0 wh
   real : e ≢ load.Memory
   is : refusal ≡ Load input e
 
-same_refusal : (a b : Refusal) → ◌≡◌ {A = Halt} (Refused a) (Refused b) → b ≡ a
+pub same_refusal : (a b : Refusal) → ◌≡◌ {A = Halt} (Refused a) (Refused b) → b ≡ a
 same_refusal a b e = cc
 
 load_refused : (input : Input) (e : LoadError) (refusal : Refusal) → load_halt input e ≡ Refused refusal → IsRefused input e refusal
@@ -53,35 +54,50 @@ load_refused input (load.TooMany row) refusal h = record { real = λ m. cc; is =
 load_refused input (load.UnknownNode row) refusal h = record { real = λ m. cc; is = same_refusal _ refusal h }
 load_refused input load.Memory refusal h = absurd (cc)
 
-pub network_read : (holds : Option FilesByName) (command : Command) (bytes slice : List ℕ) (network : Network)
-    → HasBytes holds command Locations bytes → slice ≡ bytes → locations.Load slice ≡ Ok network → Gives holds command Locations ReadsNetwork (Ok network)
-network_read holds command bytes slice network has same loads =
-    gives_read holds command Locations ReadsNetwork (Ok network) bytes has
+pub network_read : (holds : Option FilesByName) (name : List ℕ) (bytes slice : List ℕ) (network : Network)
+    → HasBytes holds name bytes → slice ≡ bytes → locations.Load slice ≡ Ok network → Gives holds name Locations ReadsNetwork (Ok network)
+network_read holds name bytes slice network has same loads =
+    gives_read holds name Locations ReadsNetwork (Ok network) bytes has
     (sym (ap (load_of Locations) (ap locations.Load (sym same) ∙ loads)))
 
-pub network_refused : (holds : Option FilesByName) (command : Command) (bytes slice : List ℕ) (e : LoadError) (refusal : Refusal)
-    → HasBytes holds command Locations bytes → slice ≡ bytes → (e ≢ load.Memory → locations.Load slice ≡ Err e) → load_halt Locations e ≡ Refused refusal
-    → Gives holds command Locations ReadsNetwork (Err refusal)
-network_refused holds command bytes slice e refusal has same fault halt =
+pub network_refused : (holds : Option FilesByName) (name : List ℕ) (bytes slice : List ℕ) (e : LoadError) (refusal : Refusal)
+    → HasBytes holds name bytes → slice ≡ bytes → (e ≢ load.Memory → locations.Load slice ≡ Err e) → load_halt Locations e ≡ Refused refusal
+    → Gives holds name Locations ReadsNetwork (Err refusal)
+network_refused holds name bytes slice e refusal has same fault halt =
     let refused = load_refused Locations e refusal halt in
-    gives_read holds command Locations ReadsNetwork (Err refusal) bytes has
+    gives_read holds name Locations ReadsNetwork (Err refusal) bytes has
     (ap (λ (r : Refusal). Err r) refused.is ∙ sym (ap (load_of Locations) (ap locations.Load (sym same) ∙ fault refused.real)))
 
-pub flows_read : (holds : Option FilesByName) (command : Command) (input : Input) (network : Network) (bytes slice : List ℕ) (flows : List Flow)
-    → HasBytes holds command input bytes → slice ≡ bytes
+pub flows_read : (holds : Option FilesByName) (name : List ℕ) (input : Input) (network : Network) (bytes slice : List ℕ) (flows : List Flow)
+    → HasBytes holds name bytes → slice ≡ bytes
     → (listed : List ListedFlow) × IsAnswer (snapshot.Load network slice) (Ok listed) × AreFlowsOf listed flows
-    → Gives holds command input (ReadsFlows input network) (Ok flows)
-flows_read holds command input network bytes slice flows has same loads =
-    gives_read holds command input (ReadsFlows input network) (Ok flows) bytes has
+    → Gives holds name input (ReadsFlows input network) (Ok flows)
+flows_read holds name input network bytes slice flows has same loads =
+    gives_read holds name input (ReadsFlows input network) (Ok flows) bytes has
     (Ok loads.0, subst (λ (b : List ℕ). snapshot.Load network b (Ok loads.0)) same loads.1.answers, loads.2)
 
-pub flows_refused : (holds : Option FilesByName) (command : Command) (input : Input) (network : Network) (bytes slice : List ℕ) (e : LoadError) (refusal : Refusal)
-    → HasBytes holds command input bytes → slice ≡ bytes → (e ≢ load.Memory → IsAnswer (snapshot.Load network slice) (Err e)) → load_halt input e ≡ Refused refusal
-    → Gives holds command input (ReadsFlows input network) (Err refusal)
-flows_refused holds command input network bytes slice e refusal has same fault halt =
+pub flows_refused : (holds : Option FilesByName) (name : List ℕ) (input : Input) (network : Network) (bytes slice : List ℕ) (e : LoadError) (refusal : Refusal)
+    → HasBytes holds name bytes → slice ≡ bytes → (e ≢ load.Memory → IsAnswer (snapshot.Load network slice) (Err e)) → load_halt input e ≡ Refused refusal
+    → Gives holds name input (ReadsFlows input network) (Err refusal)
+flows_refused holds name input network bytes slice e refusal has same fault halt =
     let refused = load_refused input e refusal halt in
-    gives_read holds command input (ReadsFlows input network) (Err refusal) bytes has
+    gives_read holds name input (ReadsFlows input network) (Err refusal) bytes has
     (Err e, subst (λ (b : List ℕ). snapshot.Load network b (Err e)) same (fault refused.real).answers, refused.is)
+
+pub tables_read : (holds : Option FilesByName) (name : List ℕ) (input : Input) (network : Network) (bytes slice : List ℕ) (tables : Forwarding)
+    → HasBytes holds name bytes → slice ≡ bytes → IsAnswer (LoadTables network slice) (Ok tables)
+    → Gives holds name input (ReadsTables input network) (Ok tables)
+tables_read holds name input network bytes slice tables has same loads =
+    gives_read holds name input (ReadsTables input network) (Ok tables) bytes has
+    (Ok tables, subst (λ (b : List ℕ). LoadTables network b (Ok tables)) same loads.answers, refl)
+
+pub tables_refused : (holds : Option FilesByName) (name : List ℕ) (input : Input) (network : Network) (bytes slice : List ℕ) (e : LoadError) (refusal : Refusal)
+    → HasBytes holds name bytes → slice ≡ bytes → (e ≢ load.Memory → IsAnswer (LoadTables network slice) (Err e)) → load_halt input e ≡ Refused refusal
+    → Gives holds name input (ReadsTables input network) (Err refusal)
+tables_refused holds name input network bytes slice e refusal has same fault halt =
+    let refused = load_refused input e refusal halt in
+    gives_read holds name input (ReadsTables input network) (Err refusal) bytes has
+    (Err e, subst (λ (b : List ℕ). LoadTables network b (Err e)) same (fault refused.real).answers, ap (λ (r : Refusal). Err r) refused.is)
 
 pub record IsSpecRefused (e : SpecError) (refusal : Refusal) : Type 0 where
   pub real : e ≢ spec.Memory
@@ -100,19 +116,19 @@ spec_refused (spec.UnknownLocation at) refusal h = record { real = λ m. cc; is 
 spec_refused (spec.NotBuilt at) refusal h = record { real = λ m. cc; is = same_refusal _ refusal h }
 spec_refused spec.Memory refusal h = absurd (cc)
 
-pub asked_read : (holds : Option FilesByName) (command : Command) (network : Network) (bytes slice : List ℕ) (specified : Specified)
-    → HasBytes holds command Spec bytes → slice ≡ bytes → ReadsSpecified network slice (Ok specified)
-    → Gives holds command Spec (ReadsChecks network) (Ok specified)
-asked_read holds command network bytes slice specified has same reads =
-    gives_read holds command Spec (ReadsChecks network) (Ok specified) bytes has
+pub asked_read : (holds : Option FilesByName) (name : List ℕ) (network : Network) (bytes slice : List ℕ) (specified : Specified)
+    → HasBytes holds name bytes → slice ≡ bytes → ReadsSpecified network slice (Ok specified)
+    → Gives holds name Spec (ReadsChecks network) (Ok specified)
+asked_read holds name network bytes slice specified has same reads =
+    gives_read holds name Spec (ReadsChecks network) (Ok specified) bytes has
     (Ok specified, subst (λ (b : List ℕ). ReadsSpecified network b (Ok specified)) same reads, refl)
 
-pub asked_refused : (holds : Option FilesByName) (command : Command) (network : Network) (bytes slice : List ℕ) (e : SpecError) (refusal : Refusal)
-    → HasBytes holds command Spec bytes → slice ≡ bytes → (e ≢ spec.Memory → ReadsSpecified network slice (Err e)) → spec_halt e ≡ Refused refusal
-    → Gives holds command Spec (ReadsChecks network) (Err refusal)
-asked_refused holds command network bytes slice e refusal has same fault halt =
+pub asked_refused : (holds : Option FilesByName) (name : List ℕ) (network : Network) (bytes slice : List ℕ) (e : SpecError) (refusal : Refusal)
+    → HasBytes holds name bytes → slice ≡ bytes → (e ≢ spec.Memory → ReadsSpecified network slice (Err e)) → spec_halt e ≡ Refused refusal
+    → Gives holds name Spec (ReadsChecks network) (Err refusal)
+asked_refused holds name network bytes slice e refusal has same fault halt =
     let refused = spec_refused e refusal halt in
-    gives_read holds command Spec (ReadsChecks network) (Err refusal) bytes has
+    gives_read holds name Spec (ReadsChecks network) (Err refusal) bytes has
     (Err e, subst (λ (b : List ℕ). ReadsSpecified network b (Err e)) same (fault refused.real), ap (λ (r : Refusal). Err r) refused.is)
 
 pub paired : (before after : List Flow) (pairs : List FlowPair) → IsAnswer (Pairing before after) (Ok pairs) → ArePaired before after (Ok pairs)
@@ -128,12 +144,12 @@ pair_refused before after (pair.FlowDiffers row first second) refusal fault halt
 pair_refused before after pair.Memory refusal fault halt = absurd (cc)
 
 -- snapshots that can't be paired end a command without a fault
-pub pair_halts : (holds : Option FilesByName) (command : Command) (old new given : ℕ) (e : PairError) (halt : Halt)
-    → halt ≡ pair_halt e → new ≡ old → given ≤ max_file_bytes → HaltsBy holds command old new given halt
-pair_halts holds command old new given (pair.FlowDiffers row first second) halt is same few =
+pub pair_halts : (old new given : ℕ) (e : PairError) (halt : Halt)
+    → halt ≡ pair_halt e → new ≡ old → given ≤ max_file_bytes → HaltsBy old new given halt
+pair_halts old new given (pair.FlowDiffers row first second) halt is same few =
     let short : nat_lt max_file_bytes given ≡ false = search rules in
-    rw is (same, record { too_long = sym short; is_long = tt })
-pair_halts holds command old new given pair.Memory halt is same few = rw is same
+    rw is (same, sym short)
+pair_halts old new given pair.Memory halt is same few = rw is same
 
 -- what holds where memory is wanted holds of an error that is nothing else
 pub if_memory : {A : Type 0} (r : Result A Halt) (P : Halt → Type 0) → IsErrAnd r (λ e. e ≡ Memory) → P Memory → IfErr r P

@@ -9,11 +9,12 @@ use Rattle.rela_locations.specs.Network.{Network}
 use Rattle.rela_spec.specs.Grammar as grammar
 use Rattle.rela_print.specs.Print.{print_of}
 use Rattle.rela_spec.specs.declared.tree.SpecFile.{SpecFile}
+use Rattle.rela_top.specs.Answer.{Answer}
+use Rattle.rela_top.specs.Formats.{Formats, ReadsCanonical}
 use Rattle.rela_top.specs.Inputs.{IsTooLong, HasBytes}
 use Rattle.rela_top.specs.Loading.{spec_halt}
-use Rattle.rela_top.specs.Specifications.{IsParsed, ReadsTree, ReadsCanonical, Formatted}
+use Rattle.rela_top.specs.Specifications.{IsParsed, ReadsTree}
 use Rattle.rela_top.specs.Specified.{Specified, ReadsSpecified}
-use Rattle.rela_top.specs.Words.{Command}
 use Rattle.rela_translate.specs.Checked.{Checked as Check}
 use Rattle.rela_expand.specs.Expand.{expanded, outcome_of}
 use Rattle.std.specs.List.{All}
@@ -61,27 +62,32 @@ text_refused bytes (spec.UnknownLocation at) fault real = absurd fault
 text_refused bytes (spec.NotBuilt at) fault real = absurd fault
 
 -- the file of `fmt` is too long
-pub format_too_long : (holds : Option FilesByName) (command : Command) (refusal : Refusal)
-    → IsTooLong holds command Spec refusal → Formatted holds command (Err refusal)
-unfolding Formatted
-format_too_long holds command refusal long = gives_too_long holds command Spec ReadsCanonical refusal long
+pub format_too_long : (holds : Option FilesByName) (name : List ℕ) (refusal : Refusal)
+    → IsTooLong holds name Spec refusal → Formats holds name (Err refusal)
+unfolding Formats
+format_too_long holds name refusal long = gives_too_long holds name Spec ReadsCanonical refusal long
+
+-- the answer of this text
+abbrev canonical : List ℕ → Answer
+canonical text = record { text = text; status = 0 }
 
 -- its tree is read, and this is the canonical text
-pub formatted : (holds : Option FilesByName) (command : Command) (bytes slice : List ℕ) (tree : SpecFile) (text : List ℕ)
-    → HasBytes holds command Spec bytes → slice ≡ bytes → ReadsTree slice (Ok tree) → text ≡ print_of tree → Formatted holds command (Ok text)
-unfolding Formatted
-formatted holds command bytes slice tree text has same reads printed =
-    gives_read holds command Spec ReadsCanonical (Ok text) bytes has
-    (Ok tree, subst (λ (b : List ℕ). ReadsTree b (Ok tree)) same reads, ap (λ (t : List ℕ). Ok t) printed)
+pub formatted : (holds : Option FilesByName) (name bytes slice : List ℕ) (tree : SpecFile) (text : List ℕ)
+    → HasBytes holds name bytes → slice ≡ bytes → ReadsTree slice (Ok tree) → text ≡ print_of tree
+    → Formats holds name (Ok (record { text = text; status = 0 }))
+unfolding Formats
+formatted holds name bytes slice tree text has same reads printed =
+    gives_read holds name Spec ReadsCanonical (Ok (canonical text)) bytes has
+    (Ok tree, subst (λ (b : List ℕ). ReadsTree b (Ok tree)) same reads, ap (λ (t : List ℕ). Ok (canonical t)) printed)
 
 -- it is refused
-pub format_refused : (holds : Option FilesByName) (command : Command) (bytes slice : List ℕ) (e : SpecError) (refusal : Refusal)
-    → HasBytes holds command Spec bytes → slice ≡ bytes → (e ≢ spec.Memory → ReadsTree slice (Err e)) → spec_halt e ≡ Refused refusal
-    → Formatted holds command (Err refusal)
-unfolding Formatted
-format_refused holds command bytes slice e refusal has same fault halt =
+pub format_refused : (holds : Option FilesByName) (name bytes slice : List ℕ) (e : SpecError) (refusal : Refusal)
+    → HasBytes holds name bytes → slice ≡ bytes → (e ≢ spec.Memory → ReadsTree slice (Err e)) → spec_halt e ≡ Refused refusal
+    → Formats holds name (Err refusal)
+unfolding Formats
+format_refused holds name bytes slice e refusal has same fault halt =
     let refused = spec_refused e refusal halt in
-    gives_read holds command Spec ReadsCanonical (Err refusal) bytes has
+    gives_read holds name Spec ReadsCanonical (Err refusal) bytes has
     (Err e, subst (λ (b : List ℕ). ReadsTree b (Err e)) same (fault refused.real), ap (λ (r : Refusal). Err r) refused.is)
 
 -- what the tree of a text asks for

@@ -8,8 +8,9 @@ use Rattle.rela_snapshot.specs.FlowEntry.{ListedFlow}
 use Rattle.rela_snapshot.specs.Flows.{AreFlowsOf}
 use Rattle.rela_snapshot.specs.Load as snapshot
 use Rattle.rela_snapshot.specs.declared.snapshot.Flow.{Flow}
-use Rattle.rela_top.specs.Reading.{max_file_bytes, name_of}
-use Rattle.rela_top.specs.Words.{Command}
+use Rattle.rela_tables.specs.Forwarding.{Forwarding}
+use Rattle.rela_tables.specs.Load.{LoadTables}
+use Rattle.rela_top.specs.Reading.{max_file_bytes}
 use Rattle.rela_top.specs.declared.refusal.Input.{Input}
 use Rattle.rela_top.specs.declared.refusal.Input.TheVariants.{Locations}
 use Rattle.rela_top.specs.declared.refusal.Refusal.{Refusal}
@@ -19,24 +20,24 @@ use Rattle.rela_top.specs.declared.refusal.Refusal.TheVariants.{TooLong, Load}
 abbrev pub IsTold : Option FilesByName → List ℕ → List ℕ → Type 0
 IsTold holds name bytes = IfSome holds (λ files. files name ≡ Some bytes)
 
--- the input has too many bytes, and is refused for it
-unfoldable pub IsTooLong : Option FilesByName → Command → Input → Refusal → Type 0
-IsTooLong holds command input refusal =
-    (bytes : List ℕ) × IsTold holds (name_of command input) bytes × (max_file_bytes < length bytes) × (refusal ≡ TooLong input)
+-- the file has too many bytes, and the input that it stands for is refused for it
+unfoldable pub IsTooLong : Option FilesByName → List ℕ → Input → Refusal → Type 0
+IsTooLong holds name input refusal =
+    (bytes : List ℕ) × IsTold holds name bytes × (max_file_bytes < length bytes) × (refusal ≡ TooLong input)
 
--- the input has these bytes, and they aren't too many
-unfoldable pub HasBytes : Option FilesByName → Command → Input → List ℕ → Type 0
-HasBytes holds command input bytes = IsTold holds (name_of command input) bytes × (length bytes ≤ max_file_bytes)
+-- the file has these bytes, and they aren't too many
+unfoldable pub HasBytes : Option FilesByName → List ℕ → List ℕ → Type 0
+HasBytes holds name bytes = IsTold holds name bytes × (length bytes ≤ max_file_bytes)
 
 -- r refuses the input as too long
-abbrev pub RefusesAsTooLong : {A : Type 0} → Option FilesByName → Command → Input → Result A Refusal → Type 0
-RefusesAsTooLong holds command input (Ok a) = ⊥
-RefusesAsTooLong holds command input (Err refusal) = IsTooLong holds command input refusal
+abbrev pub RefusesAsTooLong : {A : Type 0} → Option FilesByName → List ℕ → Input → Result A Refusal → Type 0
+RefusesAsTooLong holds name input (Ok a) = ⊥
+RefusesAsTooLong holds name input (Err refusal) = IsTooLong holds name input refusal
 
--- the input is refused as too long, or its bytes give what `Reads` says
-unfoldable pub Gives : {A : Type 0} → Option FilesByName → Command → Input → (List ℕ → Result A Refusal → Type 0) → Result A Refusal → Type 0
-Gives holds command input Reads r =
-    RefusesAsTooLong holds command input r ⊎ ((bytes : List ℕ) × HasBytes holds command input bytes × Reads bytes r)
+-- the input that the file of this name stands for is refused as too long, or its bytes give what `Reads` says
+unfoldable pub Gives : {A : Type 0} → Option FilesByName → List ℕ → Input → (List ℕ → Result A Refusal → Type 0) → Result A Refusal → Type 0
+Gives holds name input Reads r =
+    RefusesAsTooLong holds name input r ⊎ ((bytes : List ℕ) × HasBytes holds name bytes × Reads bytes r)
 
 -- what a decoder answers of an input
 abbrev pub load_of : {A : Type 0} → Input → Result A LoadError → Result A Refusal
@@ -55,3 +56,7 @@ AreReadFlows input (Err e) (Err refusal) = refusal ≡ Load input e
 
 abbrev pub ReadsFlows : Input → Network → List ℕ → Result (List Flow) Refusal → Type 0
 ReadsFlows input network bytes r = (x : Result (List ListedFlow) LoadError) × snapshot.Load network bytes x × AreReadFlows input x r
+
+-- the tables that are listed, or the refusal of the input
+abbrev pub ReadsTables : Input → Network → List ℕ → Result Forwarding Refusal → Type 0
+ReadsTables input network bytes r = (x : Result Forwarding LoadError) × LoadTables network bytes x × (r ≡ load_of input x)

@@ -1,4 +1,6 @@
--- What an error of a decoder ends a command with.
+-- What an error of a decoder, or of what is made of its values, ends a command with.
+use Rattle.rela_fib.specs.declared.error.FibError.{FibError}
+use Rattle.rela_fib.specs.declared.error.FibError.TheVariants as fib
 use Rattle.rela_json.specs.declared.error.LoadError.{LoadError}
 use Rattle.rela_json.specs.declared.error.LoadError.TheVariants as load
 use Rattle.rela_lex.specs.declared.error.SpecError.{SpecError}
@@ -6,7 +8,7 @@ use Rattle.rela_lex.specs.declared.error.SpecError.TheVariants as spec
 use Rattle.rela_snapshot.specs.declared.pairing.PairError.{PairError}
 use Rattle.rela_snapshot.specs.declared.pairing.PairError.TheVariants as pair
 use Rattle.rela_top.specs.declared.refusal.Input.{Input}
-use Rattle.rela_top.specs.declared.refusal.Refusal.TheVariants.{Load, FlowDiffers, Specification}
+use Rattle.rela_top.specs.declared.refusal.Refusal.TheVariants.{Load, FlowDiffers, Specification, Snapshot}
 use Rattle.rela_top.specs.declared.reading.Halt.{Halt}
 use Rattle.rela_top.specs.declared.reading.Halt.TheVariants.{Refused, Memory}
 
@@ -22,3 +24,7 @@ spec_halt error = Refused (Specification error)
 abbrev pub pair_halt : PairError → Halt
 pair_halt pair.Memory = Memory
 pair_halt (pair.FlowDiffers row before after) = Refused (FlowDiffers before after)
+
+abbrev pub fib_halt : FibError → Halt
+fib_halt fib.Memory = Memory
+fib_halt error = Refused (Snapshot error)

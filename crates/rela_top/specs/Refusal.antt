@@ -3,21 +3,25 @@ use Rattle.std.specs.Prelude.{ℕ, List, [], ◌++◌, codes}
 use Rattle.std.specs.Fmt.{decimal}
 use Rattle.rela_json.specs.declared.error.LoadError.{LoadError}
 use Rattle.rela_json.specs.declared.error.LoadError.TheVariants as load
+use Rattle.rela_fib.specs.declared.error.FibError.{FibError}
+use Rattle.rela_fib.specs.declared.error.FibError.TheVariants as fib
 use Rattle.rela_lex.specs.declared.error.SpecError.{SpecError}
 use Rattle.rela_lex.specs.declared.error.SpecError.TheVariants as spec
 use Rattle.rela_flows.specs.Notation.{text_of}
 use Rattle.rela_flows.specs.declared.predicate.FlowClass.{FlowClass}
 use Rattle.rela_report.specs.Text.{line}
 use Rattle.rela_top.specs.declared.refusal.Input.{Input}
-use Rattle.rela_top.specs.declared.refusal.Input.TheVariants.{Locations, Before, After, Spec}
+use Rattle.rela_top.specs.declared.refusal.Input.TheVariants.{Locations, Before, After, Spec, Tables, Other}
 use Rattle.rela_top.specs.declared.refusal.Refusal.{Refusal}
-use Rattle.rela_top.specs.declared.refusal.Refusal.TheVariants.{TooLong, Load, FlowDiffers, Specification}
+use Rattle.rela_top.specs.declared.refusal.Refusal.TheVariants.{TooLong, Load, FlowDiffers, Specification, Snapshot}
 
 abbrev pub input_text : Input → List ℕ
 input_text Locations = codes "locations"
 input_text Before = codes "before"
 input_text After = codes "after"
 input_text Spec = codes "spec"
+input_text Tables = codes "tables"
+input_text Other = codes "other"
 
 -- a refusal with the row that it stands in
 unfoldable pub in_row : List ℕ → ℕ → List ℕ
@@ -68,6 +72,12 @@ class_text flow = codes " dst " ++ (text_of flow.dst ++ (codes " src " ++ (text_
 unfoldable pub differs_text : FlowClass → FlowClass → List ℕ
 differs_text before after = codes "21 FlowDiffers " ++ (before.name ++ (class_text before ++ class_text after))
 
+-- why tables give no snapshot; want of memory is no refusal
+abbrev pub fib_text : FibError → List ℕ
+fib_text fib.TooMany = in_row (codes "20 TooMany") 0
+fib_text fib.TooLong = codes "2 TooLong"
+fib_text fib.Memory = []
+
 -- the place, and what is said of it
 unfoldable pub at_place : List ℕ → List ℕ → List ℕ
 at_place place said = codes "refused " ++ (place ++ (codes " " ++ line said))
@@ -77,3 +87,4 @@ refusal_line (TooLong input) = at_place (input_text input) (codes "2 TooLong")
 refusal_line (Load input error) = at_place (input_text input) (load_text error)
 refusal_line (FlowDiffers before after) = at_place (codes "pair") (differs_text before after)
 refusal_line (Specification error) = at_place (codes "spec") (spec_text error)
+refusal_line (Snapshot error) = at_place (codes "tables") (fib_text error)

@@ -2,11 +2,12 @@
 use Rattle.std.specs.Prelude.{◌≡◌, ℕ, ◌≤◌, ◌==◌, ◌⊎◌, ◌↔◌, Bool, true, not, List, [], ◌∷◌, ◌++◌, codes, Option, Some, None, unwrap_or, IsTrue, All}
 use Rattle.std.specs.Fmt.{decimal}
 
--- what the words ask for: to check a change by the four files of these names under this state limit, or to write a
--- specification's canonical text
+-- what the words ask for: to check a change by the four files of these names under this state limit, to write a
+-- specification's canonical text, or to write the snapshot that two table files give
 pub data Command : Type 0 where
   Check : (before after locations spec : List ℕ) (states : ℕ) → Command
   Fmt : (spec : List ℕ) → Command
+  Fib : (tables other locations : List ℕ) → Command
 
 -- the state limit where the words give none
 abbrev pub default_states : ℕ
@@ -49,12 +50,28 @@ pub record Give (words operands : List (List ℕ)) (states : Option ℕ) : Type 
   pub is_option : AreStates option states
   pub after_dashes : AreAfterDashes tail others
 
--- the words ask for the command: its name, and then what gives its operands
+-- the words are this name, and then what gives these operands and a limit, or none, that is one of those taken
+pub record AskBy (words : List (List ℕ)) (name : List ℕ) (operands : List (List ℕ)) (Takes : Option ℕ → Type 0) : Type 0 where
+  pub rest : List (List ℕ)
+  pub given : Option ℕ
+  pub are_words : words ≡ name ∷ rest
+  pub gives : Give rest operands given
+  pub takes : Takes given
+
+-- this is the limit that is given, or else the default
+abbrev pub IsLimit : ℕ → Option ℕ → Type 0
+IsLimit states given = states ≡ unwrap_or given default_states
+
+-- no limit is given
+abbrev pub IsNoLimit : Option ℕ → Type 0
+IsNoLimit given = given ≡ None
+
+-- the words ask for the command
 abbrev pub Ask : List (List ℕ) → Command → Type 0
 Ask words (Check before after locations spec states) =
-    (rest : List (List ℕ)) × (given : Option ℕ) × (words ≡ codes "check" ∷ rest)
-    × Give rest (before ∷ after ∷ locations ∷ spec ∷ []) given × (states ≡ unwrap_or given default_states)
-Ask words (Fmt spec) = (rest : List (List ℕ)) × (words ≡ codes "fmt" ∷ rest) × Give rest (spec ∷ []) None
+    AskBy words (codes "check") (before ∷ after ∷ locations ∷ spec ∷ []) (IsLimit states)
+Ask words (Fmt spec) = AskBy words (codes "fmt") (spec ∷ []) IsNoLimit
+Ask words (Fib tables other locations) = AskBy words (codes "fib") (tables ∷ other ∷ locations ∷ []) IsNoLimit
 
 -- the words ask for this command, or for none
 abbrev pub AskJust : List (List ℕ) → Option Command → Type 0
@@ -68,3 +85,4 @@ AskNothing words = (command : Command) → ¬ Ask words command
 abbrev pub HasStates : Command → Type 0
 HasStates (Check before after locations spec states) = 1 ≤ states
 HasStates (Fmt spec) = Unit {0}
+HasStates (Fib tables other locations) = Unit {0}

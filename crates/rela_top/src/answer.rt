@@ -6,7 +6,7 @@ ghost use Rattle.rela_top.specs.Answer.{Delivers};
 
 use rela_io::{Sink, write_all};
 
-/// Every row is compliant or unselected.
+/// Every row is compliant or unselected; a canonical text or a snapshot is written.
 pub const MET: u8 = 0;
 
 /// Some row is violated.
@@ -42,7 +42,8 @@ pub struct Answer {
 /// Writes the text, and gives the status, or [`WRITE_FAULT`] where a write fails.
 pub fn deliver<K: Sink>(out: &mut K, text: &[u8], status: u8) -> u8
     requires { status < WRITE_FAULT }
-    ensures delivered { Delivers (K.taken out.old) (K.taken out.new) status text.now result }
+    ensures delivered { Delivers (K.taken out.old) (K.taken out.new)
+        (record { text = text.now; status = status }) result }
     ensures fault_counted { result ≡ WRITE_FAULT → Rose (K.faults out.old) (K.faults out.new) }
     ensures counted_is_fault { K.faults out.old < K.faults out.new → result ≡ WRITE_FAULT }
 {

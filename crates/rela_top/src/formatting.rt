@@ -3,37 +3,38 @@
 ghost use Rattle.std.specs.Prelude.{All, ◌≡◌, ◌≢◌, ◌≤◌, Ok, Err, IsTrue, IfOk, IfErr, OnOk, length};
 ghost use Rattle.rela_spec.specs.Depth.{IsLow};
 ghost use Rattle.rela_spec.specs.Full.{IsFull};
-ghost use Rattle.rela_print.specs.Print.{print_of};
-ghost use Rattle.rela_top.specs.Commands.{command_of};
-ghost use Rattle.rela_top.specs.Reading.{max_file_bytes, HoldsFiles, HaltsBy};
-ghost use Rattle.rela_top.specs.Specifications.{ReadsTree, Formatted};
+ghost use Rattle.rela_io.specs.Held.{HoldsName};
+ghost use Rattle.rela_top.specs.Answer.{answer_by, IsOutcomeStatus};
+ghost use Rattle.rela_top.specs.Formats.{Formats};
+ghost use Rattle.rela_top.specs.Reading.{max_file_bytes, HaltsBy};
+ghost use Rattle.rela_top.specs.Specifications.{ReadsTree};
 ghost use Rattle.rela_top.specs.declared.refusal.Refusal.{Refusal};
 
 use crate::answer::{Answer, MET};
 use crate::loading::spec_halt;
 use crate::reading::{Halt, read_input};
 use crate::refusal::Input;
-use crate::words::Command;
 use rela_io::Files;
 use rela_lex::{SpecError, tokens};
 use rela_print::print;
 use rela_spec::{SpecFile, parse};
 use std::alloc::Global;
 
-/// Reads the specification, and makes its canonical text.
-pub fn format<F: Files>(alloc: Global, files: &mut F, command: &Command<'_>) -> Result<Answer, Halt>
-    ensures formats { IfOk result (λ answer. Formatted (F.holds files.old) (command_of command.now) (Ok answer.text.items)) }
-    ensures status { IfOk result (λ answer. answer.status ≡ MET) }
+/// Reads the specification in the file of this name, and makes its canonical text.
+pub fn format<F: Files>(alloc: Global, files: &mut F, spec: &str) -> Result<Answer, Halt>
+    ensures formats { IfOk result (λ answer.
+        Formats (F.holds files.old) spec.now (Ok (answer_by answer))) }
+    ensures status { IfOk result (λ answer. IsOutcomeStatus answer.status) }
     ensures refused { IfErr result (λ halt. (refusal : Refusal) → halt ≡ Halt.Refused refusal →
-        Formatted (F.holds files.old) (command_of command.now) (Err refusal)) }
+        Formats (F.holds files.old) spec.now (Err refusal)) }
     ensures ok_given { OnOk result (F.given files.new ≤ max_file_bytes) }
     ensures ok_keeps_count { OnOk result (F.faults files.new ≡ F.faults files.old) }
-    ensures halts { IfErr result (HaltsBy (F.holds files.old) (command_of command.now)
-        (F.faults files.old) (F.faults files.new) (F.given files.new)) }
-    ensures steady_is_no_fault { IsTrue (F.steady files.old) → HoldsFiles (F.holds files.old) (command_of command.now) →
-        result ≢ Err Halt.ReadFault }
+    ensures halts { IfErr result
+        (HaltsBy (F.faults files.old) (F.faults files.new) (F.given files.new)) }
+    ensures steady_is_no_fault { IsTrue (F.steady files.old) →
+        HoldsName (F.holds files.old) spec.now → result ≢ Err Halt.ReadFault }
 {
-    let bytes = read_input(alloc, files, command, Input::Spec)?;
+    let bytes = read_input(alloc, files, Input::Spec, spec)?;
     match read_tree(alloc, bytes.as_slice()) {
         Ok(file) => Ok(Answer {
             text: print(alloc, &file)?,

@@ -4,6 +4,7 @@
 mod answer;
 mod arguments;
 mod asking;
+mod drawing;
 mod formatting;
 mod loading;
 mod planning;
@@ -21,8 +22,9 @@ pub use answer::{
     deliver,
 };
 pub use asking::{Asked, read_asked};
+pub use drawing::draw;
 pub use formatting::{format, read_tree};
-pub use loading::{load_locations, load_snapshot, load_spec, pair_halt};
+pub use loading::{load_locations, load_pairs, load_snapshot, load_spec, load_tables};
 pub use reading::{Halt, MAX_FILE_BYTES, read_input};
 pub use refusal::{Input, Refusal, refusal_line};
 pub use reporting::report;

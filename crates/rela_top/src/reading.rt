@@ -1,13 +1,12 @@
 //! Reading the files that a command names.
 
 ghost use Rattle.std.specs.Prelude.{◌≡◌, ◌≢◌, ◌≤◌, Err, IsTrue, IfOk, IfErr, OnOk, vec_len};
-ghost use Rattle.rela_top.specs.Commands.{command_of};
-ghost use Rattle.rela_top.specs.Reading.{max_file_bytes, HoldsFiles, HaltsBy};
+ghost use Rattle.rela_io.specs.Held.{HoldsName};
+ghost use Rattle.rela_top.specs.Reading.{max_file_bytes, HaltsBy};
 ghost use Rattle.rela_top.specs.Inputs.{HasBytes, IsTooLong};
 ghost use Rattle.rela_top.specs.declared.refusal.Refusal.{Refusal};
 
 use crate::refusal::{Input, Refusal};
-use crate::words::Command;
 use rela_io::{Files, ReadError, read_all};
 use std::alloc::{AllocError, Global};
 
@@ -35,28 +34,28 @@ impl From<AllocError> for Halt {
     }
 }
 
-/// The bytes of one input.
+/// The bytes of the file of this name, which stands for an input.
 #[tactic(auto, unfolding(crate::specs::Inputs::HasBytes))]
 pub fn read_input<F: Files>(
     alloc: Global,
     files: &mut F,
-    command: &Command<'_>,
     input: Input,
+    name: &str,
 ) -> Result<Vec<u8>, Halt>
-    ensures bytes { IfOk result (λ bytes. HasBytes (F.holds files.old) (command_of command.now) input bytes.items) }
+    ensures bytes { IfOk result (λ bytes. HasBytes (F.holds files.old) name.now bytes.items) }
     ensures too_long { IfErr result (λ halt. (refusal : Refusal) → halt ≡ Halt.Refused refusal →
-        IsTooLong (F.holds files.old) (command_of command.now) input refusal) }
+        IsTooLong (F.holds files.old) name.now input refusal) }
     ensures ok_within { IfOk result (λ bytes. vec_len bytes ≤ max_file_bytes) }
     ensures ok_given { OnOk result (F.given files.new ≤ max_file_bytes) }
     ensures ok_keeps_count { OnOk result (F.faults files.new ≡ F.faults files.old) }
-    ensures halts { IfErr result (HaltsBy (F.holds files.old) (command_of command.now)
-        (F.faults files.old) (F.faults files.new) (F.given files.new)) }
-    ensures steady_is_no_fault { IsTrue (F.steady files.old) → HoldsFiles (F.holds files.old) (command_of command.now) →
-        result ≢ Err Halt.ReadFault }
+    ensures halts { IfErr result
+        (HaltsBy (F.faults files.old) (F.faults files.new) (F.given files.new)) }
+    ensures steady_is_no_fault { IsTrue (F.steady files.old) →
+        HoldsName (F.holds files.old) name.now → result ≢ Err Halt.ReadFault }
     ensures same_holds { F.holds files.new ≡ F.holds files.old }
     ensures same_steady { F.steady files.new ≡ F.steady files.old }
 {
-    match read_all(alloc, files, command.name_of(input), MAX_FILE_BYTES) {
+    match read_all(alloc, files, name, MAX_FILE_BYTES) {
         Ok(bytes) => Ok(bytes),
         Err(ReadError::Fault) => Err(Halt::ReadFault),
         Err(ReadError::TooLong) => Err(Halt::Refused(Refusal::TooLong(input))),

@@ -1,8 +1,9 @@
 //! Why an input is refused, and the line that says so.
 
 ghost use Rattle.std.specs.Prelude.{◌≡◌, ◌++◌, IfOk, OnOk, string_bytes};
-ghost use Rattle.rela_top.specs.Refusal.{input_text, in_row, by_rule, load_text, at_offset, spec_text, class_text, differs_text, at_place, refusal_line};
+ghost use Rattle.rela_top.specs.Refusal.{input_text, in_row, by_rule, load_text, at_offset, spec_text, class_text, differs_text, fib_text, at_place, refusal_line};
 
+use rela_fib::FibError;
 use rela_flows::FlowClass;
 use rela_json::LoadError;
 use rela_lex::SpecError;
@@ -19,6 +20,10 @@ pub enum Input {
     After,
     /// The specification.
     Spec,
+    /// The table file that a snapshot is made of.
+    Tables,
+    /// The table file whose routes cut the flows too.
+    Other,
 }
 
 /// Why an input is refused.
@@ -32,6 +37,8 @@ pub enum Refusal {
     FlowDiffers { before: FlowClass, after: FlowClass },
     /// The first fault of the specification. It isn't want of memory.
     Specification(SpecError),
+    /// Why tables give no snapshot. It isn't want of memory.
+    Snapshot(FibError),
 }
 
 /// The line that a refused input gets, with its line feed.
@@ -52,6 +59,10 @@ pub fn refusal_line(alloc: Global, refusal: &Refusal) -> Result<Vec<u8>, AllocEr
             let said = spec_text(alloc, error)?;
             at_place(alloc, "spec", said.as_bytes())
         }
+        Refusal::Snapshot(error) => {
+            let said = fib_text(alloc, error)?;
+            at_place(alloc, "tables", said.as_bytes())
+        }
     }
 }
 
@@ -63,6 +74,8 @@ fn input_text(input: Input) -> &'static str
         Input::Before => "before",
         Input::After => "after",
         Input::Spec => "spec",
+        Input::Tables => "tables",
+        Input::Other => "other",
     }
 }
 
@@ -138,6 +151,16 @@ fn at_offset(alloc: Global, refusal: &str, at: u32) -> Result<String, AllocError
     ensures { IfOk result (λ text. string_bytes text ≡ at_offset refusal.now at) }
 {
     format!(in alloc; "{refusal} at {at}")
+}
+
+fn fib_text(alloc: Global, error: &FibError) -> Result<String, AllocError>
+    ensures { IfOk result (λ text. string_bytes text ≡ fib_text error.now) }
+{
+    match *error {
+        FibError::TooMany => in_row(alloc, "20 TooMany", 0),
+        FibError::TooLong => String::from_str(alloc, "2 TooLong"),
+        FibError::Memory => Ok(String::new(alloc)),
+    }
 }
 
 #[tactic(auto, unfolding(crate::specs::Refusal::differs_text))]

@@ -1,78 +1,85 @@
 //! From the four files to the report.
 
 ghost use Rattle.std.specs.Prelude.{◌≡◌, ◌≢◌, ◌≤◌, Ok, Err, IsTrue, IfOk, IfErr, OnOk};
-ghost use Rattle.rela_top.specs.Commands.{command_of};
-ghost use Rattle.rela_top.specs.Reading.{max_file_bytes, HoldsFiles, HaltsBy};
-ghost use Rattle.rela_top.specs.Answer.{TellsRows, TellsCheck};
-ghost use Rattle.rela_top.specs.Checked.{Checked};
-ghost use Rattle.rela_top.specs.Inputs.{Gives, ReadsNetwork};
-ghost use Rattle.rela_top.specs.declared.refusal.Refusal.{Refusal};
+ghost use Rattle.rela_io.specs.Held.{HoldsName};
+ghost use Rattle.rela_top.specs.Answer.{answer_by, IsOutcomeStatus};
+ghost use Rattle.rela_top.specs.Checks.{Checks, ChecksOver, Reports};
+ghost use Rattle.rela_top.specs.Reading.{max_file_bytes, HaltsBy};
 ghost use Rattle.rela_top.specs.Rows.{AreChecksAt};
+ghost use Rattle.rela_top.specs.declared.refusal.Refusal.{Refusal};
 
 use crate::answer::Answer;
-use crate::loading::{load_locations, load_snapshot, load_spec, pair_halt};
+use crate::loading::{load_locations, load_pairs, load_spec};
 use crate::reading::Halt;
-use crate::refusal::Input;
 use crate::rows::rows_of;
-use crate::words::Command;
 use rela_io::Files;
 use rela_locations::Locations;
 use rela_names::Alphabet;
 use rela_report::{status, text};
-use rela_snapshot::{FlowPair, pair};
+use rela_snapshot::FlowPair;
 use rela_translate::Check;
 use std::alloc::{AllocError, Global};
 
-/// Reads the locations, the snapshot before, the snapshot after and the specification, in this
-/// order, and makes the report under this state limit. The first refusal or fault ends it.
+/// Reads the locations, the snapshot before, the snapshot after and the specification in the files
+/// of these names, in this order, and makes the report under this state limit. The first refusal or
+/// fault ends it.
 pub fn report<F: Files>(
     alloc: Global,
     files: &mut F,
-    command: &Command<'_>,
+    before: &str,
+    after: &str,
+    locations: &str,
+    spec: &str,
     states: usize,
 ) -> Result<Answer, Halt>
     requires some { 1 ≤ states }
-    ensures reports { IfOk result (λ answer. TellsCheck (F.holds files.old) (command_of command.now) states answer.text.items answer.status) }
+    ensures reports { IfOk result (λ answer. Checks (F.holds files.old)
+        before.now after.now locations.now spec.now states (Ok (answer_by answer))) }
+    ensures status { IfOk result (λ answer. IsOutcomeStatus answer.status) }
     ensures refused { IfErr result (λ halt. (refusal : Refusal) → halt ≡ Halt.Refused refusal →
-        Checked (F.holds files.old) (command_of command.now) states (Err refusal)) }
+        Checks (F.holds files.old) before.now after.now locations.now spec.now states
+        (Err refusal)) }
     ensures ok_given { OnOk result (F.given files.new ≤ max_file_bytes) }
     ensures ok_keeps_count { OnOk result (F.faults files.new ≡ F.faults files.old) }
-    ensures halts { IfErr result (HaltsBy (F.holds files.old) (command_of command.now)
-        (F.faults files.old) (F.faults files.new) (F.given files.new)) }
-    ensures steady_is_no_fault { IsTrue (F.steady files.old) → HoldsFiles (F.holds files.old) (command_of command.now) →
-        result ≢ Err Halt.ReadFault }
+    ensures halts { IfErr result
+        (HaltsBy (F.faults files.old) (F.faults files.new) (F.given files.new)) }
+    ensures steady_is_no_fault { IsTrue (F.steady files.old) →
+        HoldsName (F.holds files.old) before.now →
+        HoldsName (F.holds files.old) after.now → HoldsName (F.holds files.old) locations.now →
+        HoldsName (F.holds files.old) spec.now → result ≢ Err Halt.ReadFault }
 {
-    let locations = load_locations(alloc, files, command)?;
-    report_over(alloc, files, command, &locations, states)
+    let locations = load_locations(alloc, files, locations)?;
+    report_over(alloc, files, before, after, spec, &locations, states)
 }
 
 // The same over the locations that were read first.
 fn report_over<F: Files>(
     alloc: Global,
     files: &mut F,
-    command: &Command<'_>,
+    before: &str,
+    after: &str,
+    spec: &str,
     locations: &Locations,
     states: usize,
 ) -> Result<Answer, Halt>
     requires some { 1 ≤ states }
-    requires locations { Gives (F.holds files.old) (command_of command.now) Input.Locations ReadsNetwork (Ok locations.now) }
-    ensures reports { IfOk result (λ answer. TellsCheck (F.holds files.old) (command_of command.now) states answer.text.items answer.status) }
+    ensures reports { IfOk result (λ answer. ChecksOver (F.holds files.old) locations.now
+        before.now after.now spec.now states (Ok (answer_by answer))) }
+    ensures status { IfOk result (λ answer. IsOutcomeStatus answer.status) }
     ensures refused { IfErr result (λ halt. (refusal : Refusal) → halt ≡ Halt.Refused refusal →
-        Checked (F.holds files.old) (command_of command.now) states (Err refusal)) }
+        ChecksOver (F.holds files.old) locations.now before.now after.now spec.now states
+        (Err refusal)) }
     ensures ok_given { OnOk result (F.given files.new ≤ max_file_bytes) }
     ensures ok_keeps_count { OnOk result (F.faults files.new ≡ F.faults files.old) }
-    ensures halts { IfErr result (HaltsBy (F.holds files.old) (command_of command.now)
-        (F.faults files.old) (F.faults files.new) (F.given files.new)) }
-    ensures steady_is_no_fault { IsTrue (F.steady files.old) → HoldsFiles (F.holds files.old) (command_of command.now) →
+    ensures halts { IfErr result
+        (HaltsBy (F.faults files.old) (F.faults files.new) (F.given files.new)) }
+    ensures steady_is_no_fault { IsTrue (F.steady files.old) →
+        HoldsName (F.holds files.old) before.now →
+        HoldsName (F.holds files.old) after.now → HoldsName (F.holds files.old) spec.now →
         result ≢ Err Halt.ReadFault }
 {
-    let before = load_snapshot(alloc, files, command, Input::Before, locations)?;
-    let after = load_snapshot(alloc, files, command, Input::After, locations)?;
-    let pairs = match pair(alloc, before, after) {
-        Ok(pairs) => pairs,
-        Err(error) => return Err(pair_halt(error)),
-    };
-    let asked = load_spec(alloc, files, command, locations)?;
+    let pairs = load_pairs(alloc, files, before, after, locations)?;
+    let asked = load_spec(alloc, files, spec, locations)?;
     Ok(report_on(
         alloc,
         &pairs,
@@ -82,7 +89,8 @@ fn report_over<F: Files>(
     )?)
 }
 
-// The report on these flows under these checks, made whole; `names` are the locations of the checks' level.
+// The report on these flows under these checks, made whole; `names` are the locations of the checks'
+// level.
 fn report_on(
     alloc: Global,
     pairs: &[FlowPair],
@@ -92,7 +100,9 @@ fn report_on(
 ) -> Result<Answer, AllocError>
     requires some { 1 ≤ states }
     requires checks { AreChecksAt names.now pairs.now checks.now }
-    ensures { IfOk result (λ answer. TellsRows names.now states checks.now pairs.now answer.text.items answer.status) }
+    ensures reports { IfOk result (λ answer.
+        Reports names.now states checks.now pairs.now (Ok (answer_by answer))) }
+    ensures status { IfOk result (λ answer. IsOutcomeStatus answer.status) }
 {
     let rows = rows_of(alloc, pairs, checks, names, states)?;
     let text = text(alloc, &rows, names)?;

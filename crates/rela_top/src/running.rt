@@ -1,14 +1,16 @@
 //! The one call that the program makes.
 
-ghost use Rattle.std.specs.Prelude.{◌≡◌, ◌≢◌, ◌<◌, ◌≤◌, ◌⊎◌, Err, IsTrue, IfOk, IfErr, OnOk, map, string_bytes};
+ghost use Rattle.std.specs.Prelude.{◌≡◌, ◌≢◌, ◌<◌, ◌≤◌, ◌⊎◌, Ok, Err, IsTrue, IfOk, IfErr, OnOk, map, string_bytes};
 ghost use Rattle.rela_io.specs.Count.{Rose};
 ghost use Rattle.rela_top.specs.Words.{AskNothing, HasStates};
 ghost use Rattle.rela_top.specs.Reading.{max_file_bytes, HoldsAsked, HoldsFiles, HaltsBy};
-ghost use Rattle.rela_top.specs.Answer.{Answers, GivenBy, IsMade, Outcome, Refusing};
+ghost use Rattle.rela_top.specs.Answer.{answer_by, IsOutcomeStatus};
+ghost use Rattle.rela_top.specs.Outcome.{Answers, GivenBy, Outcome};
 ghost use Rattle.rela_top.specs.declared.refusal.Refusal.{Refusal};
 ghost use Rattle.rela_top.specs.Commands.{command_of};
 
 use crate::answer::{Answer, BAD_WORDS, NO_MEMORY, READ_FAULT, REFUSED, WRITE_FAULT, deliver};
+use crate::drawing::draw;
 use crate::formatting::format;
 use crate::reading::Halt;
 use crate::refusal::refusal_line;
@@ -20,22 +22,28 @@ use std::alloc::Global;
 /// Does what the words ask for, those after the program's name: reads `files`, writes the whole
 /// answer to `out`, and gives the exit status. The answer is made before any of it is written.
 pub fn run<F: Files, K: Sink>(alloc: Global, words: &[String], files: &mut F, out: &mut K) -> u8
-    // An answer that fits the words and what the files gave was written, to its end or up to a failed write.
-    ensures answers { result ≢ READ_FAULT → result ≢ NO_MEMORY → Answers (map string_bytes words.now)
-        (F.holds files.old) (F.given files.new) (K.taken out.old) (K.taken out.new) result }
+    // An answer that fits the words and what the files gave was written, to its end or up to a failed
+    // write.
+    ensures answers { result ≢ READ_FAULT → result ≢ NO_MEMORY →
+        Answers (map string_bytes words.now) (F.holds files.old) (F.given files.new)
+        (K.taken out.old) (K.taken out.new) result }
     ensures bad_words { result ≡ BAD_WORDS → AskNothing (map string_bytes words.now) }
-    ensures unread_words { AskNothing (map string_bytes words.now) → (result ≡ BAD_WORDS) ⊎ (result ≡ WRITE_FAULT) }
-    ensures unread_words_open_nothing { AskNothing (map string_bytes words.now) → files.new ≡ files.old }
+    ensures unread_words { AskNothing (map string_bytes words.now) →
+        (result ≡ BAD_WORDS) ⊎ (result ≡ WRITE_FAULT) }
+    ensures unread_words_open_nothing { AskNothing (map string_bytes words.now) →
+        files.new ≡ files.old }
 
     // A read fault, exactly where one was counted.
-    ensures read_fault_counted { result ≡ READ_FAULT → Rose (F.faults files.old) (F.faults files.new) }
+    ensures read_fault_counted { result ≡ READ_FAULT →
+        Rose (F.faults files.old) (F.faults files.new) }
     ensures counted_is_read_fault { F.faults files.old < F.faults files.new → result ≡ READ_FAULT }
     ensures steady_is_no_fault { IsTrue (F.steady files.old) →
         HoldsAsked (F.holds files.old) (map string_bytes words.now) →
         (result ≢ READ_FAULT) × (F.faults files.new ≡ F.faults files.old) }
 
     // A write fault, exactly where one was counted.
-    ensures write_fault_counted { result ≡ WRITE_FAULT → Rose (K.faults out.old) (K.faults out.new) }
+    ensures write_fault_counted { result ≡ WRITE_FAULT →
+        Rose (K.faults out.old) (K.faults out.new) }
     ensures counted_is_write_fault { K.faults out.old < K.faults out.new → result ≡ WRITE_FAULT }
 
     ensures read_fault_writes_nothing { result ≡ READ_FAULT → out.new ≡ out.old }
@@ -58,15 +66,20 @@ enum Stop {
     Memory,
 }
 
-// What the command makes, or the line that an input is refused with.
+// What is answered to the command: what it makes, or the line that an input is refused with.
 fn answer<F: Files>(alloc: Global, files: &mut F, command: &Command<'_>) -> Result<Answer, Stop>
     requires { HasStates (command_of command.now) }
-    ensures fits { IfOk result (λ answer. GivenBy (command_of command.now) (F.holds files.old) (F.given files.new)
-        answer.text.items answer.status) }
+    ensures fits { IfOk result (λ answer.
+        GivenBy (F.holds files.old) (command_of command.now) (F.given files.new)
+        (answer_by answer)) }
+    ensures status { IfOk result (λ answer. IsOutcomeStatus answer.status) }
     ensures ok_keeps_count { OnOk result (F.faults files.new ≡ F.faults files.old) }
-    ensures fault_counted { result ≡ Err Stop.ReadFault → Rose (F.faults files.old) (F.faults files.new) }
-    ensures memory_keeps_count { result ≡ Err Stop.Memory → F.faults files.new ≡ F.faults files.old }
-    ensures steady_is_no_fault { IsTrue (F.steady files.old) → HoldsFiles (F.holds files.old) (command_of command.now) →
+    ensures fault_counted { result ≡ Err Stop.ReadFault →
+        Rose (F.faults files.old) (F.faults files.new) }
+    ensures memory_keeps_count { result ≡ Err Stop.Memory →
+        F.faults files.new ≡ F.faults files.old }
+    ensures steady_is_no_fault { IsTrue (F.steady files.old) →
+        HoldsFiles (F.holds files.old) (command_of command.now) →
         (result ≢ Err Stop.ReadFault) × (F.faults files.new ≡ F.faults files.old) }
 {
     match carry_out(alloc, files, command) {
@@ -83,21 +96,35 @@ fn answer<F: Files>(alloc: Global, files: &mut F, command: &Command<'_>) -> Resu
     }
 }
 
-// The report or the canonical text.
+// What the command makes.
 fn carry_out<F: Files>(alloc: Global, files: &mut F, command: &Command<'_>) -> Result<Answer, Halt>
     requires { HasStates (command_of command.now) }
-    ensures made { IfOk result (λ answer. IsMade (F.holds files.old) (command_of command.now) answer.text.items answer.status) }
+    ensures made { IfOk result (λ answer.
+        Outcome (F.holds files.old) (command_of command.now) (Ok (answer_by answer))) }
+    ensures status { IfOk result (λ answer. IsOutcomeStatus answer.status) }
     ensures refused { IfErr result (λ halt. (refusal : Refusal) → halt ≡ Halt.Refused refusal →
-        Outcome (F.holds files.old) (command_of command.now) (Refusing refusal)) }
+        Outcome (F.holds files.old) (command_of command.now) (Err refusal)) }
     ensures ok_given { OnOk result (F.given files.new ≤ max_file_bytes) }
     ensures ok_keeps_count { OnOk result (F.faults files.new ≡ F.faults files.old) }
-    ensures halts { IfErr result (HaltsBy (F.holds files.old) (command_of command.now)
-        (F.faults files.old) (F.faults files.new) (F.given files.new)) }
-    ensures steady_is_no_fault { IsTrue (F.steady files.old) → HoldsFiles (F.holds files.old) (command_of command.now) →
+    ensures halts { IfErr result
+        (HaltsBy (F.faults files.old) (F.faults files.new) (F.given files.new)) }
+    ensures steady_is_no_fault { IsTrue (F.steady files.old) →
+        HoldsFiles (F.holds files.old) (command_of command.now) →
         result ≢ Err Halt.ReadFault }
 {
-    match command {
-        Command::Check { states, .. } => report(alloc, files, command, *states),
-        Command::Fmt { .. } => format(alloc, files, command),
+    match *command {
+        Command::Check {
+            before,
+            after,
+            locations,
+            spec,
+            states,
+        } => report(alloc, files, before, after, locations, spec, states),
+        Command::Fmt { spec } => format(alloc, files, spec),
+        Command::Fib {
+            tables,
+            other,
+            locations,
+        } => draw(alloc, files, tables, other, locations),
     }
 }

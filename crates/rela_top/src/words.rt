@@ -1,12 +1,10 @@
 //! What the words of the command line ask for.
 
-ghost use Rattle.std.specs.Prelude.{◌≡◌, ◌∷◌, map, option_map, string_bytes, codes};
+ghost use Rattle.std.specs.Prelude.{◌∷◌, map, option_map, string_bytes, codes};
 ghost use Rattle.rela_top.specs.Words.{AskJust};
 ghost use Rattle.rela_top.specs.Commands.{command_of};
-ghost use Rattle.rela_top.specs.Reading.{name_of};
 
 use crate::arguments::Arguments;
-use crate::refusal::Input;
 
 /// The state limit where the words give none.
 pub const DEFAULT_STATES: usize = 100_000;
@@ -35,34 +33,21 @@ pub enum Command<'a> {
         /// The specification.
         spec: &'a str,
     },
+    /// To write the snapshot that forwarding tables give.
+    Fib {
+        /// The tables.
+        tables: &'a str,
+        /// Other tables, whose routes cut the flows too.
+        other: &'a str,
+        /// The locations.
+        locations: &'a str,
+    },
 }
 
-impl<'a> Command<'a> {
-    /// The name of the file that stands for this input. `fmt` has the specification alone.
-    pub fn name_of(&self, input: Input) -> &'a str
-        ensures { result.now ≡ name_of (command_of self.now) input }
-    {
-        match *self {
-            Command::Fmt { spec } => spec,
-            Command::Check {
-                before,
-                after,
-                locations,
-                spec,
-                states: _,
-            } => match input {
-                Input::Locations => locations,
-                Input::Before => before,
-                Input::After => after,
-                Input::Spec => spec,
-            },
-        }
-    }
-}
-
-/// Reads `check BEFORE AFTER LOCATIONS SPEC` and `fmt SPEC`, and `None` for any other words. Anywhere
-/// after `check` may stand `--states N` or `--states=N`, and the word `--`, after which each word is an
-/// operand. The time is linear in the bytes of the words.
+/// Reads `check BEFORE AFTER LOCATIONS SPEC`, `fmt SPEC` and `fib TABLES OTHER LOCATIONS`, and
+/// `None` for any other words. Anywhere after `check` may stand `--states N` or `--states=N`, and
+/// after each of the three the word `--`, behind which each word is an operand. The time is linear
+/// in the bytes of the words.
 pub fn read_words(words: &[String]) -> Option<Command<'_>>
     ensures { AskJust (map string_bytes words.now) (option_map command_of result) }
 {
@@ -70,6 +55,7 @@ pub fn read_words(words: &[String]) -> Option<Command<'_>>
     match name.as_str() {
         "check" => read_check(rest),
         "fmt" => read_fmt(rest),
+        "fib" => read_fib(rest),
         _ => None,
     }
 }
@@ -101,6 +87,24 @@ fn read_fmt(rest: &[String]) -> Option<Command<'_>>
     let spec = arguments.operand()?;
     match arguments.end()? {
         None => Some(Command::Fmt { spec }),
+        Some(_) => None,
+    }
+}
+
+// What the words after `fib` ask for.
+fn read_fib(rest: &[String]) -> Option<Command<'_>>
+    ensures { AskJust (codes "fib" ∷ map string_bytes rest.now) (option_map command_of result) }
+{
+    let mut arguments = Arguments::new(rest);
+    let tables = arguments.operand()?;
+    let other = arguments.operand()?;
+    let locations = arguments.operand()?;
+    match arguments.end()? {
+        None => Some(Command::Fib {
+            tables,
+            other,
+            locations,
+        }),
         Some(_) => None,
     }
 }

@@ -13,3 +13,8 @@ pub returns-in-fmt : goal.returns-in-fmt
 returns-in-fmt c =
     named command_of (map string_bytes c.args.words.now) (string_bytes c.in_ok-name.name.now) (codes "fmt") (map string_bytes c.in_ok-name.rest.now)
     c.read_fmt.result (ap (map string_bytes) c.in_ok-name.ensures.cases.0) (sym c.as_str.ensures.value ∙ c.in-fmt.is) c.read_fmt.ensures
+
+pub returns-in-fib : goal.returns-in-fib
+returns-in-fib c =
+    named command_of (map string_bytes c.args.words.now) (string_bytes c.in_ok-name.name.now) (codes "fib") (map string_bytes c.in_ok-name.rest.now)
+    c.read_fib.result (ap (map string_bytes) c.in_ok-name.ensures.cases.0) (sym c.as_str.ensures.value ∙ c.in-fib.is) c.read_fib.ensures

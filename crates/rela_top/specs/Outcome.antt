@@ -1,0 +1,49 @@
+-- What a command gives, and what a run answers.
+use Rattle.std.specs.Prelude.{◌≡◌, ℕ, ◌⊎◌, Bool, false, nat_lt, List, codes, Option, Result, Ok, Err}
+use Rattle.rela_io.specs.Held.{FilesByName}
+use Rattle.rela_report.specs.Text.{line}
+use Rattle.rela_top.specs.Answer.{Answer, Delivers}
+use Rattle.rela_top.specs.Checks.{Checks}
+use Rattle.rela_top.specs.Draws.{Draws}
+use Rattle.rela_top.specs.Formats.{Formats}
+use Rattle.rela_top.specs.Reading.{is_too_long, max_file_bytes}
+use Rattle.rela_top.specs.Refusal.{refusal_line}
+use Rattle.rela_top.specs.Words.{Command, Check, Fmt, Fib, Ask, AskNothing}
+use Rattle.rela_top.specs.declared.refusal.Refusal.{Refusal}
+
+-- what the files of a command give: its answer, or the first refusal
+abbrev pub Outcome : Option FilesByName → Command → Result Answer Refusal → Type 0
+Outcome holds (Check before after locations spec states) = Checks holds before after locations spec states
+Outcome holds (Fmt spec) = Formats holds spec
+Outcome holds (Fib tables other locations) = Draws holds tables other locations
+
+-- an outcome as it is answered: a refusal by its line and status 4
+abbrev pub answer_of : Result Answer Refusal → Answer
+answer_of (Ok answer) = answer
+answer_of (Err refusal) = record { text = refusal_line refusal; status = 4 }
+
+-- the outcome is that a file is too long
+abbrev pub says_too_long : Result Answer Refusal → Bool
+says_too_long (Ok answer) = false
+says_too_long (Err refusal) = is_too_long refusal
+
+-- This is the answer to what the files of a command give: as too long exactly where the file opened last gave more bytes
+-- than are allowed.
+pub record GivenBy (holds : Option FilesByName) (command : Command) (given : ℕ) (answer : Answer) : Type 0 where
+  pub outcome : Result Answer Refusal
+  pub is_outcome : Outcome holds command outcome
+  pub too_long : says_too_long outcome ≡ nat_lt max_file_bytes given
+  pub is_answer : answer ≡ answer_of outcome
+
+-- the answer to words that ask for nothing
+abbrev pub bad_words : Answer
+bad_words = record { text = line (codes "rela: bad command line"); status = 2 }
+
+-- the answer fits what the words ask for, and what the files gave
+abbrev pub Fits : List (List ℕ) → Option FilesByName → ℕ → Answer → Type 0
+Fits words holds given answer =
+    (AskNothing words × (answer ≡ bad_words)) ⊎ ((command : Command) × Ask words command × GivenBy holds command given answer)
+
+-- what fits was delivered
+abbrev pub Answers : List (List ℕ) → Option FilesByName → ℕ → Option (List ℕ) → Option (List ℕ) → ℕ → Type 0
+Answers words holds given old new status = (answer : Answer) × Fits words holds given answer × Delivers old new answer status
