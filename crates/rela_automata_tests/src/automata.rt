@@ -1,107 +1,166 @@
 //! Automata with silent edges.
 
-use crate::three_letters::{Table, class, word};
-use rela_nfa::{BuildError, Nfa};
-use std::alloc::{AllocError, Global};
-use std::test::Fail;
+ghost use Rattle.std.specs.Prelude.{◌≤◌};
 
-/// Whether letter 0 or letter 1 is the word.
-fn union_has(alloc: Global, letters: &[u32]) -> Result<bool, AllocError> {
-    let either = class(alloc, &[0])?.union(alloc, &class(alloc, &[1])?)?;
-    either.accepts(alloc, letters)
+use crate::three_letters::{Question, Table, has, hold, is_past_limit, is_so_of_classes, word};
+use rela_nfa::BuildError;
+use std::alloc::Global;
+
+/// How an automaton is made, some of letter 0 as a word and of letter 1 as another.
+enum Form {
+    /// No word.
+    Nothing,
+    /// The empty word.
+    EmptyWord,
+    /// The word 0 1.
+    Pair,
+    /// The words of both.
+    Union,
+    /// One of each, one after the other.
+    Concat,
+    /// Any number of the first.
+    Star,
+    /// What is both any number of the first and one of it.
+    Meet,
 }
 
-/// Letter 0 and then letter 1: by the one from state 0 to 1, silently on to 2, and by the other to 3.
-fn one_and_another(alloc: Global) -> Result<Table, AllocError> {
-    class(alloc, &[0])?.concat(alloc, &class(alloc, &[1])?)
+/// What is both any number of the words and one of them.
+fn star_and_one(alloc: Global, words: &Table, limit: usize) -> Result<Table, BuildError>
+    requires { 1 ≤ limit }
+{
+    let many = words.star(alloc)?;
+    many.meet(alloc, words, limit)
 }
 
-/// Whether letter 0 and then letter 1 is the word.
-fn concat_has(alloc: Global, letters: &[u32]) -> Result<bool, AllocError> {
-    one_and_another(alloc)?.accepts(alloc, letters)
+/// Whether the automaton that is made so accepts the word, or not.
+struct Accepts<'a>(Form, &'a [u32], bool);
+
+impl Question for Accepts<'_> {
+    fn is_so(&self, alloc: Global, zero: &Table, one: &Table) -> bool {
+        let Accepts(form, letters, accepted) = self;
+        let found = match form {
+            Form::Nothing => has(alloc, Table::none(alloc, 3), letters),
+            Form::EmptyWord => has(alloc, Table::empty_word(alloc, 3), letters),
+            Form::Pair => has(alloc, word(alloc, &[0, 1]), letters),
+            Form::Union => has(alloc, zero.union(alloc, one), letters),
+            Form::Concat => has(alloc, zero.concat(alloc, one), letters),
+            Form::Star => has(alloc, zero.star(alloc), letters),
+            Form::Meet => has(alloc, star_and_one(alloc, zero, 100), letters),
+        };
+        found == Some(*accepted)
+    }
 }
 
-/// Whether the word is one of letter 0 alone.
-fn star_has(alloc: Global, letters: &[u32]) -> Result<bool, AllocError> {
-    class(alloc, &[0])?.star(alloc)?.accepts(alloc, letters)
-}
-
-/// Whether the word is one of letter 0 alone, and has one letter.
-fn meet_has(alloc: Global, letters: &[u32]) -> Result<bool, BuildError> {
-    let one = class(alloc, &[0])?;
-    let both = one.star(alloc)?.meet(alloc, &one, 100)?;
-    Ok(both.accepts(alloc, letters)?)
-}
-
-/// What such a meet answers where one pair of states alone may be reached.
-fn meet_of_one_pair(alloc: Global) -> Result<Table, BuildError> {
-    let one = class(alloc, &[0])?;
-    one.star(alloc)?.meet(alloc, &one, 1)
-}
+const JOINED: &[Accepts<'static>] = &[
+    Accepts(Form::Union, &[0], true),
+    Accepts(Form::Union, &[1], true),
+    Accepts(Form::Union, &[], false),
+    Accepts(Form::Union, &[2], false),
+    Accepts(Form::Concat, &[0, 1], true),
+    Accepts(Form::Concat, &[1, 0], false),
+    Accepts(Form::Star, &[], true),
+    Accepts(Form::Star, &[0, 0], true),
+    Accepts(Form::Star, &[0, 1], false),
+];
 
 #[test]
-fn letters_joined(rt: HostRuntime) -> Result<(), Fail> {
-    let alloc = rt.alloc();
-    assert!(rt; union_has(alloc, &[0])?);
-    assert!(rt; union_has(alloc, &[1])?);
-    assert!(rt; !union_has(alloc, &[])?);
-    assert!(rt; !union_has(alloc, &[2])?);
-    assert!(rt; concat_has(alloc, &[0, 1])?);
-    assert!(rt; !concat_has(alloc, &[1, 0])?);
-    assert!(rt; star_has(alloc, &[])?);
-    assert!(rt; star_has(alloc, &[0, 0])?);
-    assert!(rt; !star_has(alloc, &[0, 1])?);
-    Ok(())
+fn letters_joined(rt: HostRuntime) {
+    hold(&rt, rt.alloc(), &[0], &[1], JOINED);
 }
 
-#[test]
-fn words_that_both_accept(rt: HostRuntime) -> Result<(), Fail> {
-    let alloc = rt.alloc();
-    assert!(rt; meet_has(alloc, &[0])?);
-    assert!(rt; !meet_has(alloc, &[])?);
-    assert!(rt; !meet_has(alloc, &[0, 0])?);
-    let refused = meet_of_one_pair(alloc);
-    assert!(rt; refused.is_err_and(|e| e == BuildError::Limit));
-    Ok(())
+/// That one pair of states isn't enough for the words of both.
+struct MorePairs;
+
+impl Question for MorePairs {
+    fn is_so(&self, alloc: Global, zero: &Table, _one: &Table) -> bool {
+        is_past_limit(star_and_one(alloc, zero, 1))
+    }
 }
 
-#[test]
-fn no_word_and_the_empty_one(rt: HostRuntime) -> Result<(), Fail> {
-    let alloc = rt.alloc();
-    let none: Table = Nfa::none(alloc, 3)?;
-    assert!(rt; !none.accepts(alloc, &[])?);
-    let empty: Table = Nfa::empty_word(alloc, 3)?;
-    assert!(rt; empty.accepts(alloc, &[])?);
-    assert!(rt; !empty.accepts(alloc, &[0])?);
-    Ok(())
-}
+const MET: &[Accepts<'static>] = &[
+    Accepts(Form::Meet, &[0], true),
+    Accepts(Form::Meet, &[], false),
+    Accepts(Form::Meet, &[0, 0], false),
+];
 
 #[test]
-fn one_word(rt: HostRuntime) -> Result<(), Fail> {
-    let alloc = rt.alloc();
-    let pair = word(alloc, &[0, 1])?;
-    assert!(rt; pair.accepts(alloc, &[0, 1])?);
-    assert!(rt; !pair.accepts(alloc, &[0])?);
-    assert!(rt; !pair.accepts(alloc, &[0, 1, 1])?);
-    assert_eq!(rt; pair.states(), 3);
-    assert_eq!(rt; pair.start(), 0);
-    Ok(())
+fn words_that_both_accept(rt: HostRuntime) {
+    hold(&rt, rt.alloc(), &[0], &[1], MET);
+    assert!(rt; is_so_of_classes(rt.alloc(), &[0], &[1], &MorePairs));
+}
+
+const AT_MOST_EMPTY: &[Accepts<'static>] = &[
+    Accepts(Form::Nothing, &[], false),
+    Accepts(Form::EmptyWord, &[], true),
+    Accepts(Form::EmptyWord, &[0], false),
+];
+
+#[test]
+fn no_word_and_the_empty_one(rt: HostRuntime) {
+    hold(&rt, rt.alloc(), &[0], &[1], AT_MOST_EMPTY);
+}
+
+/// Whether the word 0 1 has three states, and begins at state 0.
+fn pair_has_three_states(alloc: Global) -> bool {
+    match word(alloc, &[0, 1]) {
+        Ok(pair) => pair.states() == 3 && pair.start() == 0,
+        Err(_) => false,
+    }
+}
+
+const THE_PAIR: &[Accepts<'static>] = &[
+    Accepts(Form::Pair, &[0, 1], true),
+    Accepts(Form::Pair, &[0], false),
+    Accepts(Form::Pair, &[0, 1, 1], false),
+];
+
+#[test]
+fn one_word(rt: HostRuntime) {
+    hold(&rt, rt.alloc(), &[0], &[1], THE_PAIR);
+    assert!(rt; pair_has_three_states(rt.alloc()));
 }
 
 /// Whether some edge leads from the one state to the other.
 fn leads_to(table: &Table, q: usize, to: usize) -> bool {
-    q < table.states() && table.edges(q).iter().any(|edge| edge.to == to)
+    if q < table.states() {
+        for edge in table.edges(q) {
+            if edge.to == to {
+                return true;
+            }
+        }
+    }
+    false
+}
+
+/// Whether it goes from state 0 to 2 at once, and has still the word 0 1, but not 0 alone.
+fn goes_straight(alloc: Global, short: &Table) -> bool {
+    leads_to(short, 0, 2)
+        && !leads_to(short, 0, 1)
+        && short.accepts(alloc, &[0, 1]).ok() == Some(true)
+        && short.accepts(alloc, &[0]).ok() == Some(false)
+}
+
+/// Whether it goes from state 0 to 1, and straight to 2 once it is shortened.
+fn is_shortened(alloc: Global, both: &Table) -> bool {
+    match both.shortened(alloc) {
+        Ok(short) => leads_to(both, 0, 1) && goes_straight(alloc, &short),
+        Err(_) => false,
+    }
+}
+
+/// The detour of a word of each: by the one from state 0 to 1, silently on to 2, and by the other to 3.
+struct Detour;
+
+impl Question for Detour {
+    fn is_so(&self, alloc: Global, zero: &Table, one: &Table) -> bool {
+        match zero.concat(alloc, one) {
+            Ok(both) => is_shortened(alloc, &both),
+            Err(_) => false,
+        }
+    }
 }
 
 #[test]
-fn detours_left_out(rt: HostRuntime) -> Result<(), Fail> {
-    let alloc = rt.alloc();
-    let both = one_and_another(alloc)?;
-    assert!(rt; leads_to(&both, 0, 1));
-    let short = both.shortened(alloc)?;
-    assert!(rt; leads_to(&short, 0, 2));
-    assert!(rt; !leads_to(&short, 0, 1));
-    assert!(rt; short.accepts(alloc, &[0, 1])?);
-    assert!(rt; !short.accepts(alloc, &[0])?);
-    Ok(())
+fn detours_left_out(rt: HostRuntime) {
+    assert!(rt; is_so_of_classes(rt.alloc(), &[0], &[1], &Detour));
 }

@@ -1,79 +1,80 @@
 //! Whether two automata accept the same words.
 
-ghost use Rattle.std.specs.Prelude.{◌≡◌, IfOk};
-
-use crate::three_letters::{Table, class};
+use crate::far_letters::one_before;
+use crate::three_letters::{Question, Table, is_past_limit, is_so_of_classes};
 use rela_compare::{BuildError, Verdict, Which, equal, included};
-use std::alloc::{AllocError, Global};
-use std::test::Fail;
+use std::alloc::Global;
 
-/// Compares the words of one of these letters with those of one of the others.
-fn compared(
-    alloc: Global,
-    first: &[u32],
-    second: &[u32],
-    limit: usize,
-) -> Result<Verdict, BuildError> {
-    equal(alloc, &class(alloc, first)?, &class(alloc, second)?, limit)
+/// Whether the comparison tells that this word, of this side, is the first that tells the two apart.
+fn is_difference(found: Result<Verdict, BuildError>, first: &[u32], on: Which) -> bool {
+    match found {
+        Ok(Verdict::Differ { word, side }) => word.as_slice() == first && side == on,
+        _ => false,
+    }
 }
 
-/// Whether each word of one of these letters is one of one of the others.
-fn contained(alloc: Global, first: &[u32], second: &[u32]) -> Result<Verdict, BuildError> {
-    included(alloc, &class(alloc, first)?, &class(alloc, second)?, 100)
+/// Whether it tells that none does.
+fn is_same(found: Result<Verdict, BuildError>) -> bool {
+    matches!(found, Ok(Verdict::Same))
 }
 
-fn is_difference(verdict: &Verdict, first: &[u32], on: Which) -> bool {
-    match verdict {
-        Verdict::Same => false,
-        Verdict::Differ { word, side } => word.as_slice() == first && *side == on,
+/// That the second words have letter 1 besides the first ones, which is the first difference.
+struct OneMore;
+
+impl Question for OneMore {
+    fn is_so(&self, alloc: Global, few: &Table, many: &Table) -> bool {
+        is_difference(equal(alloc, few, many, 100), &[1], Which::Second)
+            && is_same(equal(alloc, many, many, 100))
+            && is_same(included(alloc, few, many, 100))
+            && is_difference(included(alloc, many, few, 100), &[1], Which::First)
+    }
+}
+
+/// That letter 0 is one of the first words, and none of the second, by two pairs of sets of states.
+struct Apart;
+
+impl Question for Apart {
+    fn is_so(&self, alloc: Global, zero: &Table, one: &Table) -> bool {
+        is_difference(equal(alloc, zero, one, 2), &[0], Which::First)
     }
 }
 
 #[test]
-fn a_class_and_two(rt: HostRuntime) -> Result<(), Fail> {
-    let alloc = rt.alloc();
-    assert!(rt; is_difference(&compared(alloc, &[0], &[0, 1], 100)?, &[1], Which::Second));
-    assert!(rt; is_difference(&compared(alloc, &[0], &[1], 2)?, &[0], Which::First));
-    assert!(rt; matches!(compared(alloc, &[0, 1], &[0, 1], 100)?, Verdict::Same));
-    assert!(rt; matches!(contained(alloc, &[0], &[0, 1])?, Verdict::Same));
-    assert!(rt; is_difference(&contained(alloc, &[0, 1], &[0])?, &[1], Which::First));
-    Ok(())
+fn a_class_and_two(rt: HostRuntime) {
+    assert!(rt; is_so_of_classes(rt.alloc(), &[0], &[0, 1], &OneMore));
+    assert!(rt; is_so_of_classes(rt.alloc(), &[0], &[1], &Apart));
 }
 
-/// The words with letter 0 last.
-fn zero_last(alloc: Global, any: &Table) -> Result<Table, AllocError>
-    requires { any.now.letters ≡ 3 }
-    ensures { IfOk result (λ nfa. nfa.letters ≡ 3) }
-{
-    any.star(alloc)?.concat(alloc, &class(alloc, &[0])?)
-}
+/// That the words with a letter at 20 places before the last reach more than 100 sets of states.
+struct ManySets;
 
-/// The words with letter 0 at this many places before the last.
-fn zero_before(alloc: Global, places: u32) -> Result<Table, AllocError>
-    ensures { IfOk result (λ nfa. nfa.letters ≡ 3) }
-{
-    let any = class(alloc, &[0, 1, 2])?;
-    let mut words = zero_last(alloc, &any)?;
-    'places: for _ in 0..places {
-        words = words.concat(alloc, &any)?;
+impl Question for ManySets {
+    fn is_so(&self, alloc: Global, any: &Table, one: &Table) -> bool {
+        match one_before(alloc, any, one, 20) {
+            Ok(many) => is_past_limit(equal(alloc, &many, &many, 100)),
+            Err(_) => false,
+        }
     }
-    Ok(words)
 }
 
 #[test]
-fn many_sets_of_states(rt: HostRuntime) -> Result<(), Fail> {
-    let alloc = rt.alloc();
-    let many = zero_before(alloc, 20)?;
-    assert!(rt; matches!(equal(alloc, &many, &many, 100), Err(BuildError::Limit)));
-    Ok(())
+fn many_sets_of_states(rt: HostRuntime) {
+    assert!(rt; is_so_of_classes(rt.alloc(), &[0, 1, 2], &[0], &ManySets));
+}
+
+/// That these words differ from that of letter 0 at the first letter, long before there are many sets.
+struct EarlyDifference;
+
+impl Question for EarlyDifference {
+    fn is_so(&self, alloc: Global, any: &Table, one: &Table) -> bool {
+        match one_before(alloc, any, one, 20) {
+            Ok(many) => is_difference(equal(alloc, &many, one, 100), &[0], Which::Second),
+            Err(_) => false,
+        }
+    }
 }
 
 #[test]
-fn a_difference_before_many_sets(rt: HostRuntime) -> Result<(), Fail> {
-    let alloc = rt.alloc();
-    // The two differ at the first letter, long before there are many sets.
-    let many = zero_before(alloc, 20)?;
-    let few = class(alloc, &[0])?;
-    assert!(rt; is_difference(&equal(alloc, &many, &few, 100)?, &[0], Which::Second));
-    Ok(())
+fn a_difference_before_many_sets(rt: HostRuntime) {
+    assert!(rt; is_so_of_classes(rt.alloc(), &[0, 1, 2], &[0], &EarlyDifference));
 }

@@ -6,6 +6,8 @@ mod automata;
 #[cfg(test)]
 mod comparison;
 #[cfg(test)]
+mod far_letters;
+#[cfg(test)]
 mod minimal;
 #[cfg(test)]
 mod subsets;

@@ -2,54 +2,90 @@
 
 ghost use Rattle.std.specs.Prelude.{◌≡◌, IfOk, length};
 
-use crate::three_letters::{Letters, class, set_of, word};
+use crate::far_letters::one_before;
+use crate::subsets::determinised;
+use crate::three_letters::{Letters, Question, Table, is_so_of_classes, is_so_of_words};
 use rela_labels::{LabelSet, WideSet};
 use rela_minimise::minimise;
 use rela_nfa::Nfa;
 use rela_subset::{BuildError, Dfa, determinise};
 use std::alloc::{AllocError, Global};
-use std::test::Fail;
 
-/// All words of three letters but the one of letter 0, minimal.
-fn others(alloc: Global) -> Result<Dfa<Letters>, BuildError> {
-    let all = set_of(alloc, &[0, 1, 2])?;
-    let dfa = determinise(alloc, &class(alloc, &[0])?, &all, 10)?;
-    Ok(minimise(alloc, &dfa.into_complement(alloc)?)?)
+/// All words but those of the automaton, minimal.
+fn minimal_others(alloc: Global, dfa: Dfa<Letters>) -> Result<Dfa<Letters>, AllocError> {
+    let others = dfa.into_complement(alloc)?;
+    minimise(alloc, &others)
+}
+
+/// Whether it has a state for the empty word, one for letter 0 alone and one for all other words, and
+/// accepts all but letter 0.
+fn lacks_zero(made: &Dfa<Letters>) -> bool {
+    made.states() == 3
+        && made.start() == 0
+        && made.over().contains(0)
+        && made.over().contains(1)
+        && [made.next(0, 0), made.next(0, 1), made.next(1, 0)] == [1, 2, 2]
+        && [made.is_final(0), made.is_final(1), made.is_final(2)] == [true, false, true]
+}
+
+/// Whether the minimal automaton of all words but those lacks letter 0.
+fn others_lack_zero(alloc: Global, dfa: Dfa<Letters>) -> bool {
+    match minimal_others(alloc, dfa) {
+        Ok(made) => lacks_zero(&made),
+        Err(_) => false,
+    }
+}
+
+/// That the minimal automaton of all words but letter 0 does.
+struct Others;
+
+impl Question for Others {
+    fn is_so(&self, alloc: Global, zero: &Table, _one: &Table) -> bool {
+        match determinised(alloc, zero, &[0, 1, 2], 10) {
+            Ok(dfa) => others_lack_zero(alloc, dfa),
+            Err(_) => false,
+        }
+    }
 }
 
 #[test]
-fn all_words_but_one_letter(rt: HostRuntime) -> Result<(), Fail> {
-    let alloc = rt.alloc();
-    let made = others(alloc)?;
-    assert_eq!(rt; made.states(), 3);
-    assert_eq!(rt; made.start(), 0);
-    assert!(rt; made.over().contains(0));
-    assert!(rt; made.over().contains(1));
-    assert!(rt; made.is_final(0));
-    assert_eq!(rt; made.next(0, 0), 1);
-    assert!(rt; !made.is_final(1));
-    assert_eq!(rt; made.next(0, 1), 2);
-    assert_eq!(rt; made.next(1, 0), 2);
-    assert!(rt; made.is_final(2));
-    Ok(())
+fn all_words_but_one_letter(rt: HostRuntime) {
+    assert!(rt; is_so_of_classes(rt.alloc(), &[0], &[1], &Others));
 }
 
-/// The words 0 2 and 1 2.
-fn two_words(alloc: Global) -> Result<Dfa<Letters>, BuildError> {
-    let all = set_of(alloc, &[0, 1, 2])?;
-    let words = word(alloc, &[0, 2])?.union(alloc, &word(alloc, &[1, 2])?)?;
-    determinise(alloc, &words, &all, 10)
+/// Whether the minimal automaton has four states, and two edges from where it starts.
+fn has_four_states(alloc: Global, dfa: &Dfa<Letters>) -> bool {
+    match minimise(alloc, dfa) {
+        Ok(made) => made.states() == 4 && made.edges(0).len() == 2,
+        Err(_) => false,
+    }
+}
+
+/// Whether the words reach more than four sets of states, and four are enough.
+fn are_merged(alloc: Global, words: &Table) -> bool
+    requires { words.now.letters ≡ 3 }
+{
+    match determinised(alloc, words, &[0, 1, 2], 10) {
+        Ok(dfa) => dfa.states() > 4 && has_four_states(alloc, &dfa),
+        Err(_) => false,
+    }
+}
+
+/// That states with the same words to come are one, in the automaton of both.
+struct Merged;
+
+impl Question for Merged {
+    fn is_so(&self, alloc: Global, first: &Table, second: &Table) -> bool {
+        match first.union(alloc, second) {
+            Ok(words) => are_merged(alloc, &words),
+            Err(_) => false,
+        }
+    }
 }
 
 #[test]
-fn states_with_the_same_words_are_one(rt: HostRuntime) -> Result<(), Fail> {
-    let alloc = rt.alloc();
-    let dfa = two_words(alloc)?;
-    assert!(rt; dfa.states() > 4);
-    let made = minimise(alloc, &dfa)?;
-    assert_eq!(rt; made.states(), 4);
-    assert_eq!(rt; made.edges(0).len(), 2);
-    Ok(())
+fn states_with_the_same_words_are_one(rt: HostRuntime) {
+    assert!(rt; is_so_of_words(rt.alloc(), &[0, 2], &[1, 2], &Merged));
 }
 
 /// All of 300 letters.
@@ -63,22 +99,13 @@ fn all(alloc: Global) -> Result<WideSet, AllocError>
     Ok(set)
 }
 
-/// Letter 7 of 300.
-fn seventh(alloc: Global) -> Result<WideSet, AllocError>
-    ensures { IfOk result (λ set. length set ≡ 300) }
+/// Letter 7 of 300, as a word.
+fn seventh(alloc: Global) -> Result<Nfa<WideSet>, AllocError>
+    ensures { IfOk result (λ nfa. nfa.letters ≡ 300) }
 {
     let mut set = WideSet::none(alloc, 300)?;
     set.add(alloc, 7)?;
-    Ok(set)
-}
-
-/// The words that end with letter 7.
-fn with_seventh_last(alloc: Global, any: &Nfa<WideSet>) -> Result<Nfa<WideSet>, AllocError>
-    requires { any.now.letters ≡ 300 }
-    ensures { IfOk result (λ nfa. nfa.letters ≡ 300) }
-{
-    let one: Nfa<WideSet> = Nfa::class(alloc, 300, &seventh(alloc)?)?;
-    any.star(alloc)?.concat(alloc, &one)
+    Nfa::class(alloc, 300, &set)
 }
 
 /// The words with letter 7 at five places before the last.
@@ -86,25 +113,54 @@ fn seventh_before_five(alloc: Global, any: &Nfa<WideSet>) -> Result<Nfa<WideSet>
     requires { any.now.letters ≡ 300 }
     ensures { IfOk result (λ nfa. nfa.letters ≡ 300) }
 {
-    let mut words = with_seventh_last(alloc, any)?;
-    'places: for _ in 0..5 {
-        words = words.concat(alloc, any)?;
-    }
-    Ok(words)
+    let seventh = seventh(alloc)?;
+    one_before(alloc, any, &seventh, 5)
 }
 
-/// The words with letter 7 at five places before the last, as sets of states.
-fn many_letters(alloc: Global) -> Result<Dfa<WideSet>, BuildError> {
-    let all = all(alloc)?;
-    let any: Nfa<WideSet> = Nfa::class(alloc, 300, &all)?;
-    determinise(alloc, &seventh_before_five(alloc, &any)?, &all, 100)
+/// The words over these letters, all of 300, with letter 7 at five places before the last.
+fn many_letters(alloc: Global, all: &WideSet) -> Result<Nfa<WideSet>, AllocError>
+    requires { length all.now ≡ 300 }
+    ensures { IfOk result (λ nfa. nfa.letters ≡ 300) }
+{
+    let any = Nfa::class(alloc, 300, all)?;
+    seventh_before_five(alloc, &any)
+}
+
+/// The sets of states that they reach.
+fn many_letters_determinised(alloc: Global, all: &WideSet) -> Result<Dfa<WideSet>, BuildError>
+    requires { length all.now ≡ 300 }
+{
+    let words = many_letters(alloc, all)?;
+    determinise(alloc, &words, all, 100)
+}
+
+/// Whether the minimal automaton has 64 states.
+fn has_64_states(alloc: Global, dfa: &Dfa<WideSet>) -> bool {
+    match minimise(alloc, dfa) {
+        Ok(made) => made.states() == 64,
+        Err(_) => false,
+    }
+}
+
+/// Whether these words reach more than 64 sets of states, and 64 are enough.
+fn are_of_two_kinds(alloc: Global, all: &WideSet) -> bool
+    requires { length all.now ≡ 300 }
+{
+    match many_letters_determinised(alloc, all) {
+        Ok(dfa) => dfa.states() > 64 && has_64_states(alloc, &dfa),
+        Err(_) => false,
+    }
+}
+
+/// Whether this is so over all letters.
+fn are_all_of_two_kinds(alloc: Global) -> bool {
+    match all(alloc) {
+        Ok(all) => are_of_two_kinds(alloc, &all),
+        Err(_) => false,
+    }
 }
 
 #[test]
-fn many_letters_of_two_kinds(rt: HostRuntime) -> Result<(), Fail> {
-    let alloc = rt.alloc();
-    let dfa = many_letters(alloc)?;
-    assert!(rt; dfa.states() > 64);
-    assert_eq!(rt; minimise(alloc, &dfa)?.states(), 64);
-    Ok(())
+fn many_letters_of_two_kinds(rt: HostRuntime) {
+    assert!(rt; are_all_of_two_kinds(rt.alloc()));
 }

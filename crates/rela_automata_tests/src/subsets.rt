@@ -1,13 +1,130 @@
 //! The subset construction, complements and first words.
 
-ghost use Rattle.std.specs.Prelude.{◌≡◌, ◌≤◌, IfOk, length};
+ghost use Rattle.std.specs.Prelude.{◌≡◌, ◌≤◌, length};
 
-use crate::three_letters::{Letters, Table, class, set_of, word};
+use crate::far_letters::one_before;
+use crate::three_letters::{
+    Letters, Question, Table, has, hold, is_past_limit, is_so_of_classes, is_so_of_words, is_word,
+    set_of,
+};
 use rela_labels::LabelSet;
 use rela_names::Word;
 use rela_subset::{BuildError, Dfa, Wanted, complement, determinise, first_word};
 use std::alloc::{AllocError, Global};
-use std::test::Fail;
+
+/// The sets of states that the words reach, over these of three letters.
+pub(crate) fn determinised(
+    alloc: Global,
+    words: &Table,
+    over: &[u32],
+    limit: usize,
+) -> Result<Dfa<Letters>, BuildError>
+    requires letters { words.now.letters ≡ 3 }
+    requires limit { 1 ≤ limit }
+{
+    let over = set_of(alloc, over)?;
+    determinise(alloc, words, &over, limit)
+}
+
+/// The words over the same letters that the automaton doesn't accept.
+fn others(alloc: Global, dfa: &Dfa<Letters>) -> Result<Table, AllocError> {
+    let others = complement(alloc, dfa)?;
+    others.into_nfa(alloc)
+}
+
+/// Whether the word is one of all words of three letters but those of the first automaton, or not.
+struct Other<'a>(&'a [u32], bool);
+
+impl Question for Other<'_> {
+    fn is_so(&self, alloc: Global, words: &Table, _second: &Table) -> bool {
+        match determinised(alloc, words, &[0, 1, 2], 3) {
+            Ok(dfa) => has(alloc, others(alloc, &dfa), self.0) == Some(self.1),
+            Err(_) => false,
+        }
+    }
+}
+
+const ALL_BUT_ZERO: &[Other<'static>] = &[
+    Other(&[], true),
+    Other(&[1], true),
+    Other(&[0, 0], true),
+    Other(&[0], false),
+];
+
+#[test]
+fn all_words_but_one(rt: HostRuntime) {
+    hold(&rt, rt.alloc(), &[0], &[1], ALL_BUT_ZERO);
+}
+
+/// Whether it reads letters 0 and 2 of three, and accepts the word of letter 2.
+fn is_reading(dfa: &Dfa<Letters>) -> bool {
+    let start = dfa.start();
+    dfa.letters() == 3
+        && dfa.states() == 3
+        && dfa.edges(start).len() == 2
+        && !dfa.over().contains(1)
+        && dfa.over().contains(2)
+        && !dfa.is_final(start)
+        && dfa.is_final(dfa.next(start, 2))
+}
+
+/// That the word of letter 2 is read so, over letters 0 and 2 alone.
+struct Reading;
+
+impl Question for Reading {
+    fn is_so(&self, alloc: Global, words: &Table, _second: &Table) -> bool {
+        match determinised(alloc, words, &[0, 2], 3) {
+            Ok(dfa) => is_reading(&dfa),
+            Err(_) => false,
+        }
+    }
+}
+
+#[test]
+fn reads_a_letter(rt: HostRuntime) {
+    assert!(rt; is_so_of_classes(rt.alloc(), &[2], &[0], &Reading));
+}
+
+/// How many sets of states the words reach.
+fn sets_reached(alloc: Global, words: &Table, limit: usize) -> Result<usize, BuildError>
+    requires letters { words.now.letters ≡ 3 }
+    requires limit { 1 ≤ limit }
+{
+    let dfa = determinised(alloc, words, &[0, 1, 2], limit)?;
+    Ok(dfa.states())
+}
+
+/// Whether the words reach as many sets of states as a limit allows that is as great, and too many for
+/// the next lower one.
+fn has_exact_limit(alloc: Global, words: &Table) -> bool
+    requires { words.now.letters ≡ 3 }
+{
+    match sets_reached(alloc, words, 4_000_000) {
+        Ok(states) => {
+            states > 1
+                && sets_reached(alloc, words, states).ok() == Some(states)
+                && is_past_limit(sets_reached(alloc, words, states - 1))
+        }
+        Err(_) => false,
+    }
+}
+
+/// The limit on the sets of states that words with a letter just before the last reach.
+struct ExactLimit;
+
+impl Question for ExactLimit {
+    fn is_so(&self, alloc: Global, any: &Table, one: &Table) -> bool {
+        match one_before(alloc, any, one, 1) {
+            Ok(words) => has_exact_limit(alloc, &words),
+            Err(_) => false,
+        }
+    }
+}
+
+#[test]
+fn as_many_states_as_the_limit(rt: HostRuntime) {
+    assert!(rt; is_so_of_classes(rt.alloc(), &[0, 1, 2], &[0], &ExactLimit));
+}
 
 /// The sets of this many states.
 #[derive(Drop)]
@@ -23,97 +140,43 @@ impl Wanted for OfSize {
     }
 }
 
-/// All words of three letters but the one of letter 0.
-fn others(alloc: Global) -> Result<Table, BuildError> {
-    let all = set_of(alloc, &[0, 1, 2])?;
-    let dfa = determinise(alloc, &class(alloc, &[0])?, &all, 10)?;
-    Ok(complement(alloc, &dfa)?.into_nfa(alloc)?)
-}
-
-#[test]
-fn all_words_but_one(rt: HostRuntime) -> Result<(), Fail> {
-    let alloc = rt.alloc();
-    let nfa = others(alloc)?;
-    assert!(rt; nfa.accepts(alloc, &[])?);
-    assert!(rt; nfa.accepts(alloc, &[1])?);
-    assert!(rt; nfa.accepts(alloc, &[0, 0])?);
-    assert!(rt; !nfa.accepts(alloc, &[0])?);
-    Ok(())
-}
-
-/// The word of letter 2, over letters 0 and 2 alone.
-fn reading_a_letter(alloc: Global) -> Result<Dfa<Letters>, BuildError> {
-    let some = set_of(alloc, &[0, 2])?;
-    determinise(alloc, &class(alloc, &[2])?, &some, 3)
-}
-
-#[test]
-fn reads_a_letter(rt: HostRuntime) -> Result<(), Fail> {
-    let alloc = rt.alloc();
-    let dfa = reading_a_letter(alloc)?;
-    assert_eq!(rt; dfa.letters(), 3);
-    assert_eq!(rt; dfa.states(), 3);
-    assert!(rt; !dfa.is_final(dfa.start()));
-    assert!(rt; !dfa.over().contains(1));
-    assert!(rt; dfa.over().contains(2));
-    assert!(rt; dfa.is_final(dfa.next(dfa.start(), 2)));
-    assert_eq!(rt; dfa.edges(dfa.start()).len(), 2);
-    Ok(())
-}
-
-/// The words whose last letter but one is 0.
-fn zero_and_one_more(alloc: Global) -> Result<Table, AllocError>
-    ensures { IfOk result (λ nfa. nfa.letters ≡ 3) }
-{
-    let any = class(alloc, &[0, 1, 2])?;
-    let zero_last = any.star(alloc)?.concat(alloc, &class(alloc, &[0])?)?;
-    zero_last.concat(alloc, &any)
-}
-
-/// How many sets of states the words whose last letter but one is 0 reach.
-fn sets_reached(alloc: Global, limit: usize) -> Result<usize, BuildError>
-    requires { 1 ≤ limit }
+/// The first word that reaches so many states of the automaton.
+fn first_to(
+    alloc: Global,
+    words: &Table,
+    size: usize,
+    limit: usize,
+) -> Result<Option<Word>, BuildError>
+    requires letters { words.now.letters ≡ 3 }
+    requires limit { 1 ≤ limit }
 {
     let all = set_of(alloc, &[0, 1, 2])?;
-    let dfa = determinise(alloc, &zero_and_one_more(alloc)?, &all, limit)?;
-    Ok(dfa.states())
+    first_word(alloc, words, &all, &OfSize { size }, limit)
 }
 
-#[test]
-fn as_many_states_as_the_limit(rt: HostRuntime) -> Result<(), Fail> {
-    let alloc = rt.alloc();
-    let states = sets_reached(alloc, 4_000_000)?;
-    assert!(rt; states > 1);
-    assert_eq!(rt; sets_reached(alloc, states)?, states);
-    let refused = sets_reached(alloc, states - 1);
-    assert!(rt; matches!(refused, Err(BuildError::Limit)));
-    Ok(())
-}
-
-/// The first word that reaches so many states of an automaton of the word 1 2 alone, whose sets are
-/// those of the empty word, of 0, of 1 and of 1 2.
-fn first_to(alloc: Global, size: usize, limit: usize) -> Result<Option<Word>, BuildError>
-    requires { 1 ≤ limit }
+/// The first word that reaches two states of the automaton of both.
+fn first_to_two(alloc: Global, first: &Table, second: &Table) -> Result<Option<Word>, BuildError>
+    requires first { first.now.letters ≡ 3 }
+    requires second { second.now.letters ≡ 3 }
 {
-    let all = set_of(alloc, &[0, 1, 2])?;
-    first_word(alloc, &word(alloc, &[1, 2])?, &all, &OfSize { size }, limit)
+    let both = first.union(alloc, second)?;
+    first_to(alloc, &both, 2, 100)
 }
 
-/// The first word that reaches two states of an automaton of the words 1 2 and 1 2 0.
-fn first_to_two(alloc: Global) -> Result<Option<Word>, BuildError> {
-    let all = set_of(alloc, &[0, 1, 2])?;
-    let words = word(alloc, &[1, 2])?.union(alloc, &word(alloc, &[1, 2, 0])?)?;
-    first_word(alloc, &words, &all, &OfSize { size: 2 }, 100)
+/// First words to sets of states of the word 1 2 alone, whose sets are those of the empty word, of 0,
+/// of 1 and of 1 2; and of this word and a longer one.
+struct FirstWords;
+
+impl Question for FirstWords {
+    fn is_so(&self, alloc: Global, pair: &Table, longer: &Table) -> bool {
+        is_word(first_to(alloc, pair, 0, 1), Some(&[0]))
+            && is_word(first_to(alloc, pair, 2, 4), None)
+            && is_past_limit(first_to(alloc, pair, 2, 3))
+            && is_word(first_to_two(alloc, pair, longer), Some(&[1]))
+    }
 }
 
 #[test]
-fn first_words(rt: HostRuntime) -> Result<(), Fail> {
-    let alloc = rt.alloc();
-    let lost = first_to(alloc, 0, 1)?;
-    assert!(rt; lost.is_some_and(|found| found.as_slice() == [0].as_slice()));
-    assert!(rt; first_to(alloc, 2, 4)?.is_none());
-    assert!(rt; matches!(first_to(alloc, 2, 3), Err(BuildError::Limit)));
-    let pair = first_to_two(alloc)?;
-    assert!(rt; pair.is_some_and(|found| found.as_slice() == [1].as_slice()));
-    Ok(())
+fn first_words(rt: HostRuntime) {
+    assert!(rt; is_so_of_words(rt.alloc(), &[1, 2], &[1, 2, 0], &FirstWords));
 }

@@ -1,96 +1,154 @@
 //! The first words of automata, and first sources.
 
-ghost use Rattle.std.specs.Prelude.{◌≡◌, ◌<◌, IfOk};
-ghost use Rattle.std.specs.List.{All};
+ghost use Rattle.std.specs.Prelude.{◌≡◌, IfOk};
 
-use crate::three_letters::{Table, class, word};
-use rela_names::Word;
-use rela_nfa::Nfa;
+use crate::three_letters::{Letters, Question, Table, class, hold, is_so_of_words, is_word, word};
 use rela_trans::Transducer;
 use rela_witness::{least_source, least_word};
 use std::alloc::{AllocError, Global};
-use std::test::Fail;
 
-/// Whether the word is that of these letters.
-fn is(found: Option<Word>, letters: &[u32]) -> bool {
-    match found {
-        Some(word) => word.as_slice() == letters,
-        None => false,
+/// Whether the first word of the automaton is that of these letters, or there is none as asked for.
+fn is_least(alloc: Global, words: &Table, letters: Option<&[u32]>) -> bool {
+    is_word(least_word(alloc, words), letters)
+}
+
+/// Whether it is, where the automaton was made.
+fn has_least(alloc: Global, words: Result<Table, AllocError>, letters: Option<&[u32]>) -> bool {
+    match words {
+        Ok(words) => is_least(alloc, &words, letters),
+        Err(_) => false,
     }
 }
 
-/// The words of the automaton, and one more.
-fn with(alloc: Global, words: &Table, more: &[u32]) -> Result<Table, AllocError>
-    requires over { words.now.letters ≡ 3 }
-    requires letters { All (λ k. k < 3) more.now }
+/// The words of the automaton, and the word 2 0.
+fn with_less(alloc: Global, words: &Table) -> Result<Table, AllocError>
+    requires { words.now.letters ≡ 3 }
     ensures { IfOk result (λ nfa. nfa.letters ≡ 3) }
 {
-    words.union(alloc, &word(alloc, more)?)
+    let less = word(alloc, &[2, 0])?;
+    words.union(alloc, &less)
 }
 
-/// The words 0 0 0 and 2 1.
-fn long_and_short(alloc: Global) -> Result<Table, AllocError>
-    ensures { IfOk result (λ nfa. nfa.letters ≡ 3) }
+/// The first words of two words, of these and a lesser one, and of these followed by the two.
+fn has_lesser(alloc: Global, both: &Table) -> bool
+    requires { both.now.letters ≡ 3 }
 {
-    with(alloc, &word(alloc, &[0, 0, 0])?, &[2, 1])
+    match with_less(alloc, both) {
+        Ok(all) => {
+            is_least(alloc, both, Some(&[2, 1]))
+                && is_least(alloc, &all, Some(&[2, 0]))
+                && has_least(alloc, all.concat(alloc, both), Some(&[2, 0, 2, 1]))
+        }
+        Err(_) => false,
+    }
+}
+
+/// That a shorter word comes before a lesser one.
+struct ShorterFirst;
+
+impl Question for ShorterFirst {
+    fn is_so(&self, alloc: Global, long: &Table, short: &Table) -> bool {
+        match long.union(alloc, short) {
+            Ok(both) => has_lesser(alloc, &both),
+            Err(_) => false,
+        }
+    }
 }
 
 #[test]
-fn shorter_before_less(rt: HostRuntime) -> Result<(), Fail> {
-    let alloc = rt.alloc();
-    let both = long_and_short(alloc)?;
-    assert!(rt; is(least_word(alloc, &both)?, &[2, 1]));
-    let all = with(alloc, &both, &[2, 0])?;
-    assert!(rt; is(least_word(alloc, &all)?, &[2, 0]));
-    let after = all.concat(alloc, &both)?;
-    assert!(rt; is(least_word(alloc, &after)?, &[2, 0, 2, 1]));
-    Ok(())
+fn shorter_before_less(rt: HostRuntime) {
+    assert!(rt; is_so_of_words(rt.alloc(), &[0, 0, 0], &[2, 1], &ShorterFirst));
+}
+
+/// That of two letters the lesser comes first, and behind a letter too.
+struct LesserFirst;
+
+impl Question for LesserFirst {
+    fn is_so(&self, alloc: Global, one: &Table, zero: &Table) -> bool {
+        match one.union(alloc, zero) {
+            Ok(either) => {
+                is_least(alloc, &either, Some(&[0]))
+                    && has_least(alloc, one.concat(alloc, &either), Some(&[1, 0]))
+            }
+            Err(_) => false,
+        }
+    }
 }
 
 #[test]
-fn least_of_one_length(rt: HostRuntime) -> Result<(), Fail> {
-    let alloc = rt.alloc();
-    let either = with(alloc, &word(alloc, &[1])?, &[0])?;
-    assert!(rt; is(least_word(alloc, &either)?, &[0]));
-    let pair = word(alloc, &[1])?.concat(alloc, &either)?;
-    assert!(rt; is(least_word(alloc, &pair)?, &[1, 0]));
-    Ok(())
+fn least_of_one_length(rt: HostRuntime) {
+    assert!(rt; is_so_of_words(rt.alloc(), &[1], &[0], &LesserFirst));
+}
+
+/// That the empty word comes first, where there is one.
+struct EmptyFirst;
+
+impl Question for EmptyFirst {
+    fn is_so(&self, alloc: Global, one: &Table, _zero: &Table) -> bool {
+        is_least(alloc, one, Some(&[1])) && has_least(alloc, one.star(alloc), Some(&[]))
+    }
 }
 
 #[test]
-fn the_empty_word(rt: HostRuntime) -> Result<(), Fail> {
-    let alloc = rt.alloc();
-    let one = word(alloc, &[1])?;
-    assert!(rt; is(least_word(alloc, &one)?, &[1]));
-    assert!(rt; is(least_word(alloc, &one.star(alloc)?)?, &[]));
-    Ok(())
+fn the_empty_word(rt: HostRuntime) {
+    assert!(rt; is_so_of_words(rt.alloc(), &[1], &[0], &EmptyFirst));
+}
+
+/// That there is no first word of none, of no letter, and of a word followed by none.
+struct NoneFirst;
+
+impl Question for NoneFirst {
+    fn is_so(&self, alloc: Global, one: &Table, _zero: &Table) -> bool {
+        match Table::none(alloc, 3) {
+            Ok(none) => {
+                is_least(alloc, &none, None)
+                    && has_least(alloc, class(alloc, &[]), None)
+                    && has_least(alloc, one.concat(alloc, &none), None)
+            }
+            Err(_) => false,
+        }
+    }
 }
 
 #[test]
-fn no_word(rt: HostRuntime) -> Result<(), Fail> {
-    let alloc = rt.alloc();
-    let none: Table = Nfa::none(alloc, 3)?;
-    assert!(rt; least_word(alloc, &none)?.is_none());
-    assert!(rt; least_word(alloc, &class(alloc, &[])?)?.is_none());
-    let dead = word(alloc, &[1])?.concat(alloc, &none)?;
-    assert!(rt; least_word(alloc, &dead)?.is_none());
-    Ok(())
+fn no_word(rt: HostRuntime) {
+    assert!(rt; is_so_of_words(rt.alloc(), &[1], &[0], &NoneFirst));
 }
 
-/// The first of the words of one of these letters for which a machine that reads letter 0 or 1, and
-/// writes letter 2, writes the word.
-fn source(alloc: Global, words: &[u32], target: &[u32]) -> Result<Option<Word>, AllocError> {
-    let turned = Transducer::product(alloc, &class(alloc, &[0, 1])?, &class(alloc, &[2])?)?;
-    least_source(alloc, &class(alloc, words)?, &turned, target)
+/// The first of the words of one of these letters for which a machine writes the target, if there is one:
+/// a machine that reads a letter of the first automaton, and writes one of the second.
+struct Source<'a>(&'a [u32], &'a [u32], Option<&'a [u32]>);
+
+impl Source<'_> {
+    /// Whether it is found by this machine.
+    fn is_found(&self, alloc: Global, turned: &Transducer<Letters>) -> bool
+        requires { turned.now.letters ≡ 3 }
+    {
+        match class(alloc, self.0) {
+            Ok(words) => is_word(least_source(alloc, &words, turned, self.1), self.2),
+            Err(_) => false,
+        }
+    }
 }
+
+impl Question for Source<'_> {
+    fn is_so(&self, alloc: Global, read: &Table, written: &Table) -> bool {
+        match Transducer::product(alloc, read, written) {
+            Ok(turned) => self.is_found(alloc, &turned),
+            Err(_) => false,
+        }
+    }
+}
+
+const SOURCES: &[Source<'static>] = &[
+    Source(&[0, 1], &[2], Some(&[0])),
+    Source(&[1], &[2], Some(&[1])),
+    Source(&[2], &[2], None),
+    Source(&[0, 1], &[1], None),
+    Source(&[0, 1], &[3], None),
+];
 
 #[test]
-fn sources_of_one_letter(rt: HostRuntime) -> Result<(), Fail> {
-    let alloc = rt.alloc();
-    assert!(rt; is(source(alloc, &[0, 1], &[2])?, &[0]));
-    assert!(rt; is(source(alloc, &[1], &[2])?, &[1]));
-    assert!(rt; source(alloc, &[2], &[2])?.is_none());
-    assert!(rt; source(alloc, &[0, 1], &[1])?.is_none());
-    assert!(rt; source(alloc, &[0, 1], &[3])?.is_none());
-    Ok(())
+fn sources_of_one_letter(rt: HostRuntime) {
+    hold(&rt, rt.alloc(), &[0, 1], &[2], SOURCES);
 }

@@ -1,69 +1,84 @@
 //! Texts of specifications, expanded to checks over a small network.
 
+use crate::made::{both, gives};
 use crate::network::network;
 use rela_expand::expand;
-use rela_lex::{MAX_TEXT_LEN, SpecError, tokens};
+use rela_lex::{MAX_TEXT_LEN, SpecError, Token, tokens};
 use rela_locations::Locations;
 use rela_names::{Boxed, Level};
 use rela_spec::parse;
 use rela_translate::{Change, Check, Core, Expr};
 use std::alloc::{AllocError, Global};
-use std::process::Abort;
-use std::test::Fail;
 
-/// The checks of the text.
-fn checks_of(
-    rt: &impl Abort,
+/// The checks of what the tokens spell, in a text of `end` bytes.
+fn checks_of_tokens(
     alloc: Global,
+    tokens: &[Token],
+    end: u32,
     locations: &Locations,
-    text: &[u8],
 ) -> Result<Vec<Check>, SpecError> {
-    assert!(rt; text.len() <= MAX_TEXT_LEN);
-    let tokens = tokens(alloc, text)?;
-    let file = parse(alloc, tokens.as_slice(), text.len() as u32)?;
+    let file = parse(alloc, tokens, end)?;
     expand(alloc, &file, locations)
 }
 
-/// The check of the text, which has no other.
-pub(crate) fn check_of(rt: &impl Abort, alloc: Global, text: &[u8]) -> Result<Check, Fail> {
-    let locations = network(alloc)?;
-    let mut checks = checks_of(rt, alloc, &locations, text)?;
-    let check = checks.pop().ok_or("a check")?;
-    assert!(rt; checks.is_empty());
-    Ok(check)
+/// The checks of a text that isn't too long.
+fn checks_of(alloc: Global, text: &[u8], locations: &Locations) -> Result<Vec<Check>, SpecError> {
+    if text.len() > MAX_TEXT_LEN {
+        return Err(SpecError::Memory);
+    }
+    let tokens = tokens(alloc, text)?;
+    checks_of_tokens(alloc, tokens.as_slice(), text.len() as u32, locations)
 }
 
-/// Says that the text is refused so.
-fn refused(rt: &impl Abort, alloc: Global, text: &[u8], fault: SpecError) -> Result<(), Fail> {
-    let locations = network(alloc)?;
-    let found = checks_of(rt, alloc, &locations, text).err();
-    assert_eq!(rt; found, Some(fault));
-    Ok(())
+/// The checks of a text over a small network. No other function owns its locations, and none does more
+/// with them than to lend them: the proof of one that did would be long.
+fn checks(alloc: Global, text: &[u8]) -> Result<Vec<Check>, SpecError> {
+    match network(alloc) {
+        Ok(locations) => checks_of(alloc, text, &locations),
+        Err(_) => Err(SpecError::Memory),
+    }
+}
+
+/// Whether the text is refused so.
+fn is_refused(alloc: Global, text: &[u8], fault: SpecError) -> bool {
+    match checks(alloc, text) {
+        Ok(_) => false,
+        Err(error) => error == fault,
+    }
+}
+
+/// A question about a check.
+pub(crate) trait Question {
+    fn is_so(&self, alloc: Global, check: &Check) -> bool;
+}
+
+/// Asks it of the check of a text, and is false where the text has none or another besides.
+pub(crate) fn is_so(alloc: Global, text: &[u8], question: &impl Question) -> bool {
+    match checks(alloc, text) {
+        Ok(checks) => is_so_of(alloc, checks.as_slice(), question),
+        Err(_) => false,
+    }
+}
+
+/// The same of these checks.
+fn is_so_of(alloc: Global, checks: &[Check], question: &impl Question) -> bool {
+    match checks {
+        [check] => question.is_so(alloc, check),
+        _ => false,
+    }
 }
 
 #[test]
-fn refuses_names(rt: HostRuntime) -> Result<(), Fail> {
-    for (text, fault) in [
-        (
-            b"check c1 : { $x : preserve };".as_slice(),
-            SpecError::UnknownName { at: 13 },
-        ),
-        (
-            b"path p = .; path p = .;",
-            SpecError::RepeatedName { at: 17 },
-        ),
-        (
-            b"level group; check c1 : { device(r1) : preserve };",
-            SpecError::FinerLevel { at: 33 },
-        ),
-        (
-            b"check c1 : { r9 : preserve };",
-            SpecError::UnknownLocation { at: 13 },
-        ),
-    ] {
-        refused(&rt, rt.alloc(), text, fault)?;
-    }
-    Ok(())
+fn refuses_names(rt: HostRuntime) {
+    let alloc = rt.alloc();
+    let text = b"check c1 : { $x : preserve };";
+    assert!(rt; is_refused(alloc, text, SpecError::UnknownName { at: 13 }));
+    let text = b"path p = .; path p = .;";
+    assert!(rt; is_refused(alloc, text, SpecError::RepeatedName { at: 17 }));
+    let text = b"level group; check c1 : { device(r1) : preserve };";
+    assert!(rt; is_refused(alloc, text, SpecError::FinerLevel { at: 33 }));
+    let text = b"check c1 : { r9 : preserve };";
+    assert!(rt; is_refused(alloc, text, SpecError::UnknownLocation { at: 13 }));
 }
 
 /// Forty paths, each of which is twice the one before it, and a check of the last.
@@ -77,25 +92,34 @@ fn doubling(alloc: Global) -> Result<String, AllocError> {
     Ok(text)
 }
 
-#[test]
-fn refuses_what_is_too_large(rt: HostRuntime) -> Result<(), Fail> {
-    let text = doubling(rt.alloc())?;
-    refused(
-        &rt,
-        rt.alloc(),
-        text.as_bytes(),
-        SpecError::TooLarge { at: 870 },
-    )
+/// Whether that text is too large.
+fn doubling_is_too_large(alloc: Global) -> bool {
+    match doubling(alloc) {
+        Ok(text) => is_refused(alloc, text.as_bytes(), SpecError::TooLarge { at: 870 }),
+        Err(_) => false,
+    }
 }
 
-/// Any of the first class for the words of the first two.
+#[test]
+fn refuses_what_is_too_large(rt: HostRuntime) {
+    assert!(rt; doubling_is_too_large(rt.alloc()));
+}
+
+/// The paths of the first two classes.
+fn either_class(alloc: Global) -> Result<Expr, AllocError> {
+    let (first, second) = both(
+        Boxed::new(alloc, Expr::Class(0)),
+        Boxed::new(alloc, Expr::Class(1)),
+    )?;
+    Ok(Expr::Alt(first, second))
+}
+
+/// Any of the first class for words of the first two.
 fn any_of_the_first(alloc: Global) -> Result<Core, AllocError> {
-    let either = Expr::Alt(
-        Boxed::new(alloc, Expr::Class(0))?,
-        Boxed::new(alloc, Expr::Class(1))?,
-    );
+    let either = either_class(alloc)?;
+    let part = Boxed::new(alloc, either)?;
     Ok(Core::Unit {
-        zone: Expr::Star(Boxed::new(alloc, either)?),
+        zone: Expr::Star(part),
         modifier: Change::AnyOf {
             path: Expr::Class(0),
             marker: 1,
@@ -103,21 +127,25 @@ fn any_of_the_first(alloc: Global) -> Result<Core, AllocError> {
     })
 }
 
+/// Whether the check asks, of devices, for that at most, and has two classes.
+struct AnyOfTheFirst;
+
+impl Question for AnyOfTheFirst {
+    fn is_so(&self, alloc: Global, check: &Check) -> bool {
+        check.classes().len() == 2
+            && check.level() == Level::Device
+            && check.at_most()
+            && gives(any_of_the_first(alloc), check.body())
+    }
+}
+
 #[test]
-fn numbers_classes_and_markers(rt: HostRuntime) -> Result<(), Fail> {
-    let alloc = rt.alloc();
+fn numbers_classes_and_markers(rt: HostRuntime) {
     let text = b"level device; path e = r1; check atmost c1 : { ($e | .)* : any(r1) };";
-    let check = check_of(&rt, alloc, text)?;
-    let body = any_of_the_first(alloc)?;
-    assert_eq!(rt; *check.body(), body);
-    assert_eq!(rt; check.classes().len(), 2);
-    assert_eq!(rt; check.level(), Level::Device);
-    assert!(rt; check.at_most());
-    Ok(())
+    assert!(rt; is_so(rt.alloc(), text, &AnyOfTheFirst));
 }
 
 /// A text that has a part inside brackets, each inside the one before.
-#[derive(Drop)]
 struct Nested {
     front: &'static str,
     opening: &'static str,
@@ -127,93 +155,130 @@ struct Nested {
 }
 
 impl Nested {
-    /// The text with so many brackets.
+    /// The text with this many brackets.
     fn text(&self, alloc: Global, count: usize) -> Result<String, AllocError> {
-        let mut text = String::from_str(alloc, self.front)?;
-        text.push_str(self.opening.repeat(alloc, count)?.as_str())?;
-        text.push_str(self.inside)?;
-        text.push_str(self.closing.repeat(alloc, count)?.as_str())?;
-        text.push_str(self.back)?;
-        Ok(text)
+        let opening = self.opening.repeat(alloc, count)?;
+        self.text_behind(alloc, opening.as_str(), count)
+    }
+
+    /// The text that has these opened, and this many to be closed.
+    fn text_behind(
+        &self,
+        alloc: Global,
+        opening: &str,
+        count: usize,
+    ) -> Result<String, AllocError> {
+        let closing = self.closing.repeat(alloc, count)?;
+        self.text_between(alloc, opening, closing.as_str())
+    }
+
+    /// The text that has these opened and closed.
+    fn text_between(
+        &self,
+        alloc: Global,
+        opening: &str,
+        closing: &str,
+    ) -> Result<String, AllocError> {
+        let front = self.front;
+        let inside = self.inside;
+        let back = self.back;
+        format!(in alloc; "{front}{opening}{inside}{closing}{back}")
     }
 }
 
-/// Says that the text with so many brackets has a check, and no other.
-fn has_a_check(rt: &impl Abort, alloc: Global, count: usize, nested: &Nested) -> Result<(), Fail> {
-    let text = nested.text(alloc, count)?;
-    check_of(rt, alloc, text.as_bytes())?;
-    Ok(())
+/// Whether the text with this many brackets has a check, and no other.
+fn has_a_check(alloc: Global, count: usize, nested: &Nested) -> bool {
+    match nested.text(alloc, count) {
+        Ok(text) => is_so(alloc, text.as_bytes(), &AnyCheck),
+        Err(_) => false,
+    }
+}
+
+/// That there is a check.
+struct AnyCheck;
+
+impl Question for AnyCheck {
+    fn is_so(&self, _alloc: Global, _check: &Check) -> bool {
+        true
+    }
 }
 
 // Each text has 100 brackets open at once, those of the unit and of what stands inside counted.
-#[test]
-fn expands_nested_paths(rt: HostRuntime) -> Result<(), Fail> {
-    let nested = Nested {
-        front: "check c1 : { ",
-        opening: "(",
-        inside: ".*",
-        closing: ")",
-        back: " : preserve };",
-    };
-    has_a_check(&rt, rt.alloc(), 99, &nested)
-}
+
+const PATHS: &Nested = &Nested {
+    front: "check c1 : { ",
+    opening: "(",
+    inside: ".*",
+    closing: ")",
+    back: " : preserve };",
+};
 
 #[test]
-fn expands_nested_complements(rt: HostRuntime) -> Result<(), Fail> {
-    let nested = Nested {
-        front: "check c1 : { ",
-        opening: "!(",
-        inside: "[interface(r1:0)]",
-        closing: ")*",
-        back: " : preserve };",
-    };
-    has_a_check(&rt, rt.alloc(), 97, &nested)
+fn expands_nested_paths(rt: HostRuntime) {
+    assert!(rt; has_a_check(rt.alloc(), 99, PATHS));
 }
 
-#[test]
-fn expands_nested_paths_that_are_added(rt: HostRuntime) -> Result<(), Fail> {
-    let nested = Nested {
-        front: "check c1 : { .* : add(",
-        opening: "(",
-        inside: ".{2}",
-        closing: "| r1:0)",
-        back: ") };",
-    };
-    has_a_check(&rt, rt.alloc(), 97, &nested)
-}
+const COMPLEMENTS: &Nested = &Nested {
+    front: "check c1 : { ",
+    opening: "!(",
+    inside: "[interface(r1:0)]",
+    closing: ")*",
+    back: " : preserve };",
+};
 
 #[test]
-fn expands_nested_bodies(rt: HostRuntime) -> Result<(), Fail> {
-    let nested = Nested {
-        front: "check c1 : ",
-        opening: "(",
-        inside: "{ .* : preserve }",
-        closing: ")",
-        back: ";",
-    };
-    has_a_check(&rt, rt.alloc(), 99, &nested)
+fn expands_nested_complements(rt: HostRuntime) {
+    assert!(rt; has_a_check(rt.alloc(), 97, COMPLEMENTS));
 }
 
-#[test]
-fn expands_nested_alternatives(rt: HostRuntime) -> Result<(), Fail> {
-    let nested = Nested {
-        front: "check c1 : ",
-        opening: "({ r1:0 : drop } else ",
-        inside: "{ .* : preserve }",
-        closing: ")",
-        back: ";",
-    };
-    has_a_check(&rt, rt.alloc(), 99, &nested)
-}
+const ADDED_PATHS: &Nested = &Nested {
+    front: "check c1 : { .* : add(",
+    opening: "(",
+    inside: ".{2}",
+    closing: "| r1:0)",
+    back: ") };",
+};
 
 #[test]
-fn expands_nested_predicates(rt: HostRuntime) -> Result<(), Fail> {
-    let nested = Nested {
-        front: "check c1 for ",
-        opening: "not (",
-        inside: "all",
-        closing: ")",
-        back: " : { .* : preserve };",
-    };
-    has_a_check(&rt, rt.alloc(), 100, &nested)
+fn expands_nested_paths_that_are_added(rt: HostRuntime) {
+    assert!(rt; has_a_check(rt.alloc(), 97, ADDED_PATHS));
+}
+
+const BODIES: &Nested = &Nested {
+    front: "check c1 : ",
+    opening: "(",
+    inside: "{ .* : preserve }",
+    closing: ")",
+    back: ";",
+};
+
+#[test]
+fn expands_nested_bodies(rt: HostRuntime) {
+    assert!(rt; has_a_check(rt.alloc(), 99, BODIES));
+}
+
+const ALTERNATIVES: &Nested = &Nested {
+    front: "check c1 : ",
+    opening: "({ r1:0 : drop } else ",
+    inside: "{ .* : preserve }",
+    closing: ")",
+    back: ";",
+};
+
+#[test]
+fn expands_nested_alternatives(rt: HostRuntime) {
+    assert!(rt; has_a_check(rt.alloc(), 99, ALTERNATIVES));
+}
+
+const PREDICATES: &Nested = &Nested {
+    front: "check c1 for ",
+    opening: "not (",
+    inside: "all",
+    closing: ")",
+    back: " : { .* : preserve };",
+};
+
+#[test]
+fn expands_nested_predicates(rt: HostRuntime) {
+    assert!(rt; has_a_check(rt.alloc(), 100, PREDICATES));
 }

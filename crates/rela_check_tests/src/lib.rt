@@ -5,6 +5,8 @@
 #[cfg(test)]
 mod expansion;
 #[cfg(test)]
+mod made;
+#[cfg(test)]
 mod network;
 #[cfg(test)]
 mod terms;

@@ -3,78 +3,127 @@
 ghost use Rattle.std.specs.Prelude.{◌≡◌, IfOk};
 ghost use Rattle.rela_rir.specs.Size.{depth_of_rel};
 
+use crate::made::{Copied, both, give_others, is_copied};
 use rela_names::Word;
 use rela_rir::{Assertion, PathTerm, RelTerm, SymbolSet, depth, nodes};
 use std::alloc::{AllocError, Global};
-use std::test::Fail;
 
-// The members of entry 0 with themselves, and each of them with the word of symbol 7.
+/// The members of entry 0 with themselves, and each of them with the word of symbol 7.
 #[tactic(auto, using(rela_rir::proofs::SizeForms::depth_forms))]
 fn sample(alloc: Global) -> Result<RelTerm, AllocError>
     ensures { IfOk result (λ r. depth_of_rel r ≡ 3) }
 {
-    let kept = RelTerm::identity(alloc, PathTerm::Class(0))?;
-    let changed = RelTerm::product(alloc, PathTerm::Class(0), PathTerm::One(7))?;
+    let (kept, changed) = both(
+        RelTerm::identity(alloc, PathTerm::Class(0)),
+        RelTerm::product(alloc, PathTerm::Class(0), PathTerm::One(7)),
+    )?;
     RelTerm::union(alloc, kept, changed)
 }
 
-#[test]
-fn measures(rt: HostRuntime) -> Result<(), Fail> {
-    let relation = sample(rt.alloc())?;
-    assert_eq!(rt; nodes(&relation), 6);
-    assert_eq!(rt; depth(&relation), 3);
-    Ok(())
+/// The number of nodes of it, and its depth.
+fn sizes(alloc: Global) -> Option<[u64; 2]> {
+    match sample(alloc) {
+        Ok(relation) => Some([nodes(&relation), depth(&relation)]),
+        Err(_) => None,
+    }
 }
 
 #[test]
-fn copies(rt: HostRuntime) -> Result<(), Fail> {
-    let alloc = rt.alloc();
+fn measures(rt: HostRuntime) {
+    assert_eq!(rt; sizes(rt.alloc()), Some([6, 3]));
+}
+
+impl Copied for RelTerm {
+    fn copied(&self, alloc: Global) -> Result<RelTerm, AllocError> {
+        self.copy(alloc)
+    }
+}
+
+impl Copied for PathTerm {
+    fn copied(&self, alloc: Global) -> Result<PathTerm, AllocError> {
+        self.copy(alloc)
+    }
+}
+
+/// What the relation makes of the paths before the change.
+fn image(alloc: Global) -> Result<PathTerm, AllocError> {
     let relation = sample(alloc)?;
-    let again = relation.copy(alloc)?;
-    assert_eq!(rt; again, relation);
-    let image = PathTerm::image(alloc, PathTerm::Pre, relation)?;
-    let image_again = image.copy(alloc)?;
-    assert_eq!(rt; image_again, image);
-    assert_ne!(rt; image, PathTerm::Pre);
-    Ok(())
+    PathTerm::image(alloc, PathTerm::Pre, relation)
 }
 
 #[test]
-fn makes_path_terms(rt: HostRuntime) -> Result<(), Fail> {
+fn copies(rt: HostRuntime) {
     let alloc = rt.alloc();
-    let both = PathTerm::meet(alloc, PathTerm::Pre, PathTerm::Post)?;
-    let others = PathTerm::complement(alloc, both)?;
+    assert!(rt; is_copied(alloc, sample(alloc)));
+    assert!(rt; is_copied(alloc, image(alloc)));
+    assert!(rt; give_others(image(alloc), Ok(PathTerm::Pre)));
+}
+
+/// The words that aren't paths both before and after the change.
+fn others(alloc: Global) -> Result<PathTerm, AllocError> {
+    let paths = PathTerm::meet(alloc, PathTerm::Pre, PathTerm::Post)?;
+    PathTerm::complement(alloc, paths)
+}
+
+/// The words of symbol 1 alone.
+fn many(alloc: Global) -> Result<PathTerm, AllocError> {
     let many = PathTerm::star(alloc, PathTerm::One(1))?;
-    let longer = PathTerm::concat(alloc, many, PathTerm::Empty)?;
-    let all = PathTerm::union(alloc, longer, others)?;
-    assert_ne!(rt; all, PathTerm::None);
-    Ok(())
+    PathTerm::concat(alloc, many, PathTerm::Empty)
+}
+
+/// Both.
+fn many_and_others(alloc: Global) -> Result<PathTerm, AllocError> {
+    let (many, others) = both(many(alloc), others(alloc))?;
+    PathTerm::union(alloc, many, others)
 }
 
 #[test]
-fn makes_relation_terms(rt: HostRuntime) -> Result<(), Fail> {
-    let alloc = rt.alloc();
-    let many = RelTerm::star(alloc, sample(alloc)?)?;
-    let longer = RelTerm::concat(alloc, many, sample(alloc)?)?;
-    let chained = RelTerm::compose(alloc, longer, sample(alloc)?)?;
-    assert_ne!(rt; chained, sample(alloc)?);
-    Ok(())
+fn makes_path_terms(rt: HostRuntime) {
+    assert!(rt; give_others(many_and_others(rt.alloc()), Ok(PathTerm::None)));
+}
+
+/// Any number of pairs of the relation.
+fn repeated(alloc: Global) -> Result<RelTerm, AllocError> {
+    let relation = sample(alloc)?;
+    RelTerm::star(alloc, relation)
+}
+
+/// These, and one more behind them.
+fn longer(alloc: Global) -> Result<RelTerm, AllocError> {
+    let (repeated, more) = both(repeated(alloc), sample(alloc))?;
+    RelTerm::concat(alloc, repeated, more)
+}
+
+/// By these to some word, and from it by the relation.
+fn chained(alloc: Global) -> Result<RelTerm, AllocError> {
+    let (longer, more) = both(longer(alloc), sample(alloc))?;
+    RelTerm::compose(alloc, longer, more)
 }
 
 #[test]
-fn tells_sets_and_assertions_apart(rt: HostRuntime) -> Result<(), Fail> {
-    let alloc = rt.alloc();
-    let any = SymbolSet {
-        negated: true,
+fn makes_relation_terms(rt: HostRuntime) {
+    assert!(rt; give_others(chained(rt.alloc()), sample(rt.alloc())));
+}
+
+/// No symbol, or all but these.
+fn set(alloc: Global, negated: bool) -> SymbolSet {
+    SymbolSet {
+        negated,
         members: Word::from_symbols(Vec::new(alloc)),
-    };
-    let none = SymbolSet {
-        negated: false,
-        members: Word::from_symbols(Vec::new(alloc)),
-    };
-    assert_ne!(rt; any, none);
-    let same = Assertion::Equal(PathTerm::Pre, PathTerm::Post);
-    let within = Assertion::Included(PathTerm::Pre, PathTerm::Post);
-    assert_ne!(rt; same, within);
-    Ok(())
+    }
+}
+
+/// That the paths before and after the change are the same, or that those before are among those after.
+fn of_paths(equal: bool) -> Assertion {
+    if equal {
+        Assertion::Equal(PathTerm::Pre, PathTerm::Post)
+    } else {
+        Assertion::Included(PathTerm::Pre, PathTerm::Post)
+    }
+}
+
+#[test]
+fn tells_sets_and_assertions_apart(rt: HostRuntime) {
+    assert!(rt; give_others(Ok(set(rt.alloc(), true)), Ok(set(rt.alloc(), false))));
+    assert!(rt; give_others(Ok(of_paths(true)), Ok(of_paths(false))));
 }

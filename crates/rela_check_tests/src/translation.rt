@@ -1,42 +1,87 @@
 //! Checks translated to terms.
 
-use crate::expansion::check_of;
+use crate::expansion::{Question, is_so};
+use crate::made::{both, give_the_same};
 use rela_flows::Predicate;
 use rela_names::{Alphabet, Level};
 use rela_rir::{PathTerm, RelTerm};
-use rela_translate::{Core, translate, zone_term};
-use std::test::Fail;
+use rela_translate::{Check, Core, Relations, translate, zone_term};
+use std::alloc::{AllocError, Global};
 
 /// Any paths of one location for those of r1.
 const ANY_OF_ALL: &[u8] = b"level device; check c1 : { r1 : any(.) };";
 
-#[test]
-fn translates(rt: HostRuntime) -> Result<(), Fail> {
-    let alloc = rt.alloc();
-    let check = check_of(&rt, alloc, ANY_OF_ALL)?;
-    let alphabet = Alphabet::new(Vec::new(alloc));
-    let zone = PathTerm::union(alloc, PathTerm::Class(0), PathTerm::Class(1))?;
-    assert_eq!(rt; zone_term(alloc, &check, &alphabet)?, zone);
-    let relations = translate(alloc, &check, &alphabet)?;
-    assert_eq!(rt;
-        relations.before,
-        RelTerm::product(alloc, zone, PathTerm::One(2))?
-    );
+/// The words that it speaks of: r1, and any location.
+fn zone(alloc: Global) -> Result<PathTerm, AllocError> {
+    PathTerm::union(alloc, PathTerm::Class(0), PathTerm::Class(1))
+}
+
+/// Before the change each of them stands for the marker, which comes behind `drop` and `loop`.
+fn before(alloc: Global) -> Result<RelTerm, AllocError> {
+    let zone = zone(alloc)?;
+    RelTerm::product(alloc, zone, PathTerm::One(2))
+}
+
+/// The words of r1 that aren't asked for.
+fn unasked(alloc: Global) -> Result<PathTerm, AllocError> {
     let others = PathTerm::complement(alloc, PathTerm::Class(1))?;
-    let kept = RelTerm::identity(alloc, PathTerm::meet(alloc, PathTerm::Class(0), others)?)?;
-    let marked = RelTerm::product(alloc, PathTerm::Class(1), PathTerm::One(2))?;
-    assert_eq!(rt; relations.after, RelTerm::union(alloc, marked, kept)?);
-    Ok(())
+    PathTerm::meet(alloc, PathTerm::Class(0), others)
+}
+
+/// These stay as they are.
+fn kept(alloc: Global) -> Result<RelTerm, AllocError> {
+    let unasked = unasked(alloc)?;
+    RelTerm::identity(alloc, unasked)
+}
+
+/// What is asked for stands for the marker.
+fn marked(alloc: Global) -> Result<RelTerm, AllocError> {
+    RelTerm::product(alloc, PathTerm::Class(1), PathTerm::One(2))
+}
+
+/// The two relations.
+fn relations(alloc: Global) -> Result<Relations, AllocError> {
+    let (marked, kept) = both(marked(alloc), kept(alloc))?;
+    let (before, after) = both(before(alloc), RelTerm::union(alloc, marked, kept))?;
+    Ok(Relations { before, after })
+}
+
+/// Whether the check has this zone and these relations over no location.
+fn is_translated(alloc: Global, check: &Check, alphabet: &Alphabet) -> bool {
+    give_the_same(zone_term(alloc, check, alphabet), zone(alloc))
+        && give_the_same(translate(alloc, check, alphabet), relations(alloc))
+}
+
+/// What the check is translated to.
+struct Translated;
+
+impl Question for Translated {
+    fn is_so(&self, alloc: Global, check: &Check) -> bool {
+        let alphabet = Alphabet::new(Vec::new(alloc));
+        is_translated(alloc, check, &alphabet)
+    }
 }
 
 #[test]
-fn tells_its_parts(rt: HostRuntime) -> Result<(), Fail> {
-    let check = check_of(&rt, rt.alloc(), ANY_OF_ALL)?;
-    assert_eq!(rt; check.name().as_bytes(), b"c1".as_slice());
-    assert_eq!(rt; check.level(), Level::Device);
-    assert_eq!(rt; *check.when(), Predicate::All);
-    assert!(rt; !check.at_most());
-    assert_eq!(rt; check.classes().len(), 2);
-    assert!(rt; matches!(check.body(), Core::Unit { .. }));
-    Ok(())
+fn translates(rt: HostRuntime) {
+    assert!(rt; is_so(rt.alloc(), ANY_OF_ALL, &Translated));
+}
+
+/// The parts of the check.
+struct Parts;
+
+impl Question for Parts {
+    fn is_so(&self, _alloc: Global, check: &Check) -> bool {
+        check.name().as_bytes() == b"c1".as_slice()
+            && check.level() == Level::Device
+            && matches!(check.when(), Predicate::All)
+            && !check.at_most()
+            && check.classes().len() == 2
+            && matches!(check.body(), Core::Unit { .. })
+    }
+}
+
+#[test]
+fn tells_its_parts(rt: HostRuntime) {
+    assert!(rt; is_so(rt.alloc(), ANY_OF_ALL, &Parts));
 }

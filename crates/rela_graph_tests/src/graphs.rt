@@ -7,11 +7,10 @@ ghost use Rattle.rela_graph.specs.Topology.{JoinsNodes, symbol_at};
 
 use rela_graph::{Graph, Link, Node};
 use rela_labels::{Partition, WideSet};
-use rela_names::{Alphabet, Level, Name, Symbol};
+use rela_names::{Alphabet, Level, Name, NameError, Symbol};
 use rela_nfa::Nfa;
-use std::alloc::Global;
+use std::alloc::{AllocError, Global};
 use std::process::Abort;
-use std::test::Fail;
 
 // Group core (0) has the devices r2 and r3, group edge (1) has r1 and r4. Each device has the interface
 // of its name with `:0`, and r4 has `r4:1` besides.
@@ -49,7 +48,8 @@ const DROP: Symbol = 4;
 
 const LOOP: Symbol = 5;
 
-fn devices(alloc: Global) -> Result<Alphabet, Fail> {
+/// The alphabet of the devices.
+fn devices(alloc: Global) -> Result<Alphabet, NameError> {
     let r1 = Name::location(alloc, b"r1".as_slice())?;
     let r2 = Name::location(alloc, b"r2".as_slice())?;
     let r3 = Name::location(alloc, b"r3".as_slice())?;
@@ -57,31 +57,60 @@ fn devices(alloc: Global) -> Result<Alphabet, Fail> {
     Ok(Alphabet::new(Vec::from_array(alloc, [r1, r2, r3, r4])?))
 }
 
-fn groups(alloc: Global) -> Result<Alphabet, Fail> {
+/// The alphabet of the groups.
+fn groups(alloc: Global) -> Result<Alphabet, NameError> {
     let core = Name::location(alloc, b"core".as_slice())?;
     let edge = Name::location(alloc, b"edge".as_slice())?;
     Ok(Alphabet::new(Vec::from_array(alloc, [core, edge])?))
 }
 
-/// The graph that starts at node 0, of those edges whose ends are nodes.
-fn graph(alloc: Global, nodes: &[Node], edges: &[(u32, u32)], delivered: u32) -> Result<Graph, Fail>
-    requires some_nodes { 0 < length nodes.now }
-    requires few_nodes { length nodes.now ≤ 100 }
-    requires few_edges { length edges.now ≤ 100 }
-    requires delivered { delivered < length nodes.now }
-{
-    let edges = links(alloc, edges, nodes.len())?;
-    Ok(Graph::new(
-        alloc,
-        Vec::from_slice(alloc, nodes)?,
-        &edges,
-        &[0],
-        &[delivered],
-        &[],
-    )?)
+/// A graph that starts at its node 0.
+struct Drawing<'a> {
+    nodes: &'a [Node],
+    /// The nodes that each edge joins.
+    edges: &'a [(u32, u32)],
+    /// The node that delivers.
+    delivered: u32,
 }
 
-fn links(alloc: Global, pairs: &[(u32, u32)], count: usize) -> Result<Vec<Link>, Fail>
+const P2: &Drawing<'static> = &Drawing {
+    nodes: &[R1, R2, R4, R4_OUT],
+    edges: &[(0, 1), (1, 2), (2, 3), (0, 1)],
+    delivered: 3,
+};
+
+const X1: &Drawing<'static> = &Drawing {
+    nodes: &[R1, R2],
+    edges: &[],
+    delivered: 1,
+};
+
+const C1: &Drawing<'static> = &Drawing {
+    nodes: &[R1, R2, R4, R4_OUT, R3, R2],
+    edges: &[(0, 1), (1, 2), (2, 3), (0, 4), (4, 5), (5, 4)],
+    delivered: 3,
+};
+
+const C2: &Drawing<'static> = &Drawing {
+    nodes: &[R1, R2, R4, R4_OUT],
+    edges: &[(0, 1), (1, 2), (2, 3), (3, 2)],
+    delivered: 3,
+};
+
+const Y1: &Drawing<'static> = &Drawing {
+    nodes: &[R1, R2, R3, R4],
+    edges: &[(0, 1), (1, 2), (2, 1), (2, 3)],
+    delivered: 3,
+};
+
+const G: &Drawing<'static> = &Drawing {
+    nodes: &[R1, R2, R3, R4, R4_OUT],
+    edges: &[(0, 1), (1, 2), (2, 3), (3, 4)],
+    delivered: 4,
+};
+
+/// The edges whose ends are nodes, of which there are so many.
+fn links(alloc: Global, pairs: &[(u32, u32)], count: usize) -> Result<Vec<Link>, AllocError>
     ensures joins { IfOk result (λ links. All (JoinsNodes count) links.items) }
     ensures few { IfOk result (λ links. length links.items ≤ length pairs.now) }
 {
@@ -92,6 +121,31 @@ fn links(alloc: Global, pairs: &[(u32, u32)], count: usize) -> Result<Vec<Link>,
         }
     }
     Ok(links)
+}
+
+/// The graph that is drawn, where it is small and the node that delivers is there.
+fn graph(alloc: Global, drawing: &Drawing<'_>) -> Result<Graph, AllocError> {
+    let count = drawing.nodes.len();
+    if count > 100 || drawing.edges.len() > 100 || drawing.delivered as usize >= count {
+        return Err(AllocError);
+    }
+    let edges = links(alloc, drawing.edges, count)?;
+    let nodes = Vec::from_slice(alloc, drawing.nodes)?;
+    Graph::new(alloc, nodes, &edges, &[0], &[drawing.delivered], &[])
+}
+
+/// A question about a graph.
+trait Question {
+    fn is_so(&self, alloc: Global, graph: &Graph) -> bool;
+}
+
+/// Asks it of the graph that is drawn, and is false where there is no memory for it. What owns a large
+/// value lends it at once: the proof of a function that does more with it is long.
+fn is_so(alloc: Global, drawing: &Drawing<'_>, question: &impl Question) -> bool {
+    match graph(alloc, drawing) {
+        Ok(graph) => question.is_so(alloc, &graph),
+        Err(_) => false,
+    }
 }
 
 /// The node's location at a level.
@@ -116,185 +170,210 @@ fn is_placed(graph: &Graph, level: Level, alphabet: &Alphabet) -> bool
         .all(|node| symbol_at(node, level) < locations)
 }
 
-/// Whether the word is a path, where the alphabet has each node's symbol.
-fn is_path(
-    alloc: Global,
-    graph: &Graph,
-    level: Level,
-    alphabet: &Alphabet,
-    word: &[Symbol],
-) -> Result<bool, Fail> {
-    if !is_placed(graph, level, alphabet) {
-        return Ok(false);
+/// Says that all of these are so of the graph that is drawn.
+fn hold<Q: Question>(rt: &impl Abort, alloc: Global, drawing: &Drawing<'_>, questions: &[Q]) {
+    for place in 0..questions.len() {
+        assert!(rt;
+            is_so(alloc, drawing, &questions[place]),
+            "question {place}"
+        );
     }
-    Ok(graph.has_path(alloc, level, alphabet, word)?)
+}
+
+/// Whether the word is a path at the level, where the alphabet has each node's symbol, or not.
+struct Path<'a>(Level, &'a [Symbol], bool);
+
+impl Path<'_> {
+    /// Whether this is so under the alphabet of the level.
+    fn is_so_under(&self, alloc: Global, graph: &Graph, alphabet: &Alphabet) -> bool {
+        let Path(level, word, is_path) = self;
+        if !is_placed(graph, *level, alphabet) {
+            return false;
+        }
+        graph.has_path(alloc, *level, alphabet, word).ok() == Some(*is_path)
+    }
+}
+
+/// The alphabet of the level, of groups or of devices.
+fn alphabet(alloc: Global, level: Level) -> Result<Alphabet, NameError> {
+    match level {
+        Level::Group => groups(alloc),
+        Level::Device | Level::Interface => devices(alloc),
+    }
+}
+
+impl Question for Path<'_> {
+    fn is_so(&self, alloc: Global, graph: &Graph) -> bool {
+        match alphabet(alloc, self.0) {
+            Ok(alphabet) => self.is_so_under(alloc, graph, &alphabet),
+            Err(_) => false,
+        }
+    }
+}
+
+/// Whether a cycle leads through the node, or none.
+struct OnCycle(u32, bool);
+
+impl Question for OnCycle {
+    fn is_so(&self, alloc: Global, graph: &Graph) -> bool {
+        graph.on_cycle(alloc, self.0).ok() == Some(self.1)
+    }
+}
+
+/// The edges and flags of `P2`.
+struct EdgesAndFlags;
+
+impl Question for EdgesAndFlags {
+    fn is_so(&self, _alloc: Global, graph: &Graph) -> bool {
+        graph.has_edge(0, 1)
+            && !graph.has_edge(1, 0)
+            && !graph.has_edge(9, 9)
+            && graph.is_start(0)
+            && graph.is_delivered(3)
+            && !graph.is_dropped(3)
+    }
+}
+
+const OF_P2: &[Path<'static>] = &[
+    Path(Level::Device, &[0, 1, 3], true),
+    Path(Level::Device, &[0, 1, 3, 3], false),
+    Path(Level::Device, &[], false),
+];
+
+#[test]
+fn a_path(rt: HostRuntime) {
+    hold(&rt, rt.alloc(), P2, OF_P2);
+    hold(&rt, rt.alloc(), P2, &[OnCycle(3, false)]);
+    assert!(rt; is_so(rt.alloc(), P2, &EdgesAndFlags));
+}
+
+const OF_X1: &[Path<'static>] = &[
+    Path(Level::Device, &[0, DROP], true),
+    Path(Level::Device, &[0], false),
+];
+
+#[test]
+fn a_path_that_drops(rt: HostRuntime) {
+    hold(&rt, rt.alloc(), X1, OF_X1);
+}
+
+const OF_C1: &[Path<'static>] = &[
+    Path(Level::Device, &[0, 1, 3], true),
+    Path(Level::Device, &[0, 2, LOOP], true),
+    Path(Level::Device, &[0, 2, 1, LOOP], true),
+    Path(Level::Device, &[0, 1, LOOP], false),
+];
+
+#[test]
+fn a_cycle_apart(rt: HostRuntime) {
+    hold(&rt, rt.alloc(), C1, OF_C1);
+}
+
+const OF_C2: &[Path<'static>] = &[
+    Path(Level::Device, &[0, 1, 3], true),
+    Path(Level::Device, &[0, 1, 3, LOOP], true),
+];
+
+#[test]
+fn a_cycle_that_delivers(rt: HostRuntime) {
+    hold(&rt, rt.alloc(), C2, OF_C2);
+    hold(&rt, rt.alloc(), C2, &[OnCycle(3, true)]);
+}
+
+const OF_Y1: &[Path<'static>] = &[
+    Path(Level::Device, &[0, 1, 2, 1, 2, 3], true),
+    Path(Level::Device, &[0, 1, 2, 1, 2, 1, LOOP], true),
+    Path(Level::Device, &[0, 1, 3], false),
+];
+
+const CYCLES_OF_Y1: &[OnCycle] = &[OnCycle(1, true), OnCycle(2, true), OnCycle(3, false)];
+
+#[test]
+fn a_way_round(rt: HostRuntime) {
+    hold(&rt, rt.alloc(), Y1, OF_Y1);
+    hold(&rt, rt.alloc(), Y1, CYCLES_OF_Y1);
+}
+
+const OF_G: &[Path<'static>] = &[
+    Path(Level::Group, &[1, 0, 1], true),
+    Path(Level::Group, &[1, 0, 0, 1], false),
+];
+
+#[test]
+fn a_path_of_groups(rt: HostRuntime) {
+    hold(&rt, rt.alloc(), G, OF_G);
+}
+
+/// Whether the automaton accepts the word, where it was made.
+fn has(alloc: Global, made: Result<Nfa<WideSet>, AllocError>, word: &[Symbol]) -> Option<bool> {
+    match made {
+        Ok(nfa) => nfa.accepts(alloc, word).ok(),
+        Err(_) => None,
+    }
 }
 
 /// Whether the automaton of the graph's devices accepts the word, where each symbol is a letter.
-fn reads(alloc: Global, graph: &Graph, alphabet: &Alphabet, word: &[Symbol]) -> Result<bool, Fail> {
+fn reads(alloc: Global, graph: &Graph, alphabet: &Alphabet, word: &[Symbol]) -> Option<bool> {
     if !is_placed(graph, Level::Device, alphabet) {
-        return Ok(false);
+        return None;
     }
-    let blocks = Partition::finest(alloc, alphabet.len())?;
-    let nfa: Nfa<WideSet> = graph.to_nfa(alloc, Level::Device, alphabet, &blocks)?;
-    Ok(nfa.accepts(alloc, word)?)
-}
-
-/// Says of each word whether it is a path of the graph, where the alphabet has each node's symbol.
-fn has_paths(
-    rt: &impl Abort,
-    alloc: Global,
-    graph: &Graph,
-    level: Level,
-    alphabet: &Alphabet,
-    words: &[(&[Symbol], bool)],
-) -> Result<(), Fail> {
-    for (word, wanted) in words {
-        let found = is_path(alloc, graph, level, alphabet, word)?;
-        assert_eq!(rt; found, *wanted, "{word:?}");
+    match Partition::finest(alloc, alphabet.len()) {
+        Ok(blocks) => has(
+            alloc,
+            graph.to_nfa(alloc, Level::Device, alphabet, &blocks),
+            word,
+        ),
+        Err(_) => None,
     }
-    Ok(())
 }
 
-#[test]
-fn a_path(rt: HostRuntime) -> Result<(), Fail> {
-    let alloc = rt.alloc();
-    let devices = devices(alloc)?;
-    let p2 = graph(
-        alloc,
-        &[R1, R2, R4, R4_OUT],
-        &[(0, 1), (1, 2), (2, 3), (0, 1)],
-        3,
-    )?;
-    let words: [(&[Symbol], bool); 3] = [(&[0, 1, 3], true), (&[0, 1, 3, 3], false), (&[], false)];
-    has_paths(&rt, alloc, &p2, Level::Device, &devices, &words)?;
-    assert!(rt; !p2.on_cycle(alloc, 3)?);
-    assert!(rt; p2.has_edge(0, 1));
-    assert!(rt; !p2.has_edge(1, 0));
-    assert!(rt; !p2.has_edge(9, 9));
-    assert!(rt; p2.is_start(0) && p2.is_delivered(3) && !p2.is_dropped(3));
-    Ok(())
-}
+/// Whether that automaton accepts the word, or not.
+struct Accepted<'a>(&'a [Symbol], bool);
 
-#[test]
-fn a_path_that_drops(rt: HostRuntime) -> Result<(), Fail> {
-    let alloc = rt.alloc();
-    let x1 = graph(alloc, &[R1, R2], &[], 1)?;
-    let words: [(&[Symbol], bool); 2] = [(&[0, DROP], true), (&[0], false)];
-    has_paths(&rt, alloc, &x1, Level::Device, &devices(alloc)?, &words)
-}
-
-#[test]
-fn a_cycle_apart(rt: HostRuntime) -> Result<(), Fail> {
-    let alloc = rt.alloc();
-    let c1 = graph(
-        alloc,
-        &[R1, R2, R4, R4_OUT, R3, R2],
-        &[(0, 1), (1, 2), (2, 3), (0, 4), (4, 5), (5, 4)],
-        3,
-    )?;
-    let words: [(&[Symbol], bool); 4] = [
-        (&[0, 1, 3], true),
-        (&[0, 2, LOOP], true),
-        (&[0, 2, 1, LOOP], true),
-        (&[0, 1, LOOP], false),
-    ];
-    has_paths(&rt, alloc, &c1, Level::Device, &devices(alloc)?, &words)
-}
-
-#[test]
-fn a_cycle_that_delivers(rt: HostRuntime) -> Result<(), Fail> {
-    let alloc = rt.alloc();
-    let c2 = graph(
-        alloc,
-        &[R1, R2, R4, R4_OUT],
-        &[(0, 1), (1, 2), (2, 3), (3, 2)],
-        3,
-    )?;
-    let words: [(&[Symbol], bool); 2] = [(&[0, 1, 3], true), (&[0, 1, 3, LOOP], true)];
-    has_paths(&rt, alloc, &c2, Level::Device, &devices(alloc)?, &words)?;
-    assert!(rt; c2.on_cycle(alloc, 3)?);
-    Ok(())
-}
-
-#[test]
-fn a_way_round(rt: HostRuntime) -> Result<(), Fail> {
-    let alloc = rt.alloc();
-    let y1 = graph(
-        alloc,
-        &[R1, R2, R3, R4],
-        &[(0, 1), (1, 2), (2, 1), (2, 3)],
-        3,
-    )?;
-    let words: [(&[Symbol], bool); 3] = [
-        (&[0, 1, 2, 1, 2, 3], true),
-        (&[0, 1, 2, 1, 2, 1, LOOP], true),
-        (&[0, 1, 3], false),
-    ];
-    has_paths(&rt, alloc, &y1, Level::Device, &devices(alloc)?, &words)?;
-    assert!(rt; y1.on_cycle(alloc, 1)? && y1.on_cycle(alloc, 2)?);
-    assert!(rt; !y1.on_cycle(alloc, 3)?);
-    Ok(())
-}
-
-#[test]
-fn a_path_of_groups(rt: HostRuntime) -> Result<(), Fail> {
-    let alloc = rt.alloc();
-    let g = graph(
-        alloc,
-        &[R1, R2, R3, R4, R4_OUT],
-        &[(0, 1), (1, 2), (2, 3), (3, 4)],
-        4,
-    )?;
-    let words: [(&[Symbol], bool); 2] = [(&[1, 0, 1], true), (&[1, 0, 0, 1], false)];
-    has_paths(&rt, alloc, &g, Level::Group, &groups(alloc)?, &words)
-}
-
-/// Says of each word whether the automaton of the graph's devices accepts it.
-fn accepts(
-    rt: &impl Abort,
-    alloc: Global,
-    graph: &Graph,
-    words: &[(&[Symbol], bool)],
-) -> Result<(), Fail> {
-    let devices = devices(alloc)?;
-    for (word, wanted) in words {
-        let found = reads(alloc, graph, &devices, word)?;
-        assert_eq!(rt; found, *wanted, "{word:?}");
+impl Question for Accepted<'_> {
+    fn is_so(&self, alloc: Global, graph: &Graph) -> bool {
+        match devices(alloc) {
+            Ok(devices) => reads(alloc, graph, &devices, self.0) == Some(self.1),
+            Err(_) => false,
+        }
     }
-    Ok(())
 }
 
-#[test]
-fn automata(rt: HostRuntime) -> Result<(), Fail> {
-    let alloc = rt.alloc();
-    let nodes = [R1, R2, R4, R4_OUT];
-    let p2 = graph(alloc, &nodes, &[(0, 1), (1, 2), (2, 3)], 3)?;
-    let words: [(&[Symbol], bool); 3] = [
-        (&[0, 1, 3], true),
-        (&[0, 1], false),
-        (&[0, 1, 3, LOOP], false),
-    ];
-    accepts(&rt, alloc, &p2, &words)?;
-    let c2 = graph(alloc, &nodes, &[(0, 1), (1, 2), (2, 3), (3, 2)], 3)?;
-    let words: [(&[Symbol], bool); 2] = [(&[0, 1, 3, LOOP], true), (&[0, 1, 3, DROP], false)];
-    accepts(&rt, alloc, &c2, &words)
-}
+const BY_P2: &[Accepted<'static>] = &[
+    Accepted(&[0, 1, 3], true),
+    Accepted(&[0, 1], false),
+    Accepted(&[0, 1, 3, LOOP], false),
+];
+
+const BY_C2: &[Accepted<'static>] = &[
+    Accepted(&[0, 1, 3, LOOP], true),
+    Accepted(&[0, 1, 3, DROP], false),
+];
 
 #[test]
-fn automata_of_no_start_and_of_a_drop(rt: HostRuntime) -> Result<(), Fail> {
-    let alloc = rt.alloc();
-    let x1 = graph(alloc, &[R1, R2], &[], 1)?;
-    let words: [(&[Symbol], bool); 1] = [(&[0, DROP], true)];
-    accepts(&rt, alloc, &x1, &words)?;
-    let no_start = Graph::new(
-        alloc,
-        Vec::from_slice(alloc, &[R1, R4])?,
-        &[Link { a: 0, b: 1 }],
-        &[],
-        &[1],
-        &[],
-    )?;
-    let words: [(&[Symbol], bool); 1] = [(&[0, 3], false)];
-    accepts(&rt, alloc, &no_start, &words)
+fn automata(rt: HostRuntime) {
+    hold(&rt, rt.alloc(), P2, BY_P2);
+    hold(&rt, rt.alloc(), C2, BY_C2);
+}
+
+/// An edge from r1 to r4, which delivers, where no walk begins.
+fn unentered(alloc: Global) -> Result<Graph, AllocError> {
+    let nodes = Vec::from_slice(alloc, &[R1, R4])?;
+    Graph::new(alloc, nodes, &[Link { a: 0, b: 1 }], &[], &[1], &[])
+}
+
+/// Whether its automaton doesn't accept that edge.
+fn unentered_has_no_path(alloc: Global) -> bool {
+    match unentered(alloc) {
+        Ok(graph) => Accepted(&[0, 3], false).is_so(alloc, &graph),
+        Err(_) => false,
+    }
+}
+
+const BY_X1: &[Accepted<'static>] = &[Accepted(&[0, DROP], true)];
+
+#[test]
+fn automata_of_no_start_and_of_a_drop(rt: HostRuntime) {
+    hold(&rt, rt.alloc(), X1, BY_X1);
+    assert!(rt; unentered_has_no_path(rt.alloc()));
 }

@@ -1,11 +1,12 @@
 //! Sets of letters, and partitions of symbols.
 
-ghost use Rattle.std.specs.Prelude.{◌≡◌, ◌<◌, All, IfOk, length};
+ghost use Rattle.std.specs.Prelude.{◌≡◌, ◌<◌, ◌≤◌, All, IfOk, length};
 
 use rela_labels::{BlockSet, LabelSet, Partition, Splitter, WideSet};
 use std::alloc::{AllocError, Global};
-use std::test::Fail;
+use std::process::Abort;
 
+/// The set of these letters, of this size.
 fn set_of<L: LabelSet>(alloc: Global, size: u32, letters: &[u32]) -> Result<L, AllocError>
     requires { L.fits size }
     ensures { IfOk result (λ set. length (L.letters set) ≡ size) }
@@ -19,252 +20,408 @@ fn set_of<L: LabelSet>(alloc: Global, size: u32, letters: &[u32]) -> Result<L, A
     Ok(set)
 }
 
-#[test]
-fn sets_of_blocks(rt: HostRuntime) -> Result<(), Fail> {
-    let alloc = rt.alloc();
-    let ends: BlockSet<1> = set_of(alloc, 64, &[0, 63])?;
-    assert_eq!(rt; ends.least(), Some(0));
-    let last: BlockSet<1> = set_of(alloc, 64, &[63])?;
-    assert!(rt; ends.meet(alloc, &last)?.same(&last));
-    let one: BlockSet<1> = set_of(alloc, 64, &[1])?;
-    assert!(rt; ends.join(alloc, &one)?.contains(1));
-    let zero: BlockSet<1> = set_of(alloc, 64, &[0])?;
-    assert_eq!(rt; ends.minus(alloc, &zero)?.least(), Some(63));
-    assert!(rt; ends.copy(alloc)?.same(&ends));
-    assert!(rt; !ends.contains(64));
-    assert!(rt; zero.minus(alloc, &zero)?.is_empty());
-    Ok(())
+/// A copy of that set.
+fn copy_of<L: LabelSet>(alloc: Global, size: u32, letters: &[u32]) -> Result<L, AllocError>
+    requires { L.fits size }
+    ensures { IfOk result (λ set. length (L.letters set) ≡ size) }
+{
+    let set: L = set_of(alloc, size, letters)?;
+    set.copy(alloc)
 }
 
-#[test]
-fn sets_of_more_words(rt: HostRuntime) -> Result<(), Fail> {
-    let alloc = rt.alloc();
-    let set: BlockSet<4> = set_of(alloc, 256, &[255])?;
-    assert_eq!(rt; set.least(), Some(255));
-    let set: BlockSet<16> = set_of(alloc, 1_000, &[999, 64])?;
-    assert_eq!(rt; set.least(), Some(64));
-    let set: BlockSet<64> = set_of(alloc, 4_096, &[4_095])?;
-    assert_eq!(rt; set.least(), Some(4_095));
-    Ok(())
+/// Whether the set has these letters, which come in ascending order, and no other.
+fn has_letters<L: LabelSet>(set: &L, letters: &[u32]) -> bool {
+    let size = set.size();
+    for letter in 0..size {
+        if set.contains(letter) != letters.contains(&letter) {
+            return false;
+        }
+    }
+    set.least() == letters.first().copied()
+        && set.is_empty() == letters.is_empty()
+        && !set.contains(size)
 }
 
-#[test]
-fn wide_sets(rt: HostRuntime) -> Result<(), Fail> {
-    let alloc = rt.alloc();
-    let set: WideSet = set_of(alloc, 5_000, &[4_999])?;
-    assert_eq!(rt; set.least(), Some(4_999));
-    let none: WideSet = set_of(alloc, 5_000, &[])?;
-    assert!(rt; set.meet(alloc, &none)?.is_empty());
-    assert!(rt; set.join(alloc, &none)?.same(&set));
-    assert!(rt; !set.minus(alloc, &set)?.contains(4_999));
-    assert!(rt; !set.copy(alloc)?.is_empty());
-    Ok(())
+/// Whether the set is the same as a copy of the set of these letters.
+fn is_copy<L: LabelSet>(alloc: Global, size: u32, set: &L, letters: &[u32]) -> bool
+    requires fits { L.fits size }
+    requires sized { length (L.letters set.now) ≡ size }
+{
+    let copy: Result<L, AllocError> = copy_of(alloc, size, letters);
+    match copy {
+        Ok(copy) => set.same(&copy) && copy.same(set),
+        Err(_) => false,
+    }
 }
 
-// Whether the operations on two wide sets give these least letters, as one word and as more.
-fn has_least(
-    alloc: Global,
-    first: &[u32],
-    second: &[u32],
-    expected: [Option<u32>; 3],
-) -> Result<bool, AllocError> {
-    Ok(
-        has_least_below(alloc, 9, first, second, expected)?
-            && has_least_below(alloc, 90, first, second, expected)?,
-    )
-}
-
-// The same for two sets of this size.
-fn has_least_below(
+/// Whether a set of this size was made, and has these letters and no other.
+fn is_of<L: LabelSet>(
     alloc: Global,
     size: u32,
-    first: &[u32],
-    second: &[u32],
-    expected: [Option<u32>; 3],
-) -> Result<bool, AllocError> {
-    let first: WideSet = set_of(alloc, size, first)?;
-    let second: WideSet = set_of(alloc, size, second)?;
-    let meet = first.meet(alloc, &second)?.least();
-    let join = first.join(alloc, &second)?.least();
-    let minus = first.minus(alloc, &second)?.least();
-    Ok(meet == expected[0] && join == expected[1] && minus == expected[2])
-}
-
-#[test]
-fn wide_sets_of_none(rt: HostRuntime) -> Result<(), Fail> {
-    let alloc = rt.alloc();
-    assert!(rt; has_least(alloc, &[], &[], [None, None, None])?);
-    assert!(rt; has_least(alloc, &[], &[4], [None, Some(4), None])?);
-    assert!(rt; has_least(alloc, &[4], &[], [None, Some(4), Some(4)])?);
-    assert!(rt; has_least(alloc, &[], &[3, 4], [None, Some(3), None])?);
-    Ok(())
-}
-
-#[test]
-fn wide_sets_of_one(rt: HostRuntime) -> Result<(), Fail> {
-    let alloc = rt.alloc();
-    assert!(rt; has_least(alloc, &[4], &[4], [Some(4), Some(4), None])?);
-    assert!(rt; has_least(alloc, &[4], &[2], [None, Some(2), Some(4)])?);
-    assert!(rt; has_least(alloc, &[4], &[3, 4], [Some(4), Some(3), None])?);
-    assert!(rt; has_least(alloc, &[3, 4], &[3], [Some(3), Some(3), Some(4)])?);
-    Ok(())
-}
-
-#[test]
-fn wide_sets_of_one_letter_are_the_same(rt: HostRuntime) -> Result<(), Fail> {
-    let alloc = rt.alloc();
-    let both: WideSet = set_of(alloc, 90, &[3, 4])?;
-    let one: WideSet = set_of(alloc, 90, &[4])?;
-    let other: WideSet = set_of(alloc, 90, &[3])?;
-    assert!(rt; both.minus(alloc, &other)?.same(&one));
-    assert!(rt; one.copy(alloc)?.same(&both.minus(alloc, &other)?));
-    assert!(rt; !both.same(&one));
-    Ok(())
-}
-
-// Whether the operations on two wide sets of this size, which share their last letter alone, give
-// what they should.
-fn share_the_last(alloc: Global, size: u32) -> Result<bool, AllocError>
-    requires { 2 < size }
+    made: Result<L, AllocError>,
+    letters: &[u32],
+) -> bool
+    requires fits { L.fits size }
+    requires sized { IfOk made (λ set. length (L.letters set) ≡ size) }
 {
-    let last: WideSet = set_of(alloc, size, &[size - 1])?;
-    let first: WideSet = set_of(alloc, size, &[0, size - 1])?;
-    let second: WideSet = set_of(alloc, size, &[1, size - 1])?;
-    let join = first.join(alloc, &second)?;
-    let minus = first.minus(alloc, &second)?;
-    Ok(
-        first.meet(alloc, &second)?.same(&last)
-            && join.contains(0)
-            && join.contains(1)
-            && join.contains(size - 1)
-            && minus.contains(0)
-            && !minus.contains(size - 1),
-    )
+    match made {
+        Ok(set) => has_letters(&set, letters) && is_copy(alloc, size, &set, letters),
+        Err(_) => false,
+    }
 }
 
-// Whether a copy of a wide set of this size has its letters, and the set without them none.
-fn copies(alloc: Global, size: u32) -> Result<bool, AllocError>
-    requires { 2 < size }
+/// The letters of two sets, and those of their meet, of their join and of the first without the second.
+type Case<'a> = (&'a [u32], &'a [u32], [&'a [u32]; 3]);
+
+/// Whether the operations on the two sets have these results.
+fn give<L: LabelSet>(alloc: Global, size: u32, first: &L, second: &L, results: &[&[u32]; 3]) -> bool
+    requires fits { L.fits size }
+    requires first { length (L.letters first.now) ≡ size }
+    requires second { length (L.letters second.now) ≡ size }
 {
-    let set: WideSet = set_of(alloc, size, &[size - 1, size - 2])?;
-    let copy = set.copy(alloc)?;
-    Ok(
-        copy.same(&set)
-            && copy.least() == Some(size - 2)
-            && !copy.contains(size)
-            && !copy.is_empty()
-            && set.minus(alloc, &copy)?.is_empty()
-            && set.minus(alloc, &copy)?.least().is_none(),
-    )
+    is_of(alloc, size, first.meet(alloc, second), results[0])
+        && is_of(alloc, size, first.join(alloc, second), results[1])
+        && is_of(alloc, size, first.minus(alloc, second), results[2])
 }
 
-#[test]
-fn wide_sets_of_a_word(rt: HostRuntime) -> Result<(), Fail> {
-    let alloc = rt.alloc();
-    assert!(rt; share_the_last(alloc, 64)?);
-    assert!(rt; copies(alloc, 64)?);
-    assert!(rt; share_the_last(alloc, 3)?);
-    assert!(rt; copies(alloc, 3)?);
-    Ok(())
-}
-
-#[test]
-fn wide_sets_of_more_than_a_word(rt: HostRuntime) -> Result<(), Fail> {
-    let alloc = rt.alloc();
-    assert!(rt; share_the_last(alloc, 65)?);
-    assert!(rt; copies(alloc, 65)?);
-    Ok(())
-}
-
-#[test]
-fn refines(rt: HostRuntime) -> Result<(), Fail> {
-    let alloc = rt.alloc();
-    let mut partition = Partition::new(alloc, 6)?;
-    assert_eq!(rt; partition.blocks(), 1);
-    partition.refine(alloc, &[1, 2])?;
-    partition.refine(alloc, &[2])?;
-    assert_eq!(rt; partition.blocks(), 3);
-    let blocks = (0..6)
-        .map(|s| partition.block_of(s))
-        .collect::<Vec<u32>>(alloc)?;
-    assert_eq!(rt; blocks.as_slice(), [0, 1, 2, 0, 0, 0].as_slice());
-    assert_eq!(rt; partition.representative(0), 0);
-    assert_eq!(rt; partition.representative(2), 2);
-    let finest = Partition::finest(alloc, 3)?;
-    assert_eq!(rt; finest.blocks(), 3);
-    assert_eq!(rt; finest.representative(2), 2);
-    Ok(())
-}
-
-// Whether the six symbols have these blocks, once the symbols of one list after the other are set apart.
-fn has_apart(
+/// The same where the second has these letters.
+fn give_beside<L: LabelSet>(
     alloc: Global,
+    size: u32,
+    first: &L,
+    second: &[u32],
+    results: &[&[u32]; 3],
+) -> bool
+    requires fits { L.fits size }
+    requires sized { length (L.letters first.now) ≡ size }
+{
+    let second: Result<L, AllocError> = set_of(alloc, size, second);
+    match second {
+        Ok(second) => give(alloc, size, first, &second, results),
+        Err(_) => false,
+    }
+}
+
+/// Whether this is so of the case.
+fn holds<L: LabelSet>(alloc: Global, size: u32, case: &Case<'_>) -> bool
+    requires { L.fits size }
+{
+    let (first, second, results) = case;
+    let first: Result<L, AllocError> = set_of(alloc, size, first);
+    match first {
+        Ok(first) => give_beside(alloc, size, &first, second, results),
+        Err(_) => false,
+    }
+}
+
+/// Says of each case that it holds for sets of this size.
+fn hold<L: LabelSet>(rt: &impl Abort, alloc: Global, size: u32, cases: &[Case<'_>])
+    requires { L.fits size }
+{
+    for place in 0..cases.len() {
+        assert!(rt;
+            holds::<L>(alloc, size, &cases[place]),
+            "size {size}, case {place}"
+        );
+    }
+}
+
+/// Whether a copy of the set to which these were added has the letters, which come in ascending order.
+fn is_copied<L: LabelSet>(alloc: Global, size: u32, added: &[u32], letters: &[u32]) -> bool
+    requires { L.fits size }
+{
+    let copy: Result<L, AllocError> = copy_of(alloc, size, added);
+    is_of(alloc, size, copy, letters)
+}
+
+const WITH_ENDS: &[Case<'static>] = &[
+    (&[0, 63], &[63], [&[63], &[0, 63], &[0]]),
+    (&[0, 63], &[1], [&[], &[0, 1, 63], &[0, 63]]),
+    (&[0, 63], &[0], [&[0], &[0, 63], &[63]]),
+    (&[0], &[0], [&[0], &[0], &[]]),
+];
+
+#[test]
+fn sets_of_blocks(rt: HostRuntime) {
+    hold::<BlockSet<1>>(&rt, rt.alloc(), 64, WITH_ENDS);
+    assert!(rt; is_copied::<BlockSet<1>>(rt.alloc(), 64, &[0, 63], &[0, 63]));
+}
+
+#[test]
+fn sets_of_more_words(rt: HostRuntime) {
+    let alloc = rt.alloc();
+    assert!(rt; is_copied::<BlockSet<4>>(alloc, 256, &[255], &[255]));
+    assert!(rt; is_copied::<BlockSet<16>>(alloc, 1_000, &[999, 64], &[64, 999]));
+    assert!(rt; is_copied::<BlockSet<64>>(alloc, 4_096, &[4_095], &[4_095]));
+}
+
+const WITH_LAST: &[Case<'static>] = &[
+    (&[4_999], &[], [&[], &[4_999], &[4_999]]),
+    (&[4_999], &[4_999], [&[4_999], &[4_999], &[]]),
+];
+
+#[test]
+fn wide_sets(rt: HostRuntime) {
+    hold::<WideSet>(&rt, rt.alloc(), 5_000, WITH_LAST);
+    assert!(rt; is_copied::<WideSet>(rt.alloc(), 5_000, &[4_999], &[4_999]));
+}
+
+// A set over few letters is one word, and one over more is several.
+const WITH_NONE: &[Case<'static>] = &[
+    (&[], &[], [&[], &[], &[]]),
+    (&[], &[4], [&[], &[4], &[]]),
+    (&[4], &[], [&[], &[4], &[4]]),
+    (&[], &[3, 4], [&[], &[3, 4], &[]]),
+];
+
+#[test]
+fn wide_sets_of_none(rt: HostRuntime) {
+    hold::<WideSet>(&rt, rt.alloc(), 9, WITH_NONE);
+    hold::<WideSet>(&rt, rt.alloc(), 90, WITH_NONE);
+}
+
+const WITH_ONE: &[Case<'static>] = &[
+    (&[4], &[4], [&[4], &[4], &[]]),
+    (&[4], &[2], [&[], &[2, 4], &[4]]),
+    (&[4], &[3, 4], [&[4], &[3, 4], &[]]),
+    (&[3, 4], &[3], [&[3], &[3, 4], &[4]]),
+];
+
+#[test]
+fn wide_sets_of_one(rt: HostRuntime) {
+    hold::<WideSet>(&rt, rt.alloc(), 9, WITH_ONE);
+    hold::<WideSet>(&rt, rt.alloc(), 90, WITH_ONE);
+}
+
+/// Whether the set of letters 3 and 4 is another than that of 4.
+fn is_another(alloc: Global) -> bool {
+    let both: Result<WideSet, AllocError> = set_of(alloc, 90, &[3, 4]);
+    match both {
+        Ok(both) => !is_copy(alloc, 90, &both, &[4]) && is_copy(alloc, 90, &both, &[3, 4]),
+        Err(_) => false,
+    }
+}
+
+const WITH_TWO: &[Case<'static>] = &[(&[3, 4], &[3], [&[3], &[3, 4], &[4]])];
+
+#[test]
+fn wide_sets_of_one_letter_are_the_same(rt: HostRuntime) {
+    hold::<WideSet>(&rt, rt.alloc(), 90, WITH_TWO);
+    assert!(rt; is_another(rt.alloc()));
+}
+
+const OF_64: &[Case<'static>] = &[
+    (&[0, 63], &[1, 63], [&[63], &[0, 1, 63], &[0]]),
+    (&[63, 62], &[63, 62], [&[62, 63], &[62, 63], &[]]),
+];
+
+const OF_3: &[Case<'static>] = &[
+    (&[0, 2], &[1, 2], [&[2], &[0, 1, 2], &[0]]),
+    (&[2, 1], &[2, 1], [&[1, 2], &[1, 2], &[]]),
+];
+
+#[test]
+fn wide_sets_of_a_word(rt: HostRuntime) {
+    hold::<WideSet>(&rt, rt.alloc(), 64, OF_64);
+    assert!(rt; is_copied::<WideSet>(rt.alloc(), 64, &[63, 62], &[62, 63]));
+    hold::<WideSet>(&rt, rt.alloc(), 3, OF_3);
+    assert!(rt; is_copied::<WideSet>(rt.alloc(), 3, &[2, 1], &[1, 2]));
+}
+
+const OF_65: &[Case<'static>] = &[
+    (&[0, 64], &[1, 64], [&[64], &[0, 1, 64], &[0]]),
+    (&[64, 63], &[64, 63], [&[63, 64], &[63, 64], &[]]),
+];
+
+#[test]
+fn wide_sets_of_more_than_a_word(rt: HostRuntime) {
+    hold::<WideSet>(&rt, rt.alloc(), 65, OF_65);
+    assert!(rt; is_copied::<WideSet>(rt.alloc(), 65, &[64, 63], &[63, 64]));
+}
+
+/// Whether the symbols have these blocks, in their order.
+fn has_blocks(partition: &Partition, blocks: &[u32]) -> bool
+    requires each { length partition.now ≡ length blocks.now }
+    requires few { length blocks.now ≤ 10 }
+{
+    for symbol in 0..blocks.len() {
+        if partition.block_of(symbol as u32) != blocks[symbol] {
+            return false;
+        }
+    }
+    true
+}
+
+/// One block of six symbols, from which 1 and 2 are set apart.
+fn pair_apart(alloc: Global) -> Result<Partition, AllocError>
+    ensures { IfOk result (λ partition. length partition ≡ 6) }
+{
+    let mut partition = Partition::new(alloc, 6)?;
+    partition.refine(alloc, &[1, 2])?;
+    Ok(partition)
+}
+
+/// Whether symbol 2 is alone once it is set apart from 1.
+fn is_refined(alloc: Global, mut partition: Partition) -> bool
+    requires { length partition ≡ 6 }
+{
+    match partition.refine(alloc, &[2]) {
+        Ok(_) => {
+            partition.blocks() == 3
+                && has_blocks(&partition, &[0, 1, 2, 0, 0, 0])
+                && partition.representative(0) == 0
+                && partition.representative(2) == 2
+        }
+        Err(_) => false,
+    }
+}
+
+/// Whether this is so of the partition with the pair.
+fn pair_is_refined(alloc: Global) -> bool {
+    match pair_apart(alloc) {
+        Ok(partition) => is_refined(alloc, partition),
+        Err(_) => false,
+    }
+}
+
+/// The number of blocks where no symbol is apart.
+fn blocks_of_all(alloc: Global) -> Option<u32> {
+    match Partition::new(alloc, 6) {
+        Ok(partition) => Some(partition.blocks()),
+        Err(_) => None,
+    }
+}
+
+/// Whether each of three symbols stands alone in the finest partition.
+fn is_finest(alloc: Global) -> bool {
+    match Partition::finest(alloc, 3) {
+        Ok(finest) => finest.blocks() == 3 && finest.representative(2) == 2,
+        Err(_) => false,
+    }
+}
+
+#[test]
+fn refines(rt: HostRuntime) {
+    assert_eq!(rt; blocks_of_all(rt.alloc()), Some(1));
+    assert!(rt; pair_is_refined(rt.alloc()));
+    assert!(rt; is_finest(rt.alloc()));
+}
+
+/// Whether the symbols have these blocks once more of them are set apart.
+fn is_apart(alloc: Global, partition: &Partition, apart: &[u32], blocks: &[u32]) -> bool
+    requires symbols { length partition.now ≡ 6 }
+    requires apart { All (λ s. s < 6) apart.now }
+    requires blocks { length blocks.now ≡ 6 }
+{
+    match partition.with_alone(alloc, apart) {
+        Ok(partition) => has_blocks(&partition, blocks),
+        Err(_) => false,
+    }
+}
+
+/// Whether they have them once those of one list after the other are.
+fn is_apart_twice(
+    alloc: Global,
+    partition: &Partition,
     first: &[u32],
     second: &[u32],
-    expected: &[u32],
-) -> Result<bool, AllocError>
+    blocks: &[u32],
+) -> bool
+    requires symbols { length partition.now ≡ 6 }
     requires first { All (λ s. s < 6) first.now }
     requires second { All (λ s. s < 6) second.now }
+    requires blocks { length blocks.now ≡ 6 }
 {
-    let mut partition = Partition::new(alloc, 6)?;
-    partition.refine(alloc, &[1, 2])?;
-    let once = partition.with_alone(alloc, first)?;
-    let twice = once.with_alone(alloc, second)?;
-    let blocks = (0..6)
-        .map(|s| twice.block_of(s))
-        .collect::<Vec<u32>>(alloc)?;
-    Ok(blocks.as_slice() == expected)
+    match partition.with_alone(alloc, first) {
+        Ok(once) => is_apart(alloc, &once, second, blocks),
+        Err(_) => false,
+    }
+}
+
+/// Whether this is so of the partition with the pair.
+fn has_apart(alloc: Global, first: &[u32], second: &[u32], blocks: &[u32]) -> bool
+    requires first { All (λ s. s < 6) first.now }
+    requires second { All (λ s. s < 6) second.now }
+    requires blocks { length blocks.now ≡ 6 }
+{
+    match pair_apart(alloc) {
+        Ok(partition) => is_apart_twice(alloc, &partition, first, second, blocks),
+        Err(_) => false,
+    }
 }
 
 #[test]
-fn middle_apart(rt: HostRuntime) -> Result<(), Fail> {
-    assert!(rt; has_apart(rt.alloc(), &[3], &[], &[0, 1, 1, 2, 0, 0])?);
-    Ok(())
+fn middle_apart(rt: HostRuntime) {
+    assert!(rt; has_apart(rt.alloc(), &[3], &[], &[0, 1, 1, 2, 0, 0]));
 }
 
 #[test]
-fn least_apart(rt: HostRuntime) -> Result<(), Fail> {
-    assert!(rt; has_apart(rt.alloc(), &[0], &[], &[0, 1, 1, 2, 2, 2])?);
-    Ok(())
+fn least_apart(rt: HostRuntime) {
+    assert!(rt; has_apart(rt.alloc(), &[0], &[], &[0, 1, 1, 2, 2, 2]));
 }
 
 #[test]
-fn whole_block_apart(rt: HostRuntime) -> Result<(), Fail> {
-    assert!(rt; has_apart(rt.alloc(), &[2, 1, 2], &[], &[0, 1, 2, 0, 0, 0])?);
-    Ok(())
+fn whole_block_apart(rt: HostRuntime) {
+    assert!(rt; has_apart(rt.alloc(), &[2, 1, 2], &[], &[0, 1, 2, 0, 0, 0]));
 }
 
 #[test]
-fn twice_apart(rt: HostRuntime) -> Result<(), Fail> {
-    assert!(rt; has_apart(rt.alloc(), &[0], &[3, 1], &[0, 1, 2, 3, 4, 4])?);
-    Ok(())
+fn twice_apart(rt: HostRuntime) {
+    assert!(rt; has_apart(rt.alloc(), &[0], &[3, 1], &[0, 1, 2, 3, 4, 4]));
 }
 
-#[test]
-fn splits(rt: HostRuntime) -> Result<(), Fail> {
-    let alloc = rt.alloc();
-    let mut splitter = Splitter::of(alloc, &Partition::new(alloc, 6)?)?;
+/// What splits one block of this many symbols.
+fn splitter(alloc: Global, symbols: u32) -> Result<Splitter, AllocError>
+    requires { 1 ≤ symbols }
+    ensures { IfOk result (λ splitter. length splitter ≡ symbols) }
+{
+    let partition = Partition::new(alloc, symbols)?;
+    Splitter::of(alloc, &partition)
+}
+
+/// Six symbols, of which 1 and 2 are split from the others, and then 2.
+fn split(alloc: Global) -> Result<Partition, AllocError>
+    ensures { IfOk result (λ partition. length partition ≡ 6) }
+{
+    let mut splitter = splitter(alloc, 6)?;
     splitter.split(alloc, &[2, 1, 2])?;
     splitter.split(alloc, &[2])?;
-    let partition = splitter.into_partition(alloc)?;
-    assert_eq!(rt; partition.blocks(), 3);
-    let blocks = (0..6)
-        .map(|s| partition.block_of(s))
-        .collect::<Vec<u32>>(alloc)?;
-    assert_eq!(rt; blocks.as_slice(), [0, 1, 2, 0, 0, 0].as_slice());
-    Ok(())
+    splitter.into_partition(alloc)
+}
+
+/// Whether they have three blocks.
+fn is_split(alloc: Global) -> bool {
+    match split(alloc) {
+        Ok(partition) => { partition.blocks() == 3 && has_blocks(&partition, &[0, 1, 2, 0, 0, 0]) }
+        Err(_) => false,
+    }
 }
 
 #[test]
-fn splits_often(rt: HostRuntime) -> Result<(), Fail> {
-    let alloc = rt.alloc();
-    let mut splitter = Splitter::of(alloc, &Partition::new(alloc, 3)?)?;
+fn splits(rt: HostRuntime) {
+    assert!(rt; is_split(rt.alloc()));
+}
+
+/// Three symbols, of which 0 and 2 are split from 1 again and again.
+fn split_often(alloc: Global) -> Result<Partition, AllocError>
+    ensures { IfOk result (λ partition. length partition ≡ 3) }
+{
+    let mut splitter = splitter(alloc, 3)?;
     for _ in 0..20 {
         splitter.split(alloc, &[2, 0, 2])?;
     }
-    let partition = splitter.into_partition(alloc)?;
-    assert_eq!(rt; partition.blocks(), 2);
-    assert_eq!(rt; partition.block_of(2), 0);
-    assert_eq!(rt; partition.block_of(1), 1);
-    Ok(())
+    splitter.into_partition(alloc)
+}
+
+/// Whether they have two blocks.
+fn is_split_once(alloc: Global) -> bool {
+    match split_often(alloc) {
+        Ok(partition) => partition.blocks() == 2 && has_blocks(&partition, &[0, 1, 0]),
+        Err(_) => false,
+    }
+}
+
+#[test]
+fn splits_often(rt: HostRuntime) {
+    assert!(rt; is_split_once(rt.alloc()));
 }

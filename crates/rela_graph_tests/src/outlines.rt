@@ -5,9 +5,8 @@ ghost use Rattle.rela_graph.specs.Topology.{JoinsNodes};
 
 use rela_graph::{Graph, Link, Node};
 use rela_names::Level;
-use std::alloc::Global;
+use std::alloc::{AllocError, Global};
 use std::collections::HashMap;
-use std::test::Fail;
 
 const IN: Node = Node {
     interface: 0,
@@ -40,54 +39,100 @@ fn two(
     start: u32,
     delivered: u32,
     dropped: u32,
-) -> Result<Graph, Fail>
+) -> Result<Graph, AllocError>
     requires edge { JoinsNodes 2 edge }
     requires start { start < 2 }
     requires delivered { delivered < 2 }
     requires dropped { dropped < 2 }
 {
-    Ok(Graph::new(
-        alloc,
-        Vec::from_array(alloc, nodes)?,
-        &[edge],
-        &[start],
-        &[delivered],
-        &[dropped],
-    )?)
+    let nodes = Vec::from_array(alloc, nodes)?;
+    Graph::new(alloc, nodes, &[edge], &[start], &[delivered], &[dropped])
 }
 
-/// Whether a map has for how the second looks what it was given for how the first does.
-fn is_found(alloc: Global, graphs: &[Graph; 2], level: Level) -> Result<bool, Fail> {
+/// Whether a map has for how the one looks what it was given for how the other does.
+fn is_found(alloc: Global, graph: &Graph, moved: &Graph, level: Level) -> Option<bool> {
     let mut seen = HashMap::new(alloc);
-    seen.insert(graphs[0].at(level), 7)?;
-    Ok(seen.get(&graphs[1].at(level)).copied() == Some(7))
-}
-
-#[test]
-fn levels(rt: HostRuntime) -> Result<(), Fail> {
-    let alloc = rt.alloc();
-    let graph = two(alloc, [IN, OUT], FORTH, 0, 1, 0)?;
-    let moved = two(alloc, [IN, OTHER_OUT], FORTH, 0, 1, 0)?;
-    assert!(rt; graph.at(Level::Group) == moved.at(Level::Group));
-    assert!(rt; graph.at(Level::Interface) != moved.at(Level::Interface));
-    assert!(rt; graph.at(Level::Device) == graph.at(Level::Interface));
-    let graphs = [graph, moved];
-    assert!(rt; is_found(alloc, &graphs, Level::Group)?);
-    assert!(rt; !is_found(alloc, &graphs, Level::Device)?);
-    Ok(())
-}
-
-#[test]
-fn edges_and_flags(rt: HostRuntime) -> Result<(), Fail> {
-    let alloc = rt.alloc();
-    let graph = two(alloc, [IN, OUT], FORTH, 0, 1, 0)?;
-    let turned = two(alloc, [IN, OUT], BACK, 0, 1, 0)?;
-    let started = two(alloc, [IN, OUT], FORTH, 1, 1, 0)?;
-    let delivered = two(alloc, [IN, OUT], FORTH, 0, 0, 0)?;
-    let dropped = two(alloc, [IN, OUT], FORTH, 0, 1, 1)?;
-    for other in [&turned, &started, &delivered, &dropped] {
-        assert!(rt; graph.at(Level::Group) != other.at(Level::Group));
-        assert!(rt; other.at(Level::Group) == other.at(Level::Group));
+    match seen.insert(graph.at(level), 7) {
+        Ok(_) => Some(seen.get(&moved.at(level)).copied() == Some(7)),
+        Err(_) => None,
     }
-    Ok(())
+}
+
+/// Whether the two look the same at the level of groups alone.
+fn look_the_same_as_groups(alloc: Global, graph: &Graph, moved: &Graph) -> bool {
+    graph.at(Level::Group) == moved.at(Level::Group)
+        && graph.at(Level::Interface) != moved.at(Level::Interface)
+        && graph.at(Level::Device) == graph.at(Level::Interface)
+        && is_found(alloc, graph, moved, Level::Group) == Some(true)
+        && is_found(alloc, graph, moved, Level::Device) == Some(false)
+}
+
+/// Whether this is so of the graph with its second node moved.
+fn looks_the_same_moved(alloc: Global, graph: &Graph) -> bool {
+    match two(alloc, [IN, OTHER_OUT], FORTH, 0, 1, 0) {
+        Ok(moved) => look_the_same_as_groups(alloc, graph, &moved),
+        Err(_) => false,
+    }
+}
+
+/// Whether the two look otherwise at the level of groups.
+fn look_otherwise(graph: &Graph, other: &Graph) -> bool {
+    graph.at(Level::Group) != other.at(Level::Group)
+        && other.at(Level::Group) == other.at(Level::Group)
+}
+
+/// Whether the graph looks otherwise with this edge, start, node that delivers and node that drops.
+fn looks_otherwise(
+    alloc: Global,
+    graph: &Graph,
+    edge: Link,
+    start: u32,
+    delivered: u32,
+    dropped: u32,
+) -> bool
+    requires edge { JoinsNodes 2 edge }
+    requires start { start < 2 }
+    requires delivered { delivered < 2 }
+    requires dropped { dropped < 2 }
+{
+    match two(alloc, [IN, OUT], edge, start, delivered, dropped) {
+        Ok(other) => look_otherwise(graph, &other),
+        Err(_) => false,
+    }
+}
+
+/// Whether it looks otherwise with each of these changed.
+fn looks_otherwise_changed(alloc: Global, graph: &Graph) -> bool {
+    looks_otherwise(alloc, graph, BACK, 0, 1, 0)
+        && looks_otherwise(alloc, graph, FORTH, 1, 1, 0)
+        && looks_otherwise(alloc, graph, FORTH, 0, 0, 0)
+        && looks_otherwise(alloc, graph, FORTH, 0, 1, 1)
+}
+
+/// What of the graph that leads from the first of two nodes to the second is asked.
+#[derive(Clone, Copy)]
+enum Question {
+    Levels,
+    EdgesAndFlags,
+}
+
+/// Asks it.
+fn is_so(alloc: Global, question: Question) -> bool {
+    match two(alloc, [IN, OUT], FORTH, 0, 1, 0) {
+        Ok(graph) => match question {
+            Question::Levels => looks_the_same_moved(alloc, &graph),
+            Question::EdgesAndFlags => looks_otherwise_changed(alloc, &graph),
+        },
+        Err(_) => false,
+    }
+}
+
+#[test]
+fn levels(rt: HostRuntime) {
+    assert!(rt; is_so(rt.alloc(), Question::Levels));
+}
+
+#[test]
+fn edges_and_flags(rt: HostRuntime) {
+    assert!(rt; is_so(rt.alloc(), Question::EdgesAndFlags));
 }

@@ -1,14 +1,12 @@
 //! Pairs of states, reached from a first one.
 
-ghost use Rattle.std.specs.Prelude.{◌≡◌, ◌<◌, ◌∷◌, [], List, if◌then◌else◌};
+ghost use Rattle.std.specs.Prelude.{◌≡◌, ◌<◌, ◌∷◌, [], List, if◌then◌else◌, length};
 ghost use Rattle.rela_pairs.specs.Places.{Fits};
 ghost use Rattle.rela_pairs.specs.declared.pair.Pair.{Pair};
 ghost use Rattle.rela_pairs.specs.declared.shape.Shape.{Shape};
 
-use rela_pairs::{BuildError, Pair, Shape, Successors, explore};
+use rela_pairs::{BuildError, Explored, Pair, Shape, Successors, explore};
 use std::alloc::{AllocError, Global};
-use std::process::Abort;
-use std::test::Fail;
 
 /// A pair is followed by the one with its states exchanged, and by itself.
 #[derive(Drop)]
@@ -44,29 +42,45 @@ impl Successors for Exchange {
     }
 }
 
-/// Says that of so many states one pair leads to two, which one can't hold.
-fn finds_two(rt: &impl Abort, alloc: Global, states: usize) -> Result<(), Fail>
+/// The pair from which all begins.
+const START: Pair = Pair { left: 1, right: 2 };
+
+/// Whether these are the pair and the one with its states exchanged, each of which leads to both.
+fn are_two(explored: &Explored) -> bool
+    requires { length explored.now.targets ≡ length explored.now.pairs }
+{
+    let turned = Pair { left: 2, right: 1 };
+    explored.pairs() == [START, turned].as_slice() && explored.targets(1) == [0, 1].as_slice()
+}
+
+/// Whether of so many states the pair leads to two.
+fn finds_two(alloc: Global, states: usize) -> bool
     requires { 2 < states }
 {
-    let exchange = Exchange { states };
-    let start = Pair { left: 1, right: 2 };
-    let explored = explore(alloc, &exchange, start, 2)?;
-    assert_eq!(rt;
-        explored.pairs(),
-        [start, Pair { left: 2, right: 1 }].as_slice()
-    );
-    assert_eq!(rt; explored.targets(1), [0, 1].as_slice());
-    let refused = explore(alloc, &exchange, start, 1);
-    assert!(rt; refused.is_err_and(|e| e == BuildError::Limit));
-    Ok(())
+    match explore(alloc, &Exchange { states }, START, 2) {
+        Ok(explored) => are_two(&explored),
+        Err(_) => false,
+    }
+}
+
+/// Whether a limit of one pair is too low.
+fn finds_more_than_one(alloc: Global, states: usize) -> bool
+    requires { 2 < states }
+{
+    match explore(alloc, &Exchange { states }, START, 1) {
+        Ok(_) => false,
+        Err(error) => error == BuildError::Limit,
+    }
 }
 
 #[test]
-fn pairs_of_few_states(rt: HostRuntime) -> Result<(), Fail> {
-    finds_two(&rt, rt.alloc(), 3)
+fn pairs_of_few_states(rt: HostRuntime) {
+    assert!(rt; finds_two(rt.alloc(), 3));
+    assert!(rt; finds_more_than_one(rt.alloc(), 3));
 }
 
 #[test]
-fn pairs_of_many_states(rt: HostRuntime) -> Result<(), Fail> {
-    finds_two(&rt, rt.alloc(), 1_000_000)
+fn pairs_of_many_states(rt: HostRuntime) {
+    assert!(rt; finds_two(rt.alloc(), 1_000_000));
+    assert!(rt; finds_more_than_one(rt.alloc(), 1_000_000));
 }
