@@ -12,6 +12,7 @@ Each crate that is proved has a line on standard error, and what `rt` says of a 
 where the program is built, 1 where it isn't, and 128 and a signal's number where that ended the build. It needs Python
 3.8, as `rt` does.
 """
+import argparse
 import os
 import re
 import signal
@@ -139,4 +140,6 @@ def main(logs):
 
 
 if __name__ == "__main__":
-    sys.exit(main(os.path.abspath(sys.argv[1])))
+    how = argparse.ArgumentParser(description=__doc__, formatter_class=argparse.RawDescriptionHelpFormatter)
+    how.add_argument("logs", metavar="LOGS", help="the folder for what `rt` says of each crate")
+    sys.exit(main(os.path.abspath(how.parse_args().logs)))

@@ -1,10 +1,10 @@
 #!/usr/bin/env python3
 """Draws one flow of a change, its graphs before and after in one picture, by Graphviz.
 
-Nodes are interfaces, in the boxes of their devices, and those in the boxes of their groups where there are at most six. Two nodes
-are one where they stand at one interface and have one id, and else by their order in the snapshots. What is in both snapshots is
-grey, what is only before is red and dashed, what is only after is green. With a report, the word of the flow's violated row and
-the path that gives it are laid along the edges as thick lines, each as a shortest walk whose locations give it.
+Nodes are interfaces, in the boxes of their devices, and these in the boxes of their groups where there are at most six. Of the
+nodes at one interface, one before and one after are drawn as one: those with the same id, and the others in their order. What is in
+both snapshots is grey, what is only before is red and dashed, what is only after is green. With a report, the word of the flow's
+violated row and the path that gives it are laid along the edges as thick lines, each as a shortest walk whose locations give it.
 
 The text for `dot` goes to standard output or to FILE.dot; FILE.svg is the picture. The same input gives the same text.
 Status 0: it is done; 1: `dot` failed, or is missing and FILE.dot is written instead; 2: refused, with one line on standard error.
@@ -123,8 +123,8 @@ def write(text, file):
 
 def main():
     parser = argparse.ArgumentParser(description=__doc__, formatter_class=argparse.RawDescriptionHelpFormatter)
-    for word in ("before", "after", "locations", "flow"):
-        parser.add_argument(word, metavar=word.upper())
+    for word, what in (("before", "a snapshot"), ("after", "the other"), ("locations", "the location file"), ("flow", "its name")):
+        parser.add_argument(word, metavar=word.upper(), help=what)
     parser.add_argument("--report", help="what `rela check` wrote of these files")
     parser.add_argument("--check", help="the check whose row is drawn, else the flow's first violated one; needs --report")
     parser.add_argument("-o", metavar="FILE", help="FILE.svg or FILE.dot")

@@ -13,7 +13,7 @@ import itertools
 import sys
 from collections import Counter
 
-from reports import Refused, Report, total_line
+from reports import Refused, Report, reason, total_line
 from snapshots import Snapshot
 
 
@@ -53,7 +53,7 @@ def main(words=None):
         sys.stdout.writelines(rows.values())
         print(total_line(counts), flush=True)
     except (OSError, Refused) as error:
-        print(f"merge: {error}", file=sys.stderr)
+        print(f"merge: {reason(error)}", file=sys.stderr)
         return 2
     return 1 if counts["violated"] else 3 if counts["undecided"] else 0
 

@@ -25,7 +25,7 @@ import sys
 import xml.etree.ElementTree as ET
 from collections import Counter
 
-from reports import LABELS, VERDICTS, Refused, Report
+from reports import LABELS, VERDICTS, Refused, Report, reason
 
 
 def write_json(rows, counts, out):
@@ -78,7 +78,7 @@ def main(words=None):
         counts = Counter(it.verdict for it in Report(io.BytesIO(text), name).rows())
         (write_junit if words.junit else write_json)(Report(io.BytesIO(text), name).rows(), counts, sys.stdout)
     except (OSError, Refused) as error:
-        print(f"report_json: {error}", file=sys.stderr)
+        print(f"report_json: {reason(error)}", file=sys.stderr)
         return 2
     return 0
 

@@ -17,6 +17,12 @@ class Refused(Exception):
     """What was read isn't as it has to be."""
 
 
+def reason(error):
+    """Returns what is said of an error of the system, or of what is refused."""
+    parts = (error.filename, error.strerror) if isinstance(error, OSError) else (error,)
+    return ": ".join(str(it) for it in parts if it is not None)
+
+
 class Row(NamedTuple):
     """A row of a report: its members in JSON, and its lines in the report."""
 

@@ -74,6 +74,9 @@ def results_of(program, folder):
 
 
 def main(words):
+    if words[:1] in (["-h"], ["--help"]):
+        print(__doc__)
+        return 0
     if not words or words[0].startswith("-"):
         print(__doc__, file=sys.stderr)
         return 2

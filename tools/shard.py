@@ -6,9 +6,9 @@ that it comes from, with some of that file's flows, byte for byte and in their o
 bytes of the SHA-256 of its name, as a number with the highest byte first, modulo PARTS: the same in both files, in each
 run and on each machine. Members of a snapshot other than `version` and `flows` are left out.
 
-A snapshot may have 10,000 flows and 33,554,432 bytes. Where a part would have more, a number of parts that would do is told.
-A file that isn't a snapshot is refused as far as that is seen: of a flow it is seen that it is JSON, and has a name that no
-other has. `rela check` sees to the rest, in the part.
+A snapshot may have 10,000 flows and 33,554,432 bytes. Where a part would have more, nothing is written, and a number of parts
+that is enough is named on standard error. Of a flow only this is looked at: that it is JSON, and has a name that no other flow
+has. `rela check` looks at the rest, in the part.
 
 The files have to be on a disk, as they are read twice. OUTDIR is made, or has to be empty. The status is 0 where all parts
 are written, and else 2, with the reason on standard error.
@@ -19,7 +19,7 @@ import os
 import sys
 from array import array
 
-from reports import Refused
+from reports import Refused, reason
 from snapshots import MOST, Snapshot
 
 MOST_FLOWS, MOST_PARTS = 10_000, 1_000_000
@@ -81,8 +81,8 @@ def enough(pair, parts):
 
 
 def number_of_parts(word):
-    if not 1 <= int(word) <= MOST_PARTS:
-        raise ValueError
+    if not word.isdecimal() or not 1 <= int(word) <= MOST_PARTS:
+        raise argparse.ArgumentTypeError(f"{word} is no number from 1 to {MOST_PARTS}")
     return int(word)
 
 
@@ -105,7 +105,7 @@ def main(words=None):
         for it, side in zip(pair, ("before", "after")):
             it.write(words.parts, words.folder, side)
     except (OSError, Refused) as error:
-        print(f"shard: {error}", file=sys.stderr)
+        print(f"shard: {reason(error)}", file=sys.stderr)
         return 2
     return 0
 

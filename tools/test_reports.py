@@ -98,7 +98,12 @@ def refuses(room):
               snapshot("{}"), snapshot('{"name":"a b"}'), snapshot(flow_a, flow_a), snapshot(flow_a, ""), snapshot(flow_a)[:-1]]
     for text in faulty:
         holds(f"{text!r} isn't split", run(shard, empty, put(text, at), "2", out)[0] == 2 and not os.path.exists(out))
-    holds("0 parts are refused", run(shard, empty, empty, "0", out)[0] == 2)
+    for word in ("0", "1000001", "x", "-1"):
+        holds(f"{word} parts are refused", run(shard, empty, empty, word, out)[0] == 2)
+    gone = f"{room}/gone"
+    for tool, *words in ((shard, empty, gone, "1", out), (merge, empty, empty, gone), (report_json, gone)):
+        told = f"{tool.__name__}: {gone}: No such file or directory\n"
+        holds(f"{tool.__name__} names a file that is missing", run(tool, *words) == (2, "", told))
     holds("a folder with files is refused", run(shard, empty, empty, "1", room)[0] == 2)
     most = 33_554_432 - len(snapshot("") + "\n\n\n")
     put(snapshot('{"name":"a"' + " " * (most - 12) + "}"), at)

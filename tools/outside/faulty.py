@@ -1,0 +1,73 @@
+"""Inputs with one fault each, and what the program says of them, for tools/test_outside.py."""
+
+FIRST = '{"name":"first","dst":"10.0.0.0/24","nodes":[],"edges":[],"starts":[]}'
+WEB = ('{"name":"web","dst":"10.1.0.0/24","nodes":["leaf1:up","leaf2:host"],"edges":[[0,1]],"starts":[0],"delivered":[1]}')
+# The same in version 2.
+IDS = ('{"name":"web","dst":"10.1.0.0/24","nodes":[{"id":"a","at":"leaf1:up"},{"id":"b","at":"leaf2:host"}],'
+       '"edges":[["a","b"]],"starts":["a"],"delivered":["b"]}')
+MANY_INTERFACES = ",".join(f'"i{it}"' for it in range(100_001))
+MANY_NODES = ",".join(['"leaf1:up"'] * 10_000)
+MANY_CHECKS = "".join(f"check c{it} : {{ .* : preserve }};\n" for it in range(200))
+
+# A piece of a text, what stands in its place, and what is said then. In the example's locations leaf2:up is the third interface.
+OF_LOCATIONS = (
+    ("}", "", "11 NotJson"),
+    ('"version": 1', '"version": "1"', "12 WrongShape rule 2 row 0"),
+    ('"leaf2:up"', "7", "12 WrongShape rule 12 row 2"),
+    ('"version": 1', '"version": 2', "13 BadVersion"),
+    ('"leaf2:up"', '"leaf2 up"', "14 BadName row 2"),
+    ('"leaf2:up"', '"drop"', "15 ReservedName row 2"),
+    ('"leaf2:up"', '"leaf1:up"', "16 RepeatedEntry row 2"),
+    ('"leaf2:up"', MANY_INTERFACES, "20 TooMany row 100000"),
+)
+OF_SNAPSHOTS = (
+    ("}", "", "11 NotJson"),
+    ('"version":1', '"version":"1"', "12 WrongShape rule 22 row 0"),
+    ('"version":1', '"version":3', "13 BadVersion"),
+)
+# Here in the second flow of two.
+OF_FLOWS = (
+    ('"10.1.0.0/24"', "7", "12 WrongShape rule 26 row 1"),
+    ('"web"', '"w b"', "14 BadName row 1"),
+    ('"web"', '"first"', "16 RepeatedEntry row 1"),
+    ('"leaf1:up"', '"leaf9:up"', "17 UnknownLocation row 1"),
+    ("[0,1]", "[0,2]", "18 BadIndex row 1"),
+    ("/24", "/33", "19 BadPrefix row 1"),
+    ('"leaf1:up"', MANY_NODES, "20 TooMany row 1"),
+)
+OF_IDS = (
+    ('"a","at"', '"a","in"', "12 WrongShape rule 49 row 1"),
+    ('["a","b"]', '["a","c"]', "22 UnknownNode row 1"),
+)
+# The mark ~ isn't in the text, and stands where the fault is.
+OF_SPECIFICATIONS = (
+    ("check c : { ~leaf9:up : preserve };", "17 UnknownLocation"),
+    ("check c : { .* : preserve }; ~@", "31 BadToken"),
+    ("check c : { .* : ~check };", "32 Syntax"),
+    ("check c : { .* : preserve }\n~", "32 Syntax"),
+    ("check c : ~$none;", "33 UnknownName"),
+    ("check c : { .* : preserve }; check ~c : { .* : preserve };", "34 RepeatedName"),
+    (f"check c : {{ {'(' * 99}~(.", "35 TooDeep"),
+    (f"{MANY_CHECKS}check ~last : {{ .* : preserve }};", "36 TooLarge"),
+    ("check c : { .{~65} : preserve };", "37 BadNumber"),
+    ("level device; check c : { interface(~leaf1:up) : preserve };", "38 FinerLevel"),
+)
+
+
+def snapshot(flow, version=1):
+    return f'{{"version":{version},"flows":[{FIRST},{flow}]}}'
+
+
+def refusals(locations):
+    """Yields operands, each with a faulty text and what is said of it; `locations` is the text of the example's."""
+    for piece, other, said in OF_LOCATIONS:
+        yield "locations", locations.replace(piece, other, 1), said
+    for operand in ("before", "after"):
+        for piece, other, said in OF_SNAPSHOTS:
+            yield operand, snapshot(WEB).replace(piece, other, 1), said
+        for piece, other, said in OF_FLOWS:
+            yield operand, snapshot(WEB.replace(piece, other, 1)), said
+        for piece, other, said in OF_IDS:
+            yield operand, snapshot(IDS.replace(piece, other, 1), 2), said
+    for text, said in OF_SPECIFICATIONS:
+        yield "spec", text.replace("~", ""), f"{said} at {text.index('~')}"
