@@ -1,3 +1,6 @@
+//! The alphabet of one level: which symbol is which location, `drop`, `loop` or marker, and the
+//! texts of words.
+
 ghost use Rattle.std.specs.Prelude.{◌≡◌, ◌≢◌, ℕ, ◌+◌, ◌-◌, ◌<◌, ◌≤◌, ◌↔◌, IfOk, IfNone, IfSome, length, slice_get, ◌++◌};
 ghost use Rattle.std.specs.Fmt.{decimal};
 ghost use Rattle.std.specs.List.{All};
@@ -21,6 +24,8 @@ pub const MAX_MARKERS: u32 = 20_000;
 /// the path symbols. Contracts see it as the list of the location names.
 #[derive(Debug, Drop)]
 pub struct Alphabet {
+    /// The names of the locations, strictly ascending by their bytes. The symbol of a location is
+    /// the index of its name.
     names: Vec<Name>,
 }
 
@@ -36,7 +41,8 @@ impl Model for Alphabet {
 }
 
 impl Alphabet {
-    /// The alphabet of these locations.
+    /// The alphabet of these locations, of which there are at most [`MAX_LOCATIONS`], strictly
+    /// ascending by bytes.
     pub fn new(names: Vec<Name>) -> Alphabet
         requires { IsAlphabet names.items }
         ensures { result ≡ names.items }
@@ -61,7 +67,7 @@ impl Alphabet {
         self.names.len() as u32 + 2
     }
 
-    /// The symbol of what ends a path where traffic is dropped.
+    /// The symbol `drop`, which ends a path where traffic is dropped.
     pub fn drop_symbol(&self) -> Symbol
         ensures number { result ≡ length self.now }
         ensures meaning { meaning_of self.now result ≡ Drop }
@@ -69,7 +75,7 @@ impl Alphabet {
         self.len() - 2
     }
 
-    /// The symbol of what ends a path that never leaves a cycle.
+    /// The symbol `loop`, which ends a path that never leaves a cycle.
     pub fn loop_symbol(&self) -> Symbol
         ensures number { result ≡ length self.now + 1 }
         ensures meaning { meaning_of self.now result ≡ Loop }
@@ -77,7 +83,7 @@ impl Alphabet {
         self.len() - 1
     }
 
-    /// The symbol of the marker `#k`.
+    /// The symbol of the marker `#k`. Markers are numbered from 1.
     pub fn marker(&self, k: u32) -> Symbol
         requires positive { 1 ≤ k }
         requires few { k ≤ MAX_MARKERS }
@@ -95,8 +101,8 @@ impl Alphabet {
         self.names.get(symbol as usize)
     }
 
-    /// The location of this name, and `None` where no location has it. It takes a number of steps
-    /// that is logarithmic in the number of locations.
+    /// The location of this name, and `None` where no location has it. Time: a binary search,
+    /// logarithmic in the number of locations.
     pub fn find(&self, name: &[u8]) -> Option<Symbol>
         ensures found { (s : ℕ) → (result ≡ Some s) ↔ (slice_get self.now s ≡ Some name.now) }
         ensures absent { IfNone result (All (λ other. other ≢ name.now) self.now) }
@@ -110,8 +116,13 @@ impl Alphabet {
         }
     }
 
-    /// The texts of the symbols with one blank between two, and `()` for the empty word. A location's
-    /// text is its name, and the others' are `drop`, `loop` and `#k`.
+    /// The texts of the symbols with one blank between two, and `()` for the empty word. A
+    /// location's text is its name, and the others' are `drop`, `loop` and `#k`. Time and space:
+    /// linear in the text.
+    ///
+    /// # Errors
+    ///
+    /// Only where memory is wanted.
     pub fn text_of(&self, alloc: Global, word: &[Symbol]) -> Result<Vec<u8>, AllocError>
         requires { All (λ s. s < path_symbols self.now + MAX_MARKERS) word.now }
         ensures { IfOk result (λ text. text.items ≡ word_text self.now word.now) }
@@ -129,6 +140,7 @@ impl Alphabet {
         Ok(text)
     }
 
+    /// Appends the text of one symbol.
     fn push_symbol(&self, text: &mut Vec<u8>, symbol: Symbol) -> Result<(), AllocError>
         requires { symbol < path_symbols self.now + MAX_MARKERS }
         ensures { IfOk result (λ _. text.new.items ≡ text.old.items ++ symbol_text self.now symbol) }
@@ -146,6 +158,7 @@ impl Alphabet {
     }
 }
 
+/// Appends the number in decimal digits, the first of which is 0 only for the number 0.
 fn push_decimal(text: &mut Vec<u8>, n: u32) -> Result<(), AllocError>
     ensures { IfOk result (λ _. text.new.items ≡ text.old.items ++ decimal n) }
 {

@@ -1,3 +1,5 @@
+//! A pointer that contracts see as the value behind it.
+
 ghost use Rattle.std.specs.Prelude.{◌≡◌, IfOk};
 
 use std::alloc::{AllocError, Global};
@@ -7,6 +9,7 @@ use std::marker::Model;
 /// plain data: a copy of it equals what it copies.
 #[derive(Debug, Drop)]
 pub struct Boxed<T> {
+    /// The pointer to the value.
     inner: Box<T>,
 }
 
@@ -19,14 +22,14 @@ impl<T> Model for Boxed<T> {
 }
 
 impl<T> Boxed<T> {
-    /// The value behind this pointer.
+    /// The same value, behind the pointer that is given. It takes no memory.
     pub fn from_box(inner: Box<T>) -> Boxed<T>
         ensures { result ≡ inner.value }
     {
         Boxed { inner }
     }
 
-    /// The value.
+    /// The value, lent.
     pub fn get(&self) -> &T
         ensures { result.now ≡ self.now }
     {
@@ -44,6 +47,10 @@ impl<T> Boxed<T> {
 
 impl<T: Drop> Boxed<T> {
     /// A box with this value.
+    ///
+    /// # Errors
+    ///
+    /// Only where memory is wanted.
     pub fn new(alloc: Global, value: T) -> Result<Boxed<T>, AllocError>
         ensures { IfOk result (λ boxed. boxed ≡ value) }
     {

@@ -1,3 +1,5 @@
+//! A vector that contracts see as the list of its items.
+
 ghost use Rattle.std.specs.Prelude.{◌≡◌};
 
 use std::marker::Model;
@@ -6,6 +8,7 @@ use std::marker::Model;
 /// is plain data: a copy of it equals what it copies.
 #[derive(Debug, Drop)]
 pub struct List<T> {
+    /// The items, in their order.
     items: Vec<T>,
 }
 
@@ -21,21 +24,21 @@ impl<T> Model for List<T> {
 }
 
 impl<T> List<T> {
-    /// The list of just these items, in their order.
+    /// The list of just these items, in their order. It takes no memory.
     pub fn from_vec(items: Vec<T>) -> List<T>
         ensures { result ≡ items.items }
     {
         List { items }
     }
 
-    /// The items, in their order.
+    /// The items, lent in their order.
     pub fn as_slice(&self) -> &[T]
         ensures { result.now ≡ self.now }
     {
         self.items.as_slice()
     }
 
-    /// The items, to be changed or moved on.
+    /// The items in their order, as a vector that the caller may change. Nothing is copied.
     pub fn into_vec(self) -> Vec<T>
         ensures { result.items ≡ self }
     {

@@ -1,3 +1,5 @@
+//! Names: what bytes may be one, and which of them a location may have.
+
 ghost use Rattle.std.specs.Prelude.{◌≡◌, ◌≢◌, ◌↔◌, true, false, IsTrue, IfOk, OnOk, IsErrOf};
 ghost use Rattle.std.specs.List.{list_all};
 ghost use Rattle.rela_names.specs.Name.{is_name_byte, is_name, IsName, is_reserved, IsLocationName};
@@ -12,10 +14,13 @@ pub const MAX_NAME_LEN: usize = 64;
 /// Why bytes are not taken as a name.
 #[derive(Debug, PartialEq, Eq, Drop, Error)]
 pub enum NameError {
+    /// The bytes are not 1 to 64 name bytes.
     #[error("a name has 1 to 64 letters, digits and the marks _ . : / -")]
     Bad,
+    /// The bytes are `drop` or `loop`, which are no names of locations.
     #[error("no location is called drop or loop")]
     Reserved,
+    /// Memory ran out.
     #[error("out of memory")]
     Memory,
 }
@@ -44,6 +49,7 @@ impl<T: Drop> From<AllocFailed<T>> for NameError {
 /// `_`, `.`, `:`, `/` and `-`. Names compare by their bytes.
 #[derive(Debug, Drop)]
 pub struct Name {
+    /// The 1 to 64 bytes of the name.
     bytes: Vec<u8>,
 }
 
@@ -65,19 +71,21 @@ pub fn is_name_byte(byte: u8) -> bool
     byte.is_ascii_alphanumeric() || matches!(byte, b'_' | b'.' | b':' | b'/' | b'-')
 }
 
-/// Whether these are 1 to 64 name bytes.
+/// Whether these are 1 to 64 name bytes. Time: constant, since no byte past the 64th is looked at.
 pub fn is_name(bytes: &[u8]) -> bool
     ensures { result ≡ is_name bytes.now }
 {
     1 <= bytes.len() && bytes.len() <= MAX_NAME_LEN && has_name_bytes_only(bytes)
 }
 
+/// Whether each of the bytes may stand in a name, which is so of none at all.
 fn has_name_bytes_only(bytes: &[u8]) -> bool
     ensures { result ≡ list_all is_name_byte bytes.now }
 {
     bytes.iter().all(|byte| is_name_byte(*byte))
 }
 
+/// Whether the bytes are `drop` or `loop`, the symbols that end a path and stand for no location.
 fn is_reserved(bytes: &[u8]) -> bool
     ensures { result ≡ is_reserved bytes.now }
 {
@@ -85,11 +93,12 @@ fn is_reserved(bytes: &[u8]) -> bool
 }
 
 impl Name {
-    /// The name of these bytes.
+    /// The name of these bytes, which are copied.
     ///
     /// # Errors
     ///
-    /// `Bad` where they are not 1 to 64 name bytes; `Memory`.
+    /// `Bad` where they are not 1 to 64 name bytes; `Memory` where memory runs out. Never
+    /// `Reserved`.
     pub fn from_bytes(alloc: Global, bytes: &[u8]) -> Result<Name, NameError>
         ensures ok { IfOk result (λ name. name ≡ bytes.now) }
         ensures name { OnOk result (IsName bytes.now) }
@@ -107,8 +116,8 @@ impl Name {
     ///
     /// # Errors
     ///
-    /// `Bad` where they are not 1 to 64 name bytes; else `Reserved` where they are `drop` or `loop`;
-    /// `Memory`.
+    /// `Bad` where they are not 1 to 64 name bytes; else `Reserved` where they are `drop` or
+    /// `loop`; `Memory` where memory runs out.
     pub fn location(alloc: Global, bytes: &[u8]) -> Result<Name, NameError>
         ensures ok { IfOk result (λ name. name ≡ bytes.now) }
         ensures location_name { OnOk result (IsLocationName bytes.now) }
@@ -129,7 +138,11 @@ impl Name {
         self.bytes.as_slice()
     }
 
-    /// The same name once more.
+    /// The same name once more, with bytes of its own.
+    ///
+    /// # Errors
+    ///
+    /// Only where memory is wanted.
     pub fn copy(&self, alloc: Global) -> Result<Name, AllocError>
         ensures { IfOk result (λ name. name ≡ self.now) }
     {

@@ -78,7 +78,8 @@ impl Hash for Name {
     }
 }
 
-/// The names in ascending order.
+/// The names, which are all different, in ascending order of their bytes. Time: O(n log n)
+/// comparisons.
 ///
 /// # Errors
 ///

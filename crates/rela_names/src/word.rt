@@ -1,3 +1,5 @@
+//! Symbols and words of them.
+
 ghost use Rattle.std.specs.Prelude.{◌≡◌};
 
 use std::marker::Model;
@@ -9,6 +11,7 @@ pub type Symbol = u32;
 /// A word of symbols: a path, or what a relation makes of one.
 #[derive(Debug, Drop)]
 pub struct Word {
+    /// The symbols, in their order.
     symbols: Vec<Symbol>,
 }
 
@@ -21,14 +24,14 @@ impl Model for Word {
 }
 
 impl Word {
-    /// The word of just these symbols, in their order.
+    /// The word of just these symbols, in their order. It takes no memory.
     pub fn from_symbols(symbols: Vec<Symbol>) -> Word
         ensures { result ≡ symbols.items }
     {
         Word { symbols }
     }
 
-    /// The symbols, in their order.
+    /// The symbols, lent in their order.
     pub fn as_slice(&self) -> &[Symbol]
         ensures { result.now ≡ self.now }
     {
