@@ -11,10 +11,10 @@ use std::alloc::{AllocError, Global};
 
 /// The classes of addresses that these prefixes cut, in the order of their addresses.
 ///
-/// A class is a prefix of which no given one is a proper part, and which either is all addresses, or
-/// whose parent, one bit shorter, has some given prefix as a proper part. Each address lies in just
-/// one class, and each given prefix holds all addresses of a class or none. Time and space are linear
-/// in the number of prefixes times the 32 bits of an address.
+/// A class is a prefix of which no given one is a proper part, and which either is all addresses,
+/// or whose parent, one bit shorter, has some given prefix as a proper part. Each address lies in
+/// just one class, and each given prefix holds all addresses of a class or none. Time and space:
+/// linear in the number of prefixes times the 32 bits of an address.
 ///
 /// # Errors
 ///
@@ -28,7 +28,7 @@ pub fn classes_of(alloc: Global, prefixes: &[Ipv4Prefix]) -> Result<Vec<Ipv4Pref
     Ok(classes)
 }
 
-/// The addresses of these leaves.
+/// The cells of these leaves, in their order.
 fn cells_of(alloc: Global, leaves: &[Leaf]) -> Result<Vec<Ipv4Prefix>, AllocError>
     ensures { IfOk result (λ found. found.items ≡ cells leaves.now) }
 {

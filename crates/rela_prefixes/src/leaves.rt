@@ -1,4 +1,5 @@
-//! The leaves of the trie.
+//! The leaves of the binary trie of some prefixes, by a walk that halves a cell until no prefix
+//! cuts it.
 
 ghost use Rattle.std.specs.Prelude.{◌≡◌, ◌+◌, ◌-◌, ◌^◌, ◌<◌, OnOk};
 ghost use Rattle.rela_prefixes.specs.Inside.{middle_of};
@@ -10,7 +11,7 @@ use crate::split::split;
 use rela_flows::Ipv4Prefix;
 use std::alloc::{AllocError, Global};
 
-/// How many addresses half a cell of this length has.
+/// How many addresses half a cell of this length has. The length is in bits, at most 31.
 fn half(length: u8) -> u32
     requires { length < 32 }
     ensures { result ≡ 2 ^ (31 - length) }
@@ -18,7 +19,8 @@ fn half(length: u8) -> u32
     1 << (31 - u32::from(length))
 }
 
-/// The lower half of a cell.
+/// The lower half of a cell of more than one address: one bit longer, and beginning where the cell
+/// does.
 fn low_half(cell: &Ipv4Prefix) -> Ipv4Prefix
     requires { cell.now.length < 32 }
     ensures address { result.address ≡ cell.now.address }
@@ -30,7 +32,7 @@ fn low_half(cell: &Ipv4Prefix) -> Ipv4Prefix
     }
 }
 
-/// The upper half of a cell.
+/// The upper half of a cell of more than one address: one bit longer, and beginning in its middle.
 fn high_half(cell: &Ipv4Prefix) -> Ipv4Prefix
     requires { cell.now.length < 32 }
     ensures address { result.address ≡ cell.now.address + 2 ^ (31 - cell.now.length) }
@@ -42,7 +44,7 @@ fn high_half(cell: &Ipv4Prefix) -> Ipv4Prefix
     }
 }
 
-/// Where the upper half of a cell begins, and the cell itself where it is one address.
+/// The first address of the upper half of a cell, and its only address where it is one.
 fn middle_of(cell: &Ipv4Prefix) -> u32
     ensures { result ≡ middle_of cell.now }
 {
@@ -53,16 +55,18 @@ fn middle_of(cell: &Ipv4Prefix) -> u32
     }
 }
 
-/// Whether nothing is longer than a cell of this length: it is one address, or no prefix is in its
-/// halves.
+/// Whether a cell of this length is a leaf: it is one address, or no prefix is longer than the
+/// cell.
 fn is_uncut(length: u8, parts: &Halves) -> bool
     ensures { result ≡ is_uncut length parts.now }
 {
     length == 32 || (parts.low.is_empty() && parts.high.is_empty())
 }
 
-/// Adds the leaves of a cell in the order of their addresses. `inside` are the prefixes that lie
-/// inside the cell, and `above` is the place of the longest one that holds it and is shorter.
+/// Appends the leaves of a cell in the order of their addresses. `inside` are the prefixes that lie
+/// inside the cell, and `above` is the index in the list of the longest one that holds it and is
+/// shorter. Time: linear in the prefixes inside times the bits of an address that the cell leaves
+/// open.
 pub(crate) fn push_leaves(
     alloc: Global,
     cell: Ipv4Prefix,

@@ -7,7 +7,8 @@ ghost use Rattle.rela_prefixes.specs.Split.{is_low, is_high, IsHere, NoneHere};
 use crate::leaf::{Halves, Numbered};
 use std::alloc::{AllocError, Global};
 
-/// Splits the prefixes inside a cell of this length whose upper half begins at `middle`.
+/// Splits the prefixes inside a cell of this length whose upper half begins at `middle`, in one
+/// pass that keeps their order.
 pub(crate) fn split(
     alloc: Global,
     inside: &[Numbered],

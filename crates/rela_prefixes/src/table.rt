@@ -13,13 +13,16 @@ use rela_names::List;
 use std::alloc::{AllocError, Global};
 use std::marker::Model;
 
-/// Prefixes, and the longest of them for each address. Contracts see it as the list of the prefixes.
+/// Prefixes, and the longest of them for each address (longest prefix match). Contracts see it as
+/// the list of the prefixes.
 ///
 /// It has the leaves of the binary trie of the prefixes in the order of their addresses, each with
 /// the longest prefix that holds it, which is known as leaf pushing.
 #[derive(Drop)]
 pub struct PrefixTable {
     prefixes: List<Ipv4Prefix>,
+    /// The leaves of their trie in the order of the addresses, which they split among them without
+    /// a gap.
     leaves: Vec<Leaf>,
 }
 
@@ -37,8 +40,8 @@ impl Model for PrefixTable {
 }
 
 impl PrefixTable {
-    /// The table of these prefixes, in time and space linear in their number times the 32 bits of an
-    /// address.
+    /// The table of these prefixes. Of equal prefixes any one may be answered. Time and space:
+    /// linear in their number times the 32 bits of an address.
     ///
     /// # Errors
     ///
@@ -54,8 +57,8 @@ impl PrefixTable {
         })
     }
 
-    /// The place in the list of the longest prefix that holds the address, and `None` where none
-    /// does, in a number of steps that is logarithmic in the number of leaves.
+    /// The index in the list of the longest prefix that holds the address, and `None` where none
+    /// does. Time: a binary search, logarithmic in the number of leaves.
     pub fn longest(&self, address: u32) -> Option<u32>
         ensures { Longest self.now address result }
     {
@@ -65,7 +68,7 @@ impl PrefixTable {
     }
 }
 
-/// How many of the leaves begin at the address or before it.
+/// How many of the leaves begin at the address or before it. Time: a binary search.
 fn place_after(leaves: &[Leaf], address: u32) -> usize
     requires { IsNonDecreasingBy (λ leaf. leaf.cell.address) leaves.now }
     ensures parted { IsPartitionPoint (λ leaf. leaf.cell.address ≤ address) (λ leaf. address < leaf.cell.address) leaves.now result }
@@ -74,7 +77,7 @@ fn place_after(leaves: &[Leaf], address: u32) -> usize
     leaves.partition_point(|leaf| leaf.cell.address <= address)
 }
 
-/// The leaves of the trie of these prefixes.
+/// The leaves of the trie of these prefixes, in the order of their addresses.
 pub(crate) fn leaves_of(alloc: Global, prefixes: &[Ipv4Prefix]) -> Result<Vec<Leaf>, AllocError>
     requires { length prefixes.now < 2 ^ 32 }
     ensures { IfOk result (λ leaves. AreLeaves prefixes.now 0 (2 ^ 32) leaves.items) }
@@ -85,7 +88,7 @@ pub(crate) fn leaves_of(alloc: Global, prefixes: &[Ipv4Prefix]) -> Result<Vec<Le
     Ok(leaves)
 }
 
-/// The prefixes with their places.
+/// The prefixes with their indexes in the list.
 fn numbered(alloc: Global, prefixes: &[Ipv4Prefix]) -> Result<Vec<Numbered>, AllocError>
     requires { length prefixes.now < 2 ^ 32 }
     ensures { IfOk result (λ ns. AreNumbered prefixes.now ns.items) }
