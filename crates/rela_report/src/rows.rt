@@ -1,3 +1,5 @@
+//! The rows of a report: the verdict on each flow under each check that selects it.
+
 ghost use Rattle.std.specs.Prelude.{◌≡◌, IfOk};
 
 use rela_names::{Name, Word};
@@ -32,7 +34,11 @@ pub enum Row {
 }
 
 impl Row {
-    /// The same verdict. The only error is want of memory.
+    /// The same verdict once more. Time and space: linear in its words.
+    ///
+    /// # Errors
+    ///
+    /// Only where memory is wanted.
     pub fn copy(&self, alloc: Global) -> Result<Row, AllocError>
         ensures { IfOk result (λ row. row ≡ self.now) }
     {
@@ -48,6 +54,7 @@ impl Row {
     }
 }
 
+/// The same word once more, with symbols of its own.
 fn copy_word(alloc: Global, word: &Word) -> Result<Word, AllocError>
     ensures { IfOk result (λ copy. copy ≡ word.now) }
 {

@@ -1,20 +1,22 @@
+//! The exit status that the rows of a report give.
+
 ghost use Rattle.std.specs.Prelude.{◌≡◌};
 ghost use Rattle.std.specs.List.{list_any};
 ghost use Rattle.rela_report.specs.Status.{status_of, is_compliant, is_violated, is_undecided, is_unselected};
 
 use crate::rows::{ReportRow, Row};
 
-/// No row is violated or undecided.
+/// The status where no row is violated or undecided.
 pub const STATUS_MET: u8 = 0;
 
-/// Some row is violated.
+/// The status where some row is violated.
 pub const STATUS_VIOLATED: u8 = 1;
 
-/// No row is violated, and some row is undecided.
+/// The status where no row is violated, and some row is undecided.
 pub const STATUS_UNDECIDED: u8 = 3;
 
 /// The exit status of a report: [`STATUS_VIOLATED`] where a row is violated, else
-/// [`STATUS_UNDECIDED`] where one is undecided, else [`STATUS_MET`].
+/// [`STATUS_UNDECIDED`] where one is undecided, else [`STATUS_MET`]. Time: linear in the rows.
 pub fn status(rows: &[ReportRow]) -> u8
     ensures { result ≡ status_of rows.now }
 {
@@ -27,18 +29,21 @@ pub fn status(rows: &[ReportRow]) -> u8
     }
 }
 
+/// Whether some row is violated.
 fn has_violated(rows: &[ReportRow]) -> bool
     ensures { result ≡ list_any is_violated rows.now }
 {
     rows.iter().any(is_violated)
 }
 
+/// Whether some row is undecided.
 fn has_undecided(rows: &[ReportRow]) -> bool
     ensures { result ≡ list_any is_undecided rows.now }
 {
     rows.iter().any(is_undecided)
 }
 
+/// Whether the row is that of a check that is met.
 pub(crate) fn is_compliant(row: &ReportRow) -> bool
     ensures { result ≡ is_compliant row.now }
 {
@@ -51,6 +56,7 @@ pub(crate) fn is_compliant(row: &ReportRow) -> bool
     )
 }
 
+/// Whether the row is that of a check that isn't met.
 pub(crate) fn is_violated(row: &ReportRow) -> bool
     ensures { result ≡ is_violated row.now }
 {
@@ -63,6 +69,7 @@ pub(crate) fn is_violated(row: &ReportRow) -> bool
     )
 }
 
+/// Whether the row is that of a check whose verdict is left open.
 pub(crate) fn is_undecided(row: &ReportRow) -> bool
     ensures { result ≡ is_undecided row.now }
 {
@@ -75,6 +82,7 @@ pub(crate) fn is_undecided(row: &ReportRow) -> bool
     )
 }
 
+/// Whether the row is that of a flow that no check selects.
 pub(crate) fn is_unselected(row: &ReportRow) -> bool
     ensures { result ≡ is_unselected row.now }
 {

@@ -1,3 +1,5 @@
+//! The text of a report: a line or three for each row, and the total line.
+
 ghost use Rattle.std.specs.Prelude.{◌≡◌, ◌++◌, All, count_by, string_bytes, IfOk, OnOk};
 ghost use Rattle.rela_report.specs.Status.{is_compliant, is_violated, is_undecided, is_unselected};
 ghost use Rattle.rela_report.specs.Text.{report_text, row_lines, total_line, total_text, count_text, verdict_lines, word_label, source_label, line, HasTexts, VerdictHasTexts, RowHasTexts};
@@ -10,7 +12,11 @@ use rela_names::{Alphabet, Symbol};
 use std::alloc::{AllocError, Global};
 
 /// The text of a report: the lines of each row, and then the total line. Words are written by
-/// [`Alphabet::text_of`].
+/// [`Alphabet::text_of`]. Time and space: linear in the text.
+///
+/// # Errors
+///
+/// Only where memory is wanted.
 pub fn text(alloc: Global, rows: &[ReportRow], alphabet: &Alphabet) -> Result<Vec<u8>, AllocError>
     requires { All (RowHasTexts alphabet.now) rows.now }
     ensures { IfOk result (λ text. text.items ≡ report_text alphabet.now rows.now) }
@@ -21,6 +27,7 @@ pub fn text(alloc: Global, rows: &[ReportRow], alphabet: &Alphabet) -> Result<Ve
     Ok(text)
 }
 
+/// The lines of each row, in their order.
 fn row_texts(alloc: Global, rows: &[ReportRow], alphabet: &Alphabet) -> Result<Vec<u8>, AllocError>
     requires { All (RowHasTexts alphabet.now) rows.now }
     ensures { IfOk result (λ text. text.items ≡ flat_map (row_lines alphabet.now) rows.now) }
@@ -32,23 +39,33 @@ fn row_texts(alloc: Global, rows: &[ReportRow], alphabet: &Alphabet) -> Result<V
     Ok(text)
 }
 
-/// The total line alone.
+/// The total line alone, which tells the number of rows and the number of each kind. Time: linear
+/// in the rows.
+///
+/// # Errors
+///
+/// Only where memory is wanted.
 pub fn total(alloc: Global, rows: &[ReportRow]) -> Result<Vec<u8>, AllocError>
     ensures { IfOk result (λ text. text.items ≡ total_line rows.now) }
 {
     total_text(alloc, rows.len(), &Counts::of(rows))
 }
 
-// How many rows there are of each kind.
+/// How many rows there are of each kind.
 #[derive(Clone, Copy)]
 struct Counts {
+    /// The rows of checks that are met.
     compliant: usize,
+    /// The rows of checks that aren't met.
     violated: usize,
+    /// The rows of checks whose verdict is left open.
     undecided: usize,
+    /// The rows of flows that no check selects.
     unselected: usize,
 }
 
 impl Counts {
+    /// The counts of these rows, in a pass for each kind.
     fn of(rows: &[ReportRow]) -> Counts
         ensures compliant { result.compliant ≡ count_by is_compliant rows.now }
         ensures violated { result.violated ≡ count_by is_violated rows.now }
@@ -64,6 +81,7 @@ impl Counts {
     }
 }
 
+/// The total line of so many rows with these counts, with its line feed.
 fn total_text(alloc: Global, rows: usize, counts: &Counts) -> Result<Vec<u8>, AllocError>
     ensures { IfOk result (λ text. text.items
         ≡ total_text rows counts.now.compliant counts.now.violated counts.now.undecided counts.now.unselected) }
@@ -78,6 +96,7 @@ fn total_text(alloc: Global, rows: usize, counts: &Counts) -> Result<Vec<u8>, Al
     Ok(text.into_bytes())
 }
 
+/// Appends a label and a decimal number.
 #[tactic(auto, unfolding(crate::specs::Text::count_text))]
 fn push_count(text: &mut String, label: &str, n: usize) -> Result<(), AllocError>
     ensures { OnOk result (string_bytes text.new ≡ string_bytes text.old ++ count_text label.now n) }
@@ -85,6 +104,7 @@ fn push_count(text: &mut String, label: &str, n: usize) -> Result<(), AllocError
     write!(text, "{label}{n}")
 }
 
+/// Appends the lines of a row: one, and two more below it where it is violated.
 fn push_row(
     alloc: Global,
     text: &mut Vec<u8>,
@@ -111,6 +131,8 @@ fn push_row(
     }
 }
 
+/// Appends the verdict, which ends a row's first line, and the two lines below it where it is a
+/// violation.
 fn push_verdict(
     alloc: Global,
     text: &mut Vec<u8>,
@@ -132,7 +154,7 @@ fn push_verdict(
     }
 }
 
-// What stands before the word and before its source.
+/// What stands before the word and what stands before its source, by the side that has the word.
 fn labels(side: Side) -> (&'static [u8], &'static [u8])
     ensures word { result.0.now ≡ word_label side }
     ensures source { result.1.now ≡ source_label side }
@@ -143,6 +165,7 @@ fn labels(side: Side) -> (&'static [u8], &'static [u8])
     }
 }
 
+/// Appends a line of a label and the text of a word.
 fn push_word(
     alloc: Global,
     text: &mut Vec<u8>,
