@@ -20,6 +20,7 @@ use std::marker::Model;
 /// the longest prefix that holds it, which is known as leaf pushing.
 #[derive(Drop)]
 pub struct PrefixTable {
+    /// The prefixes in the order in which they were given. Only contracts look at them.
     prefixes: List<Ipv4Prefix>,
     /// The leaves of their trie in the order of the addresses, which they split among them without
     /// a gap.
