@@ -7,10 +7,11 @@ use std::process::ExitCode;
 use std::rt::Env;
 use std::{env, io};
 
-/// The status where the words of the command line can't be had as texts.
+/// The exit status where the words of the command line can't be had as texts.
 const NO_WORDS: u8 = 8;
 
-// The words after the program's name, or the status to end with.
+/// The words of the command line after the program's name, or the status to end with: [`NO_MEMORY`]
+/// where memory runs out, else [`NO_WORDS`].
 fn words(rt: &(impl Env + AllocGlobal)) -> Result<Vec<String>, u8> {
     let mut words = Vec::new(rt.alloc());
     for word in env::args(rt).map_err(|error| status_of(&error))?.skip(1) {
@@ -19,6 +20,7 @@ fn words(rt: &(impl Env + AllocGlobal)) -> Result<Vec<String>, u8> {
     Ok(words)
 }
 
+/// The status to end with where the words can't be had for this reason.
 fn status_of(error: &io::Error) -> u8 {
     match error.kind() {
         io::ErrorKind::OutOfMemory => NO_MEMORY,
@@ -26,6 +28,8 @@ fn status_of(error: &io::Error) -> u8 {
     }
 }
 
+/// Carries out the command that the words give, over the files of the disk and standard output, and
+/// ends with its status.
 fn main(rt: HostRuntime) -> ExitCode {
     let words = match words(&rt) {
         Ok(words) => words,
