@@ -5,35 +5,36 @@ ghost use Rattle.std.specs.Prelude.{◌≡◌};
 use std::alloc::{AllocError, AllocFailed};
 use thiserror::Error;
 
-/// The first fault of a JSON file, in the order in which it is walked. A row counts the earlier entries of the kind
-/// that is at fault.
+/// The first fault of a JSON file, in the order in which it is walked. Its `row` is the number of the earlier entries
+/// of the kind that is at fault, so that the first entry has row 0.
 #[derive(Debug, Clone, Copy, PartialEq, Eq, Error)]
 pub enum LoadError {
     /// The bytes are no JSON text.
     #[error("not JSON")]
     NotJson,
-    /// A part is missing, or is of another kind than its rule wants.
+    /// A part is missing, or is of another kind than the rule of this number wants. The reader of each file numbers its
+    /// rules.
     #[error("row {row} breaks rule {rule}")]
     WrongShape { rule: u8, row: u32 },
     /// The file is of a version that is not read here.
     #[error("unknown version")]
     BadVersion,
-    /// A name is no list of 1 to 64 name bytes.
+    /// A text that should be a name is not 1 to 64 name bytes.
     #[error("bad name in row {row}")]
     BadName { row: u32 },
-    /// A location has a name that stands for something else.
+    /// A location is to be called `drop` or `loop`, which are no names of locations.
     #[error("reserved name in row {row}")]
     ReservedName { row: u32 },
     /// An earlier entry of the same kind has the name.
     #[error("repeated entry in row {row}")]
     RepeatedEntry { row: u32 },
-    /// No location has the name.
+    /// No location of the wanted kind has the name.
     #[error("unknown location in row {row}")]
     UnknownLocation { row: u32 },
     /// An index is not below the length of the list that it points into.
     #[error("bad index in row {row}")]
     BadIndex { row: u32 },
-    /// A text is no address prefix.
+    /// A text is no address prefix, or one of a family that is not read there.
     #[error("bad prefix in row {row}")]
     BadPrefix { row: u32 },
     /// No node of the flow has the name.

@@ -1,4 +1,4 @@
-//! Lists of indexes.
+//! Arrays of indexes.
 
 ghost use Rattle.std.specs.Prelude.{◌≡◌, ◌≢◌, Ok, Err, IfOk, IfErr};
 ghost use Rattle.serde_json.specs.View.{view};
@@ -9,7 +9,12 @@ use crate::parts::{array, number};
 use serde_json::Value;
 use std::alloc::Global;
 
-/// The entries of an array of whole numbers below a bound, in order. The first entry at fault decides the error.
+/// The entries of an array of whole numbers below a bound, in order. Time and space: linear in the entries.
+///
+/// # Errors
+///
+/// `Shape` where the value is no array; else the first entry at fault decides: `Shape` where it is no whole number,
+/// `Index` where it is not below the bound; `Memory` where memory runs out.
 pub fn index_list(alloc: Global, value: &Value, below: u32) -> Result<Vec<u32>, ListError>
     ensures indexes { IfOk result (λ v. indexes_of below (view value.now) ≡ Ok v.items) }
     ensures fault { IfErr result (λ e. e ≢ ListError.Memory
@@ -24,6 +29,11 @@ pub fn index_list(alloc: Global, value: &Value, below: u32) -> Result<Vec<u32>, 
     Ok(indexes)
 }
 
+/// A whole number below the bound.
+///
+/// # Errors
+///
+/// `Shape` where the value is no whole number; `Index` where it is not below the bound.
 fn index_below(entry: &Value, below: u32) -> Result<u32, ListError>
     ensures index { IfOk result (λ n. index_of below (view entry.now) ≡ Ok n) }
     ensures fault { IfErr result (λ e. index_of below (view entry.now) ≡ Err e) }

@@ -7,7 +7,11 @@ ghost use Rattle.rela_json.specs.Parts.{member_of, text_of, number_of, items_of}
 use crate::error::Shape;
 use serde_json::Value;
 
-/// An object's member of that name, if it has one.
+/// An object's member of that name, and `None` where the object has none. Time: logarithmic in the number of members.
+///
+/// # Errors
+///
+/// `Shape` where the value is no object.
 pub fn member<'a>(value: &'a Value, name: &str) -> Result<Option<&'a Value>, Shape>
     ensures found { IfOk result (λ m. member_of name.now (view value.now)
         ≡ Some (option_map (λ v. view v.now) m)) }
@@ -20,7 +24,11 @@ pub fn member<'a>(value: &'a Value, name: &str) -> Result<Option<&'a Value>, Sha
     }
 }
 
-/// The bytes of a string.
+/// The bytes of a string, in UTF-8 and without its escapes.
+///
+/// # Errors
+///
+/// `Shape` where the value is no string.
 pub fn text(value: &Value) -> Result<&[u8], Shape>
     ensures found { IfOk result (λ bytes. text_of (view value.now) ≡ Some bytes.now) }
     ensures shape { OnErr result (text_of (view value.now) ≡ None) }
@@ -30,6 +38,10 @@ pub fn text(value: &Value) -> Result<&[u8], Shape>
 }
 
 /// A whole number from 0 to 2^64 - 1, written without a sign, a fraction or an exponent.
+///
+/// # Errors
+///
+/// `Shape` where the value is no such number.
 pub fn number(value: &Value) -> Result<u64, Shape>
     ensures found { IfOk result (λ n. number_of (view value.now) ≡ Some n) }
     ensures shape { OnErr result (number_of (view value.now) ≡ None) }
@@ -38,6 +50,10 @@ pub fn number(value: &Value) -> Result<u64, Shape>
 }
 
 /// The entries of an array, in order.
+///
+/// # Errors
+///
+/// `Shape` where the value is no array.
 pub fn array(value: &Value) -> Result<&[Value], Shape>
     ensures found { IfOk result (λ entries. items_of (view value.now)
         ≡ Some (map view entries.now)) }

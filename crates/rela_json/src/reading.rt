@@ -8,8 +8,13 @@ use crate::error::ReadJsonError;
 use serde_json::Value;
 use std::alloc::Global;
 
-/// The value of a JSON text (RFC 8259) in UTF-8, in time linear in its length. Of an object's members of one name the
-/// last one counts. Arrays and objects may nest 127 deep.
+/// The value of a JSON text (RFC 8259) in UTF-8. Of an object's members of one name the last one counts. Arrays and
+/// objects may nest 127 deep. Time: linear in the bytes, and a search among the object's earlier members for each
+/// member; space: linear.
+///
+/// # Errors
+///
+/// `NotJson` where the bytes are no such text; `Memory` where memory runs out.
 pub fn read(alloc: Global, bytes: &[u8]) -> Result<Value, ReadJsonError>
     ensures value { IfOk result (λ v. reading bytes.now ≡ Some (view v)) }
     ensures not_json { IsErrOf result ReadJsonError.NotJson → reading bytes.now ≡ None }
