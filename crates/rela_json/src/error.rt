@@ -5,8 +5,8 @@ ghost use Rattle.std.specs.Prelude.{◌≡◌};
 use std::alloc::{AllocError, AllocFailed};
 use thiserror::Error;
 
-/// The first fault of a JSON file, in the order in which it is walked. Its `row` is the number of the earlier entries
-/// of the kind that is at fault, so that the first entry has row 0.
+/// The first fault of a JSON file, in the order in which it is walked. Its `row` is the number of entries before the
+/// one that the fault lies in, so that the first entry has row 0. The reader of each file says which entries count.
 #[derive(Debug, Clone, Copy, PartialEq, Eq, Error)]
 pub enum LoadError {
     /// The bytes are no JSON text.

@@ -24,7 +24,7 @@ pub fn member<'a>(value: &'a Value, name: &str) -> Result<Option<&'a Value>, Sha
     }
 }
 
-/// The bytes of a string, in UTF-8 and without its escapes.
+/// The bytes of a string, in UTF-8 and with its escapes resolved.
 ///
 /// # Errors
 ///
