@@ -1,4 +1,4 @@
-//! Calls that fail by their number.
+//! Calls that fail by their numbers.
 ghost use Rattle.std.specs.Prelude.{◌≡◌, ◌↔◌, IsTrue};
 ghost use Rattle.rela_io.specs.Calls.{NextFails, no_calls};
 ghost use Rattle.rela_io.specs.Count.{counted};
@@ -6,12 +6,15 @@ ghost use Rattle.rela_io.specs.Count.{counted};
 use crate::errors::Fault;
 use std::marker::Model;
 
-/// Counts the calls on an object, and knows which of them are to fail. A number that reaches
-/// 2^64 - 1 stays there.
+/// Counts the calls on an object and those that failed, and knows which of them are to fail. A
+/// counter that reaches 2^64 - 1 stays there.
 #[derive(Drop)]
 pub struct Calls {
+    /// The numbers of the calls that are to fail, in any order.
     failing: Vec<u64>,
+    /// How many calls were made.
     made: u64,
+    /// How many calls failed.
     faults: u64,
 }
 
@@ -24,7 +27,7 @@ impl Model for Calls {
 }
 
 impl Calls {
-    /// No call yet. Those with these numbers are to fail; the first is 1.
+    /// A count of no calls. Those with these numbers are to fail; the first call has the number 1.
     pub fn new(failing: Vec<u64>) -> Calls
         ensures { result ≡ no_calls failing.items }
     {
@@ -35,7 +38,8 @@ impl Calls {
         }
     }
 
-    /// Counts a call, and says whether it is to fail.
+    /// Counts a call, and says whether it is to fail. Time: linear in the numbers of the calls that
+    /// are to fail.
     pub fn count(&mut self) -> bool
         ensures fails { IsTrue result ↔ NextFails self.old }
         ensures counted { self.new ≡ record self.old { made = counted self.old.made } }
@@ -44,7 +48,7 @@ impl Calls {
         self.failing.contains(&self.made)
     }
 
-    /// Counts a failure.
+    /// Counts a failure, and gives the error for it.
     pub fn fault(&mut self) -> Fault
         ensures counted { self.new ≡ record self.old { faults = counted self.old.faults } }
     {

@@ -12,9 +12,13 @@ use std::{fs, rt};
 /// The files of the system, by their paths. A directory can be opened, and its first read fails.
 #[derive(Drop)]
 pub struct DiskFiles<R: rt::Files> {
+    /// The part of the runtime that opens files.
     rt: R,
+    /// The open file, and `None` where none is open.
     current: Option<R::File>,
+    /// How many bytes were read since the last `open` that succeeded.
     given: u64,
+    /// How many calls failed. A counter that reaches 2^64 - 1 stays there.
     faults: u64,
 }
 

@@ -11,24 +11,28 @@ use std::marker::Model;
 /// A file that stands in memory.
 #[derive(Debug, Drop)]
 pub struct MemoryFile {
-    /// Its name.
+    /// The name that it is opened by.
     pub name: String,
-    /// What a read of it gives.
+    /// What reads of it give, from its start to its end.
     pub bytes: Vec<u8>,
 }
 
 /// Files that stand in memory. Of two files of one name the first counts.
 ///
 /// Each `open`, and each `read` into a slice that isn't empty, is a call. The calls are numbered
-/// from 1, and those with the numbers that `new` was given fail. A number that reaches 2^64 - 1
+/// from 1, and those with the numbers that `new` was given fail. A counter that reaches 2^64 - 1
 /// stays there.
 #[derive(Drop)]
 pub struct MemoryFiles {
+    /// The files. Of two of one name the first counts.
     files: Vec<MemoryFile>,
+    /// How many bytes a read gives at most; at least 1.
     piece: usize,
+    /// Counts the calls, and knows which are to fail.
     calls: Calls,
-    // The index of the open file.
+    /// The index of the open file, and `None` where none is open.
     current: Option<usize>,
+    /// How many bytes were read since the last `open` that succeeded.
     given: usize,
 }
 
@@ -134,7 +138,8 @@ impl Files for MemoryFiles {
     ghost steady_tells_left = { λ _ _ is_open. is_open };
 }
 
-// The index of the first file of this name.
+/// The index of the first file of this name, and `None` where there is none. Time: linear in the
+/// files.
 fn find(files: &[MemoryFile], name: &str) -> Option<usize>
     ensures { MatchOption result
         (held_in (entries_of files.now) name.now ≡ None)

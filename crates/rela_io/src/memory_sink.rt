@@ -9,16 +9,20 @@ use crate::outside::Sink;
 use std::alloc::{AllocError, Global};
 use std::marker::Model;
 
-/// A sink that keeps what it takes, and has room for so many bytes.
+/// A sink that keeps what it takes, and has room for a fixed number of bytes.
 ///
 /// Each write of a piece that isn't empty is a call. The calls are numbered from 1, and those with
-/// the numbers that `new` was given fail, as does a call that finds no room left. A number that
+/// the numbers that `new` was given fail, as does a call that finds no room left. A counter that
 /// reaches 2^64 - 1 stays there.
 #[derive(Drop)]
 pub struct MemorySink {
+    /// The bytes that were taken so far.
     taken: Vec<u8>,
+    /// How many more bytes there is room for.
     room: usize,
+    /// How many bytes a write takes at most; at least 1.
     piece: usize,
+    /// Counts the calls, and knows which are to fail.
     calls: Calls,
 }
 
@@ -33,6 +37,10 @@ impl Model for MemorySink {
 impl MemorySink {
     /// An empty sink with room for `room` bytes, whose memory it takes now. The writes with the
     /// numbers in `failing` fail, and a write takes at most `piece` bytes.
+    ///
+    /// # Errors
+    ///
+    /// Only where memory is wanted.
     pub fn new(
         alloc: Global,
         room: usize,

@@ -27,7 +27,7 @@ pub trait Files {
     /// How many calls have failed.
     ghost faults: { Self → ℕ };
 
-    /// Whether a file that is held never fails.
+    /// Whether only a name that isn't there, or a read with no open file, is a fault.
     ghost steady: { Self → Bool };
 
     /// Opens the file of this name at its start, and closes the one that was open.
@@ -86,9 +86,10 @@ pub trait Files {
     /// Only an open file has a rest.
     ghost left_of_open: { (s : Self) → IsSome (left s) → IsTrue (is_open s) };
 
-    /// Where the files are steady, all of them are told, and the rest of the open one.
+    /// Where the files are steady, all of them are told.
     ghost steady_tells_files: { (s : Self) → IsTrue (steady s) → IsSome (holds s) };
 
+    /// Where the files are steady, what is left of the open one is told.
     ghost steady_tells_left: { (s : Self) → IsTrue (steady s) → IsTrue (is_open s) → IsSome (left s) };
 }
 

@@ -7,11 +7,11 @@ use crate::errors::ReadError;
 use crate::outside::Files;
 use std::alloc::Global;
 
-// How many bytes are asked for at a time.
+/// How many bytes are asked for at a time, at most.
 const PIECE: usize = 65536;
 
-/// Opens a file and reads it to its end, if it has at most `limit` bytes. It asks for one byte
-/// more than `limit`, and for no byte after that.
+/// Opens a file and reads it to its end, if it has at most `limit` bytes. It asks for one byte more
+/// than `limit`, and for no byte after that. Time and space: linear in the bytes that are read.
 ///
 /// # Errors
 ///
@@ -50,7 +50,8 @@ pub fn read_all<F: Files>(
     read_rest(alloc, files, &mut piece, limit)
 }
 
-// Reads the open file to its end, if it has at most `limit` bytes left, a piece at a time.
+/// Reads the open file to its end, if it has at most `limit` bytes, a piece at a time. No byte of
+/// it was read before. The errors are those of [`read_all`], but for a file that can't be opened.
 fn read_rest<F: Files>(
     alloc: Global,
     files: &mut F,

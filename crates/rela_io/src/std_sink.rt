@@ -5,10 +5,12 @@ use crate::errors::Fault;
 use crate::outside::Sink;
 use std::marker::Model;
 
-/// Standard output.
+/// Standard output. Contracts see it as the number of writes that failed.
 #[derive(Drop)]
 pub struct StdSink<P> {
+    /// The part of the runtime that prints.
     rt: P,
+    /// How many writes failed. A counter that reaches 2^64 - 1 stays there.
     faults: u64,
 }
 
@@ -21,7 +23,7 @@ impl<P> Model for StdSink<P> {
 }
 
 impl<P> StdSink<P> {
-    /// The standard output of the runtime. Clauses see how many writes have failed.
+    /// The standard output of the runtime, with no write failed yet.
     pub fn new(rt: P) -> StdSink<P>
         ensures { result ≡ 0 }
     {

@@ -6,7 +6,8 @@ ghost use Rattle.rela_io.specs.Bytes.{after_told, GrewByPart};
 use crate::errors::Fault;
 use crate::outside::Sink;
 
-/// Writes all the bytes, in as many pieces as the sink asks for. It takes no memory.
+/// Writes all the bytes, in as many pieces as the sink takes them in. It takes no memory. Time:
+/// linear in the bytes, and a call for each piece.
 ///
 /// # Errors
 ///
