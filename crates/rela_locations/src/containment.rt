@@ -8,16 +8,24 @@ use crate::pairs::Pair;
 use rela_names::Symbol;
 use std::alloc::{AllocError, Global};
 
-/// For two levels, the outer location of each inner one, and the inner ones of each outer one,
-/// ascending.
+/// For two levels, the outer location of each inner one, and the inner ones of each outer one.
 #[derive(Drop)]
 pub(crate) struct Containment {
+    /// For each inner location, by its symbol, the outer one that it lies in.
     pub(crate) outer: Vec<Symbol>,
+    /// For each outer location, by its symbol, the inner ones that lie in it, ascending.
     pub(crate) inner: Vec<Vec<Symbol>>,
 }
 
 impl Containment {
-    /// What these pairs of an inner and an outer location say, of so many inner and outer ones.
+    /// The containment that these pairs of an inner and an outer location tell, for `inner` inner
+    /// locations and `outer` outer ones. Of the pairs of one inner location the last counts, and
+    /// one without a pair lies in location 0. Time and space: linear in the pairs and the
+    /// locations.
+    ///
+    /// # Errors
+    ///
+    /// Only where memory is wanted.
     pub(crate) fn new(
         alloc: Global,
         pairs: &[Pair],
@@ -39,7 +47,8 @@ impl Containment {
     }
 }
 
-/// The table that has the second symbol of each pair at the first.
+/// The table of `count` entries that has the second symbol of each pair at the first, and 0 where
+/// no pair puts one.
 fn table_of(alloc: Global, pairs: &[Pair], count: usize) -> Result<Vec<Symbol>, AllocError>
     requires { All (λ pair. pair.0 < count) pairs.now }
     ensures { IfOk result (λ table. table.items ≡ with_entries (replicate count 0) pairs.now) }
@@ -52,7 +61,8 @@ fn table_of(alloc: Global, pairs: &[Pair], count: usize) -> Result<Vec<Symbol>, 
     Ok(table)
 }
 
-/// For each possible entry of a table the places that have it, ascending.
+/// For each possible entry of a table, of which there are `count`, the indexes where it stands,
+/// ascending.
 fn places_of(alloc: Global, table: &[Symbol], count: usize) -> Result<Vec<Vec<Symbol>>, AllocError>
     requires few { length table.now ≤ 100000 }
     requires in_range { All (λ entry. entry < count) table.now }
@@ -66,6 +76,7 @@ fn places_of(alloc: Global, table: &[Symbol], count: usize) -> Result<Vec<Vec<Sy
     Ok(lists)
 }
 
+/// `n` empty lists.
 fn empty_lists(alloc: Global, n: usize) -> Result<Vec<Vec<Symbol>>, AllocError>
     ensures { IfOk result (λ lists. map (λ list. list.items) lists.items ≡ replicate n []) }
 {

@@ -17,8 +17,11 @@ use std::marker::Model;
 /// The locations of a network at its three levels, and the tags of its devices.
 #[derive(Drop)]
 pub struct Locations {
+    /// The groups as the file lists them. Only contracts look at them.
     groups: List<GroupEntry>,
+    /// The names of the locations of each level.
     alphabets: Alphabets,
+    /// Which locations lie in which, and the devices with each tag.
     tables: Tables,
 }
 
@@ -40,13 +43,13 @@ impl Locations {
     ghost use Rattle.rela_locations.specs.Network.{alphabet_of, location_of, members_of, is_finer, names_by};
     ghost use Rattle.rela_locations.specs.Load.{Load};
 
-    /// The locations that a file in JSON lists, in time n log n.
+    /// The locations that a file in JSON lists. Time: O(n log n) in its length; space: linear.
     ///
     /// The file is an object with the members `version`, which is 1, and `groups`, an array of
-    /// groups. A group is an object with a `name` and an array `devices`. A device is an object with
-    /// a `name`, an array `interfaces` of names and maybe an array `tags`. Other members count for
-    /// nothing. There are at most 100,000 groups, devices and interfaces each. The name of
-    /// each differs from those of its kind and is neither `drop` nor `loop`; a tag is any name.
+    /// groups. A group is an object with a `name` and an array `devices`. A device is an object
+    /// with a `name`, an array `interfaces` of names and maybe an array `tags`. Other members count
+    /// for nothing. There are at most 100,000 groups, devices and interfaces each. The name of each
+    /// differs from those of its kind and is neither `drop` nor `loop`; a tag is any name.
     ///
     /// # Errors
     ///
@@ -54,11 +57,12 @@ impl Locations {
     /// each its devices in order, and in each device its tags and then its interfaces; `Memory`.
     ///
     /// `WrongShape` has the number of the rule that is broken: 1 the file is an object, 2 its
-    /// `version` is a whole number, 3 its `groups` are an array, 4 a group is an object, 5 its `name`
-    /// is a string, 6 its `devices` are an array, 7 a device is an object, 8 its `name` is a string,
-    /// 9 its `tags`, if there, are an array, 10 a tag is a string, 11 its `interfaces` are an array,
-    /// 12 an interface is a string. The row counts the earlier entries of the same kind in the whole
-    /// file: of groups for the rules 4 to 6, of devices for 7 to 11, of interfaces for 12.
+    /// `version` is a whole number, 3 its `groups` are an array, 4 a group is an object, 5 its
+    /// `name` is a string, 6 its `devices` are an array, 7 a device is an object, 8 its `name` is a
+    /// string, 9 its `tags`, if there, are an array, 10 a tag is a string, 11 its `interfaces` are
+    /// an array, 12 an interface is a string. The row counts the earlier entries of the same kind
+    /// in the whole file: of groups for the rules 4 to 6, of devices for 7 to 11, of interfaces for
+    /// 12.
     ///
     /// `TooMany` comes before the shape of an entry, and `BadVersion` after that of the version.
     /// After the shape of a name come `BadName`, `ReservedName` and `RepeatedEntry`, in this order.
@@ -79,7 +83,7 @@ impl Locations {
         })
     }
 
-    /// The locations of a level.
+    /// The alphabet of a level: its locations, in the order of their names by bytes.
     pub fn alphabet(&self, level: Level) -> &Alphabet
         ensures { result.now ≡ alphabet_of level self.now }
     {
@@ -90,8 +94,7 @@ impl Locations {
         }
     }
 
-    /// The interface of this name, and `None` where no interface has it. It takes expected constant
-    /// time.
+    /// The interface of this name, and `None` where no interface has it. Time: expected constant.
     pub fn interface(&self, name: &[u8]) -> Option<Symbol>
         ensures found { (s : ℕ) → (result ≡ Some s) ↔ (slice_get (alphabet_of levels.Interface self.now) s ≡ Some name.now) }
         ensures absent { IfNone result (All (λ other. other ≢ name.now) (alphabet_of levels.Interface self.now)) }
@@ -99,7 +102,7 @@ impl Locations {
         self.alphabets.interfaces.find(name)
     }
 
-    /// The location of a level in which an interface lies, in constant time.
+    /// The location of a level in which an interface lies. Time: constant.
     pub fn lift(&self, interface: Symbol, level: Level) -> Symbol
         requires { interface < length (alphabet_of levels.Interface self.now) }
         ensures lifted { result ≡ location_of level self.now interface }
@@ -113,13 +116,14 @@ impl Locations {
     }
 
     /// The locations of a level that lie in the named location, or in a device with the named tag,
-    /// ascending. It takes a look-up by hash and time linear in the answer; for a tag it takes a
-    /// look-up by binary search, and sorts the answer.
+    /// ascending. Time: a look-up by hash, and linear in the answer; for a tag a search in an
+    /// ordered map, and a sort of the answer.
     ///
     /// # Errors
     ///
     /// `Finer` where what the name picks is finer than the level, a tag counting as a device; else
-    /// `Unknown` where no such location is there, or no device carries the tag; `Memory`.
+    /// `Unknown` where no such location is there, or no device carries the tag; `Memory` where
+    /// memory runs out.
     pub fn members(
         &self,
         alloc: Global,
@@ -140,7 +144,8 @@ impl Locations {
     }
 
     /// Sees that a name picks locations of a level, by a look-up alone: where it does, `members`
-    /// lists them, and where it does not, `members` refuses for the same reason.
+    /// lists them, and where it does not, `members` refuses for the same reason. Time: expected
+    /// constant, and for a tag a search in an ordered map.
     ///
     /// # Errors
     ///
@@ -173,6 +178,7 @@ impl Locations {
         }
     }
 
+    /// The answer of [`members`](Locations::members) for the name of an interface.
     fn in_interface(
         &self,
         alloc: Global,
@@ -189,6 +195,7 @@ impl Locations {
         }
     }
 
+    /// The answer of [`members`](Locations::members) for the name of a device.
     fn in_device(
         &self,
         alloc: Global,
@@ -210,6 +217,7 @@ impl Locations {
         }
     }
 
+    /// The answer of [`members`](Locations::members) for the name of a group.
     fn in_group(&self, alloc: Global, level: Level, name: &Name) -> Result<Vec<Symbol>, MemberError>
         ensures members { IfOk result (λ symbols. symbols.items ≡ members_of level bys.Group name.now self.now) }
         ensures finer { IsErrOf result MemberError.Finer ↔ IsTrue (is_finer bys.Group level) }
@@ -229,6 +237,7 @@ impl Locations {
         }
     }
 
+    /// The answer of [`members`](Locations::members) for a tag.
     fn in_tagged(
         &self,
         alloc: Global,

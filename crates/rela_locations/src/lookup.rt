@@ -1,4 +1,4 @@
-//! Look-ups of the members of a named location.
+//! Look-ups of the members of a named location or of a tag.
 
 ghost use Rattle.std.specs.Prelude.{◌≡◌, ◌≢◌, ◌<◌, ℕ, [], ◌∷◌, true, false, Err, length, map, slice_index_or, is_some, IfOk, OnOk, OnErr, IsErrOf, ◌↔◌};
 ghost use Rattle.std.specs.BTreeMap.{get};
@@ -16,6 +16,10 @@ use rela_names::{Name, Symbol};
 use std::alloc::{AllocError, Global};
 
 /// The location of this name, as its only member.
+///
+/// # Errors
+///
+/// `Unknown` where no location has the name; `Memory`. Never `Finer`.
 pub(crate) fn itself(
     alloc: Global,
     alphabet: &NameIndex,
@@ -30,7 +34,12 @@ pub(crate) fn itself(
     Ok(vec![in alloc; symbol]?)
 }
 
-/// The list of the location of this name.
+/// A copy of the list that belongs to the location of this name. `lists` has one for each location,
+/// by its symbol.
+///
+/// # Errors
+///
+/// `Unknown` where no location has the name; `Memory`. Never `Finer`.
 pub(crate) fn inside(
     alloc: Global,
     alphabet: &NameIndex,
@@ -47,7 +56,11 @@ pub(crate) fn inside(
     Ok(Vec::from_slice(alloc, lists[symbol as usize].as_slice())?)
 }
 
-/// The devices with this tag.
+/// The devices with this tag, ascending.
+///
+/// # Errors
+///
+/// `Unknown` where no device carries the tag; `Memory`. Never `Finer`.
 pub(crate) fn devices_with(
     alloc: Global,
     tagged: &Tagged,
@@ -66,7 +79,12 @@ pub(crate) fn devices_with(
     Ok(ascending(members))
 }
 
-/// The interfaces of the devices with this tag.
+/// The interfaces of the devices with this tag, ascending. `lists` has the interfaces of each
+/// device, by its symbol.
+///
+/// # Errors
+///
+/// `Unknown` where no device carries the tag; `Memory`. Never `Finer`.
 pub(crate) fn interfaces_with(
     alloc: Global,
     tagged: &Tagged,
@@ -87,7 +105,7 @@ pub(crate) fn interfaces_with(
     Ok(ascending(members))
 }
 
-/// The lists at these places, one after another.
+/// The lists at these indexes, one after another.
 fn joined(
     alloc: Global,
     lists: &[Vec<Symbol>],
@@ -103,7 +121,7 @@ fn joined(
     Ok(all)
 }
 
-/// The same symbols, ascending and each once.
+/// The same symbols, ascending and each once. Time: O(n log n); no memory is taken.
 fn ascending(symbols: Vec<Symbol>) -> Vec<Symbol>
     ensures rising { IsStrictlySortedBy nat_cmp result.items }
     ensures same { (n : ℕ) → has_number result.items n ≡ has_number symbols.items n }
@@ -121,7 +139,7 @@ pub(crate) fn has(alphabet: &NameIndex, name: &Name) -> bool
     find(alphabet, name).is_ok()
 }
 
-/// The symbol of a name.
+/// The symbol of a name, or `Unknown` where no location has it.
 fn find(alphabet: &NameIndex, name: &Name) -> Result<Symbol, MemberError>
     ensures found { IfOk result (λ symbol. symbol ≡ index_of alphabet.now name.now) }
     ensures known { OnOk result (has_name alphabet.now name.now ≡ true) }

@@ -1,4 +1,4 @@
-//! What may be asked of a network's parts.
+//! What the members of a network may be asked for by.
 
 ghost use Rattle.std.specs.Prelude.{◌≡◌};
 ghost use Rattle.rela_locations.specs.Network.{is_finer};
@@ -10,13 +10,17 @@ use thiserror::Error;
 /// What a name picks: a location of a level, or the devices with a tag.
 #[derive(Clone, Copy, PartialEq, Eq, Hash, Debug)]
 pub enum By {
+    /// The interface of the name.
     Interface,
+    /// The device of the name.
     Device,
+    /// The group of the name.
     Group,
+    /// The devices that carry the name as a tag.
     Tag,
 }
 
-/// Whether what is asked by is finer than the level. A tag counts as a device.
+/// Whether what the name picks is finer than the level. A tag counts as a device.
 pub(crate) fn is_finer(by: By, level: Level) -> bool
     ensures { result ≡ is_finer by level }
 {
@@ -27,10 +31,10 @@ pub(crate) fn is_finer(by: By, level: Level) -> bool
     }
 }
 
-/// Why no members are given.
+/// Why no members of a level are given.
 #[derive(Debug, Drop, Error)]
 pub enum MemberError {
-    /// What is asked by is finer than the level. A tag counts as a device.
+    /// What the name picks is finer than the level. A tag counts as a device.
     #[error("finer than the level")]
     Finer,
     /// No such location is there, or no device carries the tag.

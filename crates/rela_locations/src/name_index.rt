@@ -8,11 +8,13 @@ use rela_names::{Alphabet, Symbol};
 use std::alloc::{AllocError, Global};
 use std::marker::Model;
 
-/// The locations of a level, found by a hash of their names. Contracts see it as the list of the names,
-/// as they see the alphabet.
+/// The locations of a level, found by a hash of their names. Contracts see it as the list of the
+/// names, as they see the alphabet.
 #[derive(Drop)]
 pub(crate) struct NameIndex {
+    /// The alphabet of the level.
     alphabet: Alphabet,
+    /// The bytes of the same names, hashed. The index of a name is its symbol.
     names: IndexSet<Vec<u8>>,
 }
 
@@ -28,7 +30,12 @@ impl Model for NameIndex {
 }
 
 impl NameIndex {
-    /// The index of an alphabet's locations.
+    /// The index of an alphabet's locations. Time: expected linear in the bytes of the names;
+    /// space: linear.
+    ///
+    /// # Errors
+    ///
+    /// Only where memory is wanted.
     pub(crate) fn new(alloc: Global, alphabet: Alphabet) -> Result<NameIndex, AllocError>
         ensures { IfOk result (λ index. index ≡ alphabet) }
     {
@@ -42,14 +49,14 @@ impl NameIndex {
         Ok(NameIndex { alphabet, names })
     }
 
-    /// The alphabet itself.
+    /// The alphabet of the level.
     pub(crate) fn alphabet(&self) -> &Alphabet
         ensures { result.now ≡ self.now }
     {
         &self.alphabet
     }
 
-    /// The location of this name, and `None` where no location has it, in expected constant time.
+    /// The location of this name, and `None` where no location has it. Time: expected constant.
     pub(crate) fn find(&self, name: &[u8]) -> Option<Symbol>
         ensures found { (s : ℕ) → (result ≡ Some s) ↔ (slice_get self.now s ≡ Some name.now) }
         ensures absent { IfNone result (All (λ other. other ≢ name.now) self.now) }

@@ -13,6 +13,7 @@ use std::marker::Model;
 /// The names of all entries of one kind so far, in the order of their bytes.
 #[derive(Drop)]
 pub(crate) struct NameSet {
+    /// The names, of which each may be that of a location.
     names: BTreeSet<Name>,
 }
 
@@ -28,6 +29,7 @@ impl Model for NameSet {
 }
 
 impl NameSet {
+    /// The set of no names.
     pub(crate) fn new(alloc: Global) -> NameSet
         ensures { result ≡ [] }
     {
@@ -36,11 +38,11 @@ impl NameSet {
         }
     }
 
-    /// The row of the next entry: how many there are.
+    /// The row of the next entry, which is the number of names so far.
     ///
     /// # Errors
     ///
-    /// `TooMany` where there may be no more.
+    /// `TooMany` with that row where there are 100,000 names.
     pub(crate) fn next_row(&self) -> Result<u32, LoadError>
         ensures { result ≡ next_row self.now }
     {
@@ -52,11 +54,13 @@ impl NameSet {
         }
     }
 
-    /// The name of these bytes, which is added.
+    /// The name of these bytes, which is added to the set. `row` is that of the entry, for the
+    /// errors. Time: a search in an ordered set.
     ///
     /// # Errors
     ///
-    /// `BadName`; `ReservedName`; `RepeatedEntry` where it is there; `Memory`.
+    /// `BadName` where the bytes are no name; else `ReservedName` where no location may have it;
+    /// else `RepeatedEntry` where an earlier entry has it; `Memory`.
     pub(crate) fn add(&mut self, alloc: Global, bytes: &[u8], row: u32) -> Result<Name, LoadError>
         requires { length self.old < 100000 }
         ensures name { IfOk result (λ name. new_name self.old row bytes.now ≡ Ok name) }
@@ -71,7 +75,11 @@ impl NameSet {
         Ok(name)
     }
 
-    /// The names as an alphabet.
+    /// The names as an alphabet. Time: linear in their number.
+    ///
+    /// # Errors
+    ///
+    /// Only where memory is wanted.
     pub(crate) fn into_alphabet(self, alloc: Global) -> Result<Alphabet, AllocError>
         ensures { IfOk result (λ alphabet. alphabet ≡ self) }
     {
@@ -81,6 +89,12 @@ impl NameSet {
     }
 }
 
+/// The name of these bytes, which a location may have. `row` is that of the entry, for the errors.
+///
+/// # Errors
+///
+/// `BadName` where the bytes are no name; else `ReservedName` where they are `drop` or `loop`;
+/// `Memory`.
 fn location_name(alloc: Global, bytes: &[u8], row: u32) -> Result<Name, LoadError>
     ensures name { IfOk result (λ name. location_name row bytes.now ≡ Ok name) }
     ensures same { IfOk result (λ name. name ≡ bytes.now) }

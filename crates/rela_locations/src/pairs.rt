@@ -1,4 +1,4 @@
-//! Which locations lie in which: the symbols of locations, each with that of a location round it.
+//! Which locations lie in which, as pairs of symbols that are read off the groups of a file.
 
 ghost use Rattle.std.specs.Prelude.{◌≡◌, ◌++◌, IsTrue, IfOk, map};
 ghost use Rattle.rela_locations.specs.Names.{has_name};
@@ -11,10 +11,11 @@ use crate::network::{DeviceEntry, GroupEntry};
 use rela_names::{Name, Symbol};
 use std::alloc::{AllocError, Global};
 
-/// A location and one round it.
+/// A location, and the one of a coarser level that it lies in.
 pub(crate) type Pair = (Symbol, Symbol);
 
-/// The interfaces with their devices.
+/// Each interface with its device, in the order of the file. Time: expected linear in the
+/// interfaces and devices.
 pub(crate) fn interfaces_with_devices(
     alloc: Global,
     alphabets: &Alphabets,
@@ -36,6 +37,7 @@ pub(crate) fn interfaces_with_devices(
     Ok(pairs)
 }
 
+/// Adds each interface of these devices with its device.
 fn add_interfaces(
     pairs: &mut Vec<Pair>,
     interfaces: &NameIndex,
@@ -53,7 +55,8 @@ fn add_interfaces(
     Ok(())
 }
 
-/// The interfaces with their groups.
+/// Each interface with its group, in the order of the file. Time: expected linear in the interfaces
+/// and groups.
 pub(crate) fn interfaces_with_groups(
     alloc: Global,
     alphabets: &Alphabets,
@@ -76,6 +79,7 @@ pub(crate) fn interfaces_with_groups(
     Ok(pairs)
 }
 
+/// Adds each interface of these devices with the group.
 fn add_all_interfaces(
     pairs: &mut Vec<Pair>,
     interfaces: &NameIndex,
@@ -91,6 +95,7 @@ fn add_all_interfaces(
     Ok(())
 }
 
+/// Adds each location of these names with `parent`, the location that it lies in.
 fn add_each(
     pairs: &mut Vec<Pair>,
     alphabet: &NameIndex,
@@ -106,7 +111,8 @@ fn add_each(
     Ok(())
 }
 
-/// The devices with their groups.
+/// Each device with its group, in the order of the file. Time: expected linear in the devices and
+/// groups.
 pub(crate) fn devices_with_groups(
     alloc: Global,
     alphabets: &Alphabets,
@@ -129,6 +135,7 @@ pub(crate) fn devices_with_groups(
     Ok(pairs)
 }
 
+/// Adds each of these devices with the group.
 fn add_devices(
     pairs: &mut Vec<Pair>,
     alphabet: &NameIndex,
@@ -144,7 +151,7 @@ fn add_devices(
     Ok(())
 }
 
-/// The symbol of a name that is there.
+/// The symbol of the location of this name, which the index has. Time: expected constant.
 pub(crate) fn symbol_of(alphabet: &NameIndex, name: &Name) -> Symbol
     requires { IsTrue (has_name alphabet.now name.now) }
     ensures { result ≡ index_of alphabet.now name.now }

@@ -1,4 +1,4 @@
-//! Which locations lie in which, by their symbols.
+//! The tables of a network: which locations lie in which, and the devices with each tag.
 
 ghost use Rattle.std.specs.Prelude.{◌≡◌, ◌≤◌, length, IfOk};
 ghost use Rattle.rela_names.specs.Name.{IsAscending};
@@ -13,17 +13,26 @@ use crate::pairs::{devices_with_groups, interfaces_with_devices, interfaces_with
 use crate::tags::{Tagged, tagged_devices};
 use std::alloc::{AllocError, Global};
 
-/// Which locations lie in which, by their symbols.
+/// Which locations lie in which, and the devices with each tag, by their symbols.
 #[derive(Drop)]
 pub(crate) struct Tables {
+    /// Which interfaces lie in which devices.
     pub(crate) interfaces_in_devices: Containment,
+    /// Which interfaces lie in which groups.
     pub(crate) interfaces_in_groups: Containment,
+    /// Which devices lie in which groups.
     pub(crate) devices_in_groups: Containment,
+    /// The devices with each tag.
     pub(crate) tagged: Tagged,
 }
 
 impl Tables {
-    /// The tables of these groups.
+    /// The tables of these groups, whose names the alphabets have. Time: expected linear in the
+    /// locations, and a search in an ordered map for each tag of a device; space: linear.
+    ///
+    /// # Errors
+    ///
+    /// Only where memory is wanted.
     pub(crate) fn new(
         alloc: Global,
         alphabets: &Alphabets,
@@ -42,6 +51,7 @@ impl Tables {
     }
 }
 
+/// Which interfaces lie in which devices.
 fn interfaces_in_devices(
     alloc: Global,
     alphabets: &Alphabets,
@@ -57,6 +67,7 @@ fn interfaces_in_devices(
     Containment::new(alloc, pairs.as_slice(), inner, outer)
 }
 
+/// Which interfaces lie in which groups.
 fn interfaces_in_groups(
     alloc: Global,
     alphabets: &Alphabets,
@@ -72,6 +83,7 @@ fn interfaces_in_groups(
     Containment::new(alloc, pairs.as_slice(), inner, outer)
 }
 
+/// Which devices lie in which groups.
 fn devices_in_groups(
     alloc: Global,
     alphabets: &Alphabets,
@@ -87,7 +99,7 @@ fn devices_in_groups(
     Containment::new(alloc, pairs.as_slice(), inner, outer)
 }
 
-/// How many locations there are.
+/// How many locations the level has.
 fn count_of(alphabet: &NameIndex) -> usize
     ensures count { result ≡ length alphabet.now }
     ensures ascending { IsAscending alphabet.now }

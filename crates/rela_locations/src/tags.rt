@@ -16,10 +16,15 @@ use rela_names::{Name, Symbol};
 use std::alloc::{AllocError, Global};
 use std::collections::BTreeMap;
 
-/// The devices with each tag, in no order.
+/// The symbols of the devices with each tag, in no particular order.
 pub(crate) type Tagged = BTreeMap<Name, Vec<Symbol>>;
 
-/// The devices with each tag that these groups have.
+/// The devices with each tag that these groups have. Time: a search in an ordered map for each tag
+/// of a device.
+///
+/// # Errors
+///
+/// Only where memory is wanted.
 pub(crate) fn tagged_devices(
     alloc: Global,
     devices: &NameIndex,
@@ -35,6 +40,7 @@ pub(crate) fn tagged_devices(
     Ok(tagged)
 }
 
+/// Adds each of these devices to those with its tags.
 fn add_devices(
     alloc: Global,
     tagged: &mut Tagged,
@@ -52,6 +58,7 @@ fn add_devices(
     Ok(())
 }
 
+/// Adds a device to those with each of these tags.
 fn add_tags(
     alloc: Global,
     tagged: &mut Tagged,
@@ -67,6 +74,8 @@ fn add_tags(
     Ok(())
 }
 
+/// Adds a device to those with the tag. A tag that the device repeats adds it once, since all tags
+/// of a device come before those of the next.
 fn add_tag(alloc: Global, tagged: &mut Tagged, tag: &Name, device: Symbol) -> Result<(), AllocError>
     ensures with_tag { OnOk result ((t : List ℕ) (n : ℕ) → has_number (devices_for tagged.new t) n ≡ (has_number (devices_for tagged.old t) n || (bytes_eq t tag.now && (device == n)))) }
     ensures tags { OnOk result ((t : List ℕ) → is_some (get bytes_cmp tagged.new t) ≡ (is_some (get bytes_cmp tagged.old t) || bytes_eq t tag.now)) }

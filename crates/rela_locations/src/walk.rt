@@ -18,16 +18,23 @@ use rela_json::{LoadError, Value};
 use rela_names::{List, Name, NameError};
 use std::alloc::{AllocError, Global};
 
-/// The names that a walk has come by.
+/// The names that a walk has come by, at each level.
 #[derive(Drop)]
 pub(crate) struct Seen {
+    /// The names of the groups so far.
     pub(crate) groups: NameSet,
+    /// The names of the devices so far, in all groups.
     pub(crate) devices: NameSet,
+    /// The names of the interfaces so far, in all devices.
     pub(crate) interfaces: NameSet,
 }
 
 impl Seen {
     /// The names as alphabets with their indexes.
+    ///
+    /// # Errors
+    ///
+    /// Only where memory is wanted.
     pub(crate) fn into_alphabets(self, alloc: Global) -> Result<Alphabets, AllocError>
         ensures interfaces { IfOk result (λ alphabets. alphabets.interfaces ≡ self.interfaces) }
         ensures devices { IfOk result (λ alphabets. alphabets.devices ≡ self.devices) }
@@ -47,6 +54,10 @@ impl Seen {
 }
 
 /// The groups of a file, and the names of all that is in them.
+///
+/// # Errors
+///
+/// The first fault of the walk, as [`Locations::decode`](crate::Locations::decode) tells it.
 pub(crate) fn read_network(
     alloc: Global,
     root: &Value,
@@ -71,6 +82,8 @@ pub(crate) fn read_network(
     Ok((groups, seen))
 }
 
+/// The groups of these entries, whose names and whose devices' and interfaces' names are added to
+/// `seen`.
 fn read_groups(
     alloc: Global,
     seen: &mut Seen,
@@ -90,6 +103,8 @@ fn read_groups(
     Ok(groups)
 }
 
+/// The group of this entry, whose name and whose devices' and interfaces' names are added to
+/// `seen`.
 fn read_group(alloc: Global, seen: &mut Seen, value: &Value) -> Result<GroupEntry, LoadError>
     ensures group { IfOk result (λ group. load_group seen.old.groups seen.old.devices seen.old.interfaces (view value.now) ≡ Ok group) }
     ensures seen_groups { IfOk result (λ group. seen.new.groups ≡ with_name seen.old.groups group.name) }
@@ -109,6 +124,8 @@ fn read_group(alloc: Global, seen: &mut Seen, value: &Value) -> Result<GroupEntr
     })
 }
 
+/// The devices of these entries. Their names are added to `seen`, and those of their interfaces to
+/// `seen_interfaces`.
 fn read_devices(
     alloc: Global,
     seen: &mut NameSet,
@@ -128,6 +145,8 @@ fn read_devices(
     Ok(devices)
 }
 
+/// The device of this entry. Its name is added to `seen`, and those of its interfaces to
+/// `seen_interfaces`.
 fn read_device(
     alloc: Global,
     seen: &mut NameSet,
@@ -153,6 +172,8 @@ fn read_device(
     })
 }
 
+/// The tags of a device, of which there are none where the member is missing. `row` is that of the
+/// device.
 fn read_tags(alloc: Global, tags: Option<&Value>, row: u32) -> Result<Vec<Name>, LoadError>
     ensures names { IfOk result (λ names. load_tags row (option_map (λ v. view v.now) tags.entry) ≡ Ok names.items) }
     ensures fault { IfErr result (λ e. e ≢ LoadError.Memory → load_tags row (option_map (λ v. view v.now) tags.entry) ≡ Err e) }
@@ -169,6 +190,7 @@ fn read_tags(alloc: Global, tags: Option<&Value>, row: u32) -> Result<Vec<Name>,
     Ok(tags)
 }
 
+/// The tag of this entry, which is any name. `row` is that of the device.
 fn read_tag(alloc: Global, value: &Value, row: u32) -> Result<Name, LoadError>
     ensures tag { IfOk result (λ tag. load_tag row (view value.now) ≡ Ok tag) }
     ensures fault { IfErr result (λ e. e ≢ LoadError.Memory → load_tag row (view value.now) ≡ Err e) }
@@ -180,6 +202,7 @@ fn read_tag(alloc: Global, value: &Value, row: u32) -> Result<Name, LoadError>
     }
 }
 
+/// The names of the interfaces of these entries, which are added to `seen`.
 fn read_interfaces(
     alloc: Global,
     seen: &mut NameSet,
@@ -197,6 +220,7 @@ fn read_interfaces(
     Ok(interfaces)
 }
 
+/// The name of the interface of this entry, which is added to `seen`.
 fn read_interface(alloc: Global, seen: &mut NameSet, value: &Value) -> Result<Name, LoadError>
     ensures name { IfOk result (λ name. load_interface seen.old (view value.now) ≡ Ok name) }
     ensures seen { IfOk result (λ name. seen.new ≡ with_name seen.old name) }
