@@ -16,23 +16,30 @@ use rela_json::{LoadError, Value};
 use rela_names::{Name, NameError};
 use std::alloc::Global;
 
-/// The name of a class that a file leaves out.
+/// The name of the class of a flow whose file leaves it out.
 const DEFAULT_CLASS: &[u8] = b"default";
 
-/// The family of an address.
+/// The family of an address or a prefix.
 #[derive(Clone, Copy, PartialEq, Eq, Debug)]
 pub(crate) enum Family {
+    /// Addresses of 32 bits.
     Ipv4,
+    /// Addresses of 128 bits.
     Ipv6,
 }
 
-/// The prefix of all IPv4 addresses.
+/// The text of the prefix of all IPv4 addresses.
 const ALL_IPV4: &[u8] = b"0.0.0.0/0";
 
-/// The prefix of all IPv6 addresses.
+/// The text of the prefix of all IPv6 addresses.
 const ALL_IPV6: &[u8] = b"::/0";
 
 /// The name of the next flow, which goes into the table, and which no earlier flow has.
+///
+/// # Errors
+///
+/// `WrongShape` where the flow is no object or its name no string; else `BadName` where it is not 1
+/// to 64 name bytes; else `RepeatedEntry` where an earlier flow has it; `Memory`.
 #[tactic(auto, unfolding(crate::specs::Class::flow_name_of, crate::specs::Class::new_name_of))]
 pub(crate) fn read_name<'a>(
     alloc: Global,
@@ -56,6 +63,11 @@ pub(crate) fn read_name<'a>(
 }
 
 /// Where a flow goes. Version 1 reads no IPv6 prefix.
+///
+/// # Errors
+///
+/// `WrongShape` where the `dst` is missing or no string; else `BadPrefix` where it writes no prefix
+/// that the version reads.
 pub(crate) fn read_dst(value: &Value, version: Version, row: u32) -> Result<Prefix, LoadError>
     ensures { IsAnswer (IsDst version row (view value.now)) result }
 {
@@ -63,7 +75,13 @@ pub(crate) fn read_dst(value: &Value, version: Version, row: u32) -> Result<Pref
     prefix_of(text, family_in(version), row)
 }
 
-/// Where a flow comes from: a prefix of the family of `dst`, all of that family where none is given.
+/// Where a flow comes from: a prefix of the family of `dst`, all of that family where none is
+/// given.
+///
+/// # Errors
+///
+/// `WrongShape` where the `src` is there and no string; else `BadPrefix` where it writes no prefix
+/// of that family.
 pub(crate) fn read_src(
     value: &Value,
     dst: &Prefix,
@@ -77,6 +95,7 @@ pub(crate) fn read_src(
     prefix_of(text, Some(family), row)
 }
 
+/// The text of a flow's `dst`, or `WrongShape`.
 #[tactic(auto, unfolding(crate::specs::Class::dst_text_of))]
 fn dst_text(value: &Value, rules: FlowRules, row: u32) -> Result<&[u8], LoadError>
     ensures text { IfOk result (λ text. spec.dst_text_of rules row (view value.now) ≡ Ok text.now) }
@@ -85,6 +104,7 @@ fn dst_text(value: &Value, rules: FlowRules, row: u32) -> Result<&[u8], LoadErro
     string(part(value, "dst", rules.flow, row)?, rules.dst, row)
 }
 
+/// The text of a flow's `src`, or else that of all addresses of the family; or `WrongShape`.
 #[tactic(auto, unfolding(crate::specs::Class::src_text_of))]
 fn src_text(value: &Value, family: Family, rules: FlowRules, row: u32) -> Result<&[u8], LoadError>
     ensures text { IfOk result (λ text. spec.src_text_of rules row family (view value.now) ≡ Ok text.now) }
@@ -96,7 +116,7 @@ fn src_text(value: &Value, family: Family, rules: FlowRules, row: u32) -> Result
     }
 }
 
-/// The prefix of all addresses of a family.
+/// The text of the prefix of all addresses of a family.
 fn whole_family(family: Family) -> &'static [u8]
     ensures { result.now ≡ spec.whole_family family }
 {
@@ -106,7 +126,11 @@ fn whole_family(family: Family) -> &'static [u8]
     }
 }
 
-/// The prefix that a text writes, of the family that is wanted, if one is.
+/// The prefix that a text writes, of the family that is wanted, and of any where none is.
+///
+/// # Errors
+///
+/// `BadPrefix` where the text writes no such prefix.
 #[tactic(auto, unfolding(crate::specs::Class::IsPrefixOf))]
 fn prefix_of(text: &[u8], wanted: Option<Family>, row: u32) -> Result<Prefix, LoadError>
     ensures { IsAnswer (spec.IsPrefixOf wanted row text.now) result }
@@ -120,7 +144,7 @@ fn prefix_of(text: &[u8], wanted: Option<Family>, row: u32) -> Result<Prefix, Lo
     Ok(prefix)
 }
 
-/// The family that a version holds alone, if it does.
+/// The family that a version holds alone, and `None` where it holds both.
 fn family_in(version: Version) -> Option<Family>
     ensures { result ≡ spec.family_in version }
 {
@@ -130,6 +154,7 @@ fn family_in(version: Version) -> Option<Family>
     }
 }
 
+/// The family of a prefix.
 fn family_of(prefix: &Prefix) -> Family
     ensures { result ≡ spec.family_of prefix.now }
 {
@@ -139,6 +164,7 @@ fn family_of(prefix: &Prefix) -> Family
     }
 }
 
+/// Whether a prefix is of the family that is wanted, as each is where none is.
 fn is_wanted(wanted: Option<Family>, prefix: &Prefix) -> bool
     ensures { result ≡ spec.is_wanted wanted prefix.now }
 {
@@ -150,7 +176,12 @@ fn is_wanted(wanted: Option<Family>, prefix: &Prefix) -> bool
     }
 }
 
-/// How a flow is treated: the name of its class.
+/// How a flow is treated: the name of its class, which is `default` where the file leaves it out.
+///
+/// # Errors
+///
+/// `WrongShape` where the `class` is there and no string; else `BadName` where it is not 1 to 64
+/// name bytes; `Memory`.
 #[tactic(auto, unfolding(crate::specs::Class::class_of))]
 pub(crate) fn read_class(
     alloc: Global,
@@ -164,6 +195,8 @@ pub(crate) fn read_class(
     class_name(alloc, part(value, "class", rules.flow, row)?, rules, row)
 }
 
+/// The name of a class, from the member that may be missing. The errors are those of
+/// [`read_class`].
 #[tactic(auto, unfolding(crate::specs::Class::class_name_of))]
 fn class_name(
     alloc: Global,
@@ -181,6 +214,10 @@ fn class_name(
 }
 
 /// The name of these bytes.
+///
+/// # Errors
+///
+/// `BadName` where they are not 1 to 64 name bytes; `Memory`.
 #[tactic(auto, unfolding(crate::specs::Class::name_of))]
 pub(crate) fn name_of(alloc: Global, bytes: &[u8], row: u32) -> Result<Name, LoadError>
     ensures name { IfOk result (λ name. spec.name_of row bytes.now ≡ Ok name) }

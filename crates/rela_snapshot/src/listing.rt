@@ -14,14 +14,18 @@ use rela_names::{Level, Symbol};
 use std::alloc::{AllocError, Global};
 use std::marker::Model;
 
-/// The nodes of a graph in order, and the places of nodes that its edges join and that its lists
-/// name.
+/// The nodes of a graph in order, and the edges and lists that name them by their indexes.
 #[derive(Drop)]
 pub(crate) struct Listing {
+    /// The nodes, in the order of the file.
     pub(crate) nodes: Vec<Node>,
+    /// The edges, by the indexes of their two nodes.
     pub(crate) edges: Vec<Link>,
+    /// The indexes of the nodes where a walk may begin, as listed.
     pub(crate) starts: Vec<u32>,
+    /// The indexes of the nodes that deliver the traffic, as listed.
     pub(crate) delivered: Vec<u32>,
+    /// The indexes of the nodes that drop the traffic, as listed.
     pub(crate) dropped: Vec<u32>,
 }
 
@@ -39,7 +43,11 @@ impl Model for Listing {
 }
 
 impl Listing {
-    /// The graph that is listed.
+    /// The graph that is listed. Repetitions count once.
+    ///
+    /// # Errors
+    ///
+    /// Only where memory is wanted.
     pub(crate) fn into_graph(self, alloc: Global) -> Result<Graph, AllocError>
         ensures { IfOk result (IsGraphOf self) }
     {
@@ -61,7 +69,7 @@ impl Listing {
     }
 }
 
-/// The symbol of the interface of this name.
+/// The symbol of the interface of this name, and `None` where no interface has it.
 #[tactic(auto, unfolding(crate::specs::Interfaces::interfaces_in))]
 fn interface_at(locations: &Locations, name: &[u8]) -> Option<Symbol>
     ensures place { result ≡ place_of (interfaces_in locations.now) name.now }
@@ -71,6 +79,10 @@ fn interface_at(locations: &Locations, name: &[u8]) -> Option<Symbol>
 }
 
 /// The node at the interface of this name.
+///
+/// # Errors
+///
+/// `UnknownLocation` where no interface has it.
 #[tactic(auto, unfolding(crate::specs::Nodes::node_at))]
 pub(crate) fn node_at(locations: &Locations, name: &[u8], row: u32) -> Result<Node, LoadError>
     ensures node { IfOk result (λ node. spec.node_at locations.now row name.now ≡ Ok node) }
@@ -81,7 +93,7 @@ pub(crate) fn node_at(locations: &Locations, name: &[u8], row: u32) -> Result<No
     Ok(node_in(locations, interface))
 }
 
-/// The node at this interface.
+/// The node at this interface, with the device and the group that it lies in.
 #[tactic(auto, unfolding(crate::specs::Nodes::node_in, crate::specs::Interfaces::interfaces_in))]
 fn node_in(locations: &Locations, interface: Symbol) -> Node
     requires location { interface < length (interfaces_in locations.now) }

@@ -11,6 +11,7 @@ use std::marker::Model;
 /// Names in the order in which they came, each once. Contracts see it as the list of them.
 #[derive(Drop)]
 pub(crate) struct NameTable<'a> {
+    /// The names, hashed, in the order in which they came.
     names: IndexSet<&'a [u8]>,
 }
 
@@ -26,6 +27,7 @@ impl<'a> Model for NameTable<'a> {
 }
 
 impl<'a> NameTable<'a> {
+    /// The table of no names.
     pub(crate) fn new(alloc: Global) -> NameTable<'a>
         ensures { result ≡ [] }
     {
@@ -34,7 +36,11 @@ impl<'a> NameTable<'a> {
         }
     }
 
-    /// Adds a name, unless it is there. Says whether it is new.
+    /// Adds a name, unless it is there. Says whether it is new. Time: expected constant.
+    ///
+    /// # Errors
+    ///
+    /// Only where memory is wanted.
     pub(crate) fn add(&mut self, name: &'a [u8]) -> Result<bool, AllocError>
         requires { length self.old < MAX_NODES }
         ensures added { IfOk result (λ is_new. is_new ≡ not (has_name self.old name.now)) }
@@ -54,7 +60,8 @@ impl<'a> NameTable<'a> {
         self.names.len()
     }
 
-    /// The place of a name.
+    /// The number of names that came before this one, and `None` where it is not there. Time:
+    /// expected constant.
     pub(crate) fn place(&self, name: &[u8]) -> Option<u32>
         ensures place { result ≡ place_of self.now name.now }
         ensures within { IfSome result (λ place. place < length self.now) }

@@ -18,7 +18,12 @@ use rela_locations::Locations;
 use rela_names::is_name;
 use std::alloc::Global;
 
-/// The graph of a flow.
+/// The nodes, edges and lists of a flow.
+///
+/// # Errors
+///
+/// The first fault, with the flow's row: of the nodes in order, then the edges in order, then
+/// `starts`, `delivered` and `dropped`; `Memory`.
 #[tactic(auto, unfolding(crate::specs::Named::named_of))]
 pub(crate) fn read_named(
     alloc: Global,
@@ -35,7 +40,7 @@ pub(crate) fn read_named(
     read_listing(alloc, nodes, &ids, value, row)
 }
 
-/// What a flow lists of these nodes, which have these ids.
+/// The edges and lists of a flow, beside its nodes, which have these ids in the same order.
 #[tactic(auto, unfolding(crate::specs::Named::named_listing_of))]
 fn read_listing(
     alloc: Global,
@@ -64,6 +69,11 @@ fn read_listing(
 }
 
 /// The nodes of a flow, whose ids go into the table.
+///
+/// # Errors
+///
+/// `WrongShape` where the flow has no array `nodes`; else `TooMany` where it has more than 10,000
+/// entries; else the first fault of an entry; `Memory`.
 #[tactic(auto, unfolding(crate::specs::Named::named_nodes_of))]
 fn read_nodes<'a>(
     alloc: Global,
@@ -83,7 +93,7 @@ fn read_nodes<'a>(
     nodes_of(alloc, locations, ids, entries, row)
 }
 
-/// The nodes of these entries.
+/// The nodes of these entries, whose ids go into the table.
 fn nodes_of<'a>(
     alloc: Global,
     locations: &Locations,
@@ -106,7 +116,7 @@ fn nodes_of<'a>(
     Ok(nodes)
 }
 
-/// Adds a node, and its id to those of the nodes so far.
+/// Adds the node of an entry, and its id to those of the nodes so far.
 #[tactic(auto, unfolding(crate::specs::Named::add_node))]
 fn add_node<'a>(
     locations: &Locations,
@@ -131,6 +141,11 @@ fn add_node<'a>(
 }
 
 /// Adds the id of a node to those of the nodes so far.
+///
+/// # Errors
+///
+/// `WrongShape` where the entry is no object or its `id` no string; else `BadName` where it is not
+/// 1 to 64 name bytes; else `RepeatedEntry` where an earlier node has it; `Memory`.
 #[tactic(auto, unfolding(crate::specs::Named::id_of, crate::specs::Class::name_of))]
 fn add_id<'a>(ids: &mut NameTable<'a>, value: &'a Value, row: u32) -> Result<(), LoadError>
     requires few { length ids.old < MAX_NODES }
@@ -148,6 +163,11 @@ fn add_id<'a>(ids: &mut NameTable<'a>, value: &'a Value, row: u32) -> Result<(),
 }
 
 /// The node at the interface that a node's entry names.
+///
+/// # Errors
+///
+/// `WrongShape` where its `at` is no string; else `UnknownLocation` where no interface has that
+/// name.
 #[tactic(auto, unfolding(crate::specs::Named::at_of))]
 fn read_node(locations: &Locations, value: &Value, row: u32) -> Result<Node, LoadError>
     ensures node { IfOk result (λ node. spec.at_of locations.now row (view value.now) ≡ Ok node) }
@@ -159,6 +179,11 @@ fn read_node(locations: &Locations, value: &Value, row: u32) -> Result<Node, Loa
 }
 
 /// The edges of a flow.
+///
+/// # Errors
+///
+/// `WrongShape` where the flow has no array `edges`; else `TooMany` where it has more than 100,000
+/// entries; else the first fault of an entry; `Memory`.
 #[tactic(auto, unfolding(crate::specs::Named::named_edges_of))]
 fn read_edges(
     alloc: Global,
@@ -175,7 +200,7 @@ fn read_edges(
     edges_of(alloc, ids, entries, row)
 }
 
-/// The edges of these entries.
+/// The edges of these entries, in order.
 fn edges_of(
     alloc: Global,
     ids: &NameTable<'_>,
@@ -195,6 +220,12 @@ fn edges_of(
     Ok(edges)
 }
 
+/// The edge of an entry.
+///
+/// # Errors
+///
+/// `WrongShape` where the entry is no array of two strings; else `UnknownNode` where one of them is
+/// no node's id.
 #[tactic(auto, unfolding(crate::specs::Named::named_edge_of))]
 fn read_edge(ids: &NameTable<'_>, value: &Value, row: u32) -> Result<Link, LoadError>
     ensures edge { IfOk result (λ edge. spec.named_edge_of ids.now row (view value.now) ≡ Ok edge) }
@@ -209,6 +240,11 @@ fn read_edge(ids: &NameTable<'_>, value: &Value, row: u32) -> Result<Link, LoadE
     Ok(Link { a, b })
 }
 
+/// The index of the node with this id.
+///
+/// # Errors
+///
+/// `UnknownNode` where there is none.
 #[tactic(auto, unfolding(crate::specs::Named::id_place_of))]
 fn place_of(ids: &NameTable<'_>, id: &[u8], row: u32) -> Result<u32, LoadError>
     ensures place { IfOk result (λ place. spec.id_place_of ids.now row id.now ≡ Ok place) }
@@ -218,6 +254,11 @@ fn place_of(ids: &NameTable<'_>, id: &[u8], row: u32) -> Result<u32, LoadError>
     ids.place(id).ok_or(LoadError::UnknownNode { row })
 }
 
+/// The index of the node that an entry of a list names.
+///
+/// # Errors
+///
+/// `WrongShape` where the entry is no string; else `UnknownNode` where it is no node's id.
 #[tactic(auto, unfolding(crate::specs::Named::named_place_of))]
 fn read_place(ids: &NameTable<'_>, value: &Value, rule: u8, row: u32) -> Result<u32, LoadError>
     ensures place { IfOk result (λ place. spec.named_place_of ids.now rule row (view value.now) ≡ Ok place) }
@@ -227,7 +268,7 @@ fn read_place(ids: &NameTable<'_>, value: &Value, rule: u8, row: u32) -> Result<
     place_of(ids, string(Some(value), rule, row)?, row)
 }
 
-/// The places of the nodes with these ids.
+/// The indexes of the nodes that the entries of a list name, in order.
 fn places_of(
     alloc: Global,
     ids: &NameTable<'_>,
@@ -247,7 +288,7 @@ fn places_of(
     Ok(places)
 }
 
-/// The places that a list of ids gives.
+/// The indexes of the nodes that a list names, which has to be there.
 #[tactic(auto, unfolding(crate::specs::Named::named_places_of))]
 fn read_places(
     alloc: Global,
@@ -263,7 +304,7 @@ fn read_places(
     places_of(alloc, ids, entries(value, rule, row)?, rule, row)
 }
 
-/// The same of a list that may be missing.
+/// The indexes of the nodes that a list names, none where it is missing.
 #[tactic(auto, unfolding(crate::specs::Named::optional_named_places_of))]
 fn read_optional_places(
     alloc: Global,
@@ -282,7 +323,12 @@ fn read_optional_places(
     }
 }
 
-/// The nodes that a member of a flow lists, which has to be there.
+/// The indexes of the nodes that the member of this name lists, which has to be there.
+///
+/// # Errors
+///
+/// `WrongShape` with the rule where it is no array of strings; `UnknownNode` where a string is no
+/// node's id; `Memory`.
 #[tactic(auto, unfolding(crate::specs::Named::named_list_of))]
 fn read_list(
     alloc: Global,
@@ -299,7 +345,8 @@ fn read_list(
     read_places(alloc, ids, part(value, name, 41, row)?, rule, row)
 }
 
-/// The same of a member that may be missing.
+/// The indexes of the nodes that the member of this name lists, none where it is missing. The
+/// errors are otherwise those of [`read_list`].
 #[tactic(auto, unfolding(crate::specs::Named::optional_named_list_of))]
 fn read_optional_list(
     alloc: Global,

@@ -1,4 +1,4 @@
-//! The graph of a flow of version 1, whose nodes are named by their places.
+//! The graph of a flow of version 1, whose nodes are named by their indexes.
 
 ghost use Rattle.std.specs.Prelude.{◌≡◌, ◌≢◌, ◌<◌, ◌≤◌, Ok, Err, IfOk, IfErr, length, map, option_map, vec_len};
 ghost use Rattle.std.specs.List.{All};
@@ -15,7 +15,12 @@ use rela_json::{ListError, LoadError, Value, index_list};
 use rela_locations::Locations;
 use std::alloc::Global;
 
-/// The graph of a flow.
+/// The nodes, edges and lists of a flow.
+///
+/// # Errors
+///
+/// The first fault, with the flow's row: of the nodes in order, then the edges in order, then
+/// `starts`, `delivered` and `dropped`; `Memory`.
 #[tactic(auto, unfolding(crate::specs::Numbered::numbered_of))]
 pub(crate) fn read_numbered(
     alloc: Global,
@@ -43,6 +48,11 @@ pub(crate) fn read_numbered(
 }
 
 /// The nodes of a flow.
+///
+/// # Errors
+///
+/// `WrongShape` where the flow has no array `nodes`; else `TooMany` where it has more than 10,000
+/// entries; else the first fault of an entry; `Memory`.
 #[tactic(auto, unfolding(crate::specs::Numbered::numbered_nodes_of))]
 fn read_nodes(
     alloc: Global,
@@ -59,7 +69,7 @@ fn read_nodes(
     nodes_of(alloc, locations, entries, row)
 }
 
-/// The nodes of these entries.
+/// The nodes of these entries, in order.
 fn nodes_of(
     alloc: Global,
     locations: &Locations,
@@ -79,6 +89,12 @@ fn nodes_of(
     Ok(nodes)
 }
 
+/// The node at the interface that an entry names.
+///
+/// # Errors
+///
+/// `WrongShape` where the entry is no string; else `UnknownLocation` where no interface has that
+/// name.
 #[tactic(auto, unfolding(crate::specs::Numbered::node_of))]
 fn read_node(locations: &Locations, value: &Value, row: u32) -> Result<Node, LoadError>
     ensures node { IfOk result (λ node. spec.node_of locations.now row (view value.now) ≡ Ok node) }
@@ -88,7 +104,12 @@ fn read_node(locations: &Locations, value: &Value, row: u32) -> Result<Node, Loa
     node_at(locations, string(Some(value), 30, row)?, row)
 }
 
-/// The edges of a flow, among so many nodes.
+/// The edges of a flow, which has `count` nodes.
+///
+/// # Errors
+///
+/// `WrongShape` where the flow has no array `edges`; else `TooMany` where it has more than 100,000
+/// entries; else the first fault of an entry; `Memory`.
 #[tactic(auto, unfolding(crate::specs::Numbered::numbered_edges_of))]
 fn read_edges(alloc: Global, value: &Value, count: u32, row: u32) -> Result<Vec<Link>, LoadError>
     ensures edges { IfOk result (λ edges. spec.numbered_edges_of count row (view value.now) ≡ Ok edges.items) }
@@ -100,7 +121,7 @@ fn read_edges(alloc: Global, value: &Value, count: u32, row: u32) -> Result<Vec<
     edges_of(alloc, entries, count, row)
 }
 
-/// The edges of these entries.
+/// The edges of these entries, in order.
 fn edges_of(alloc: Global, values: &[Value], count: u32, row: u32) -> Result<Vec<Link>, LoadError>
     ensures edges { IfOk result (λ edges. try_map (spec.edge_of count row) (map view values.now) ≡ Ok edges.items) }
     ensures fault { IfErr result (λ e. e ≢ LoadError.Memory → try_map (spec.edge_of count row) (map view values.now) ≡ Err e) }
@@ -115,6 +136,12 @@ fn edges_of(alloc: Global, values: &[Value], count: u32, row: u32) -> Result<Vec
     Ok(edges)
 }
 
+/// The edge of an entry.
+///
+/// # Errors
+///
+/// `WrongShape` where the entry is no array of two whole numbers; else `BadIndex` where one of them
+/// is not below `count`.
 #[tactic(auto, unfolding(crate::specs::Numbered::edge_of))]
 fn read_edge(value: &Value, count: u32, row: u32) -> Result<Link, LoadError>
     ensures edge { IfOk result (λ edge. spec.edge_of count row (view value.now) ≡ Ok edge) }
@@ -129,6 +156,11 @@ fn read_edge(value: &Value, count: u32, row: u32) -> Result<Link, LoadError>
     Ok(Link { a, b })
 }
 
+/// The index of a node, which has this number.
+///
+/// # Errors
+///
+/// `BadIndex` where it is not below `count`.
 #[tactic(auto, unfolding(crate::specs::Numbered::index_in))]
 fn place_of(number: u64, count: u32, row: u32) -> Result<u32, LoadError>
     ensures place { IfOk result (λ place. spec.index_in count row number ≡ Ok place) }
@@ -142,6 +174,12 @@ fn place_of(number: u64, count: u32, row: u32) -> Result<u32, LoadError>
     }
 }
 
+/// The indexes that a list has, in order.
+///
+/// # Errors
+///
+/// `WrongShape` with the rule where it is no array of whole numbers; `BadIndex` where one is not
+/// below `count`; `Memory`. The first entry at fault decides.
 #[tactic(auto, unfolding(crate::specs::Numbered::places_of))]
 fn read_places(
     alloc: Global,
@@ -162,6 +200,8 @@ fn read_places(
     }
 }
 
+/// The indexes that a list has, none where it is missing. The errors are otherwise those of
+/// [`read_places`].
 #[tactic(auto, unfolding(crate::specs::Numbered::optional_places_of))]
 fn read_optional_places(
     alloc: Global,
@@ -180,7 +220,11 @@ fn read_optional_places(
     }
 }
 
-/// The nodes that a member of a flow lists, which has to be there.
+/// The indexes that the member of this name lists, which has to be there.
+///
+/// # Errors
+///
+/// `WrongShape` with the rule where it is missing; otherwise those of [`read_places`].
 #[tactic(auto, unfolding(crate::specs::Numbered::list_of))]
 fn read_list(
     alloc: Global,
@@ -198,7 +242,8 @@ fn read_list(
     read_places(alloc, list, count, rule, row)
 }
 
-/// The same of a member that may be missing.
+/// The indexes that the member of this name lists, none where it is missing. The errors are
+/// otherwise those of [`read_places`].
 #[tactic(auto, unfolding(crate::specs::Numbered::optional_list_of))]
 fn read_optional_list(
     alloc: Global,

@@ -23,8 +23,11 @@ use thiserror::Error;
 /// flow it has the graph without nodes.
 #[derive(Drop)]
 pub struct FlowPair {
+    /// What is said of the flow, alike in both snapshots where both have it.
     pub class: FlowClass,
+    /// Its graph before the change.
     pub before: Graph,
+    /// Its graph after the change.
     pub after: Graph,
 }
 
@@ -32,7 +35,7 @@ pub struct FlowPair {
 #[derive(Debug, Drop, Error)]
 pub enum PairError {
     /// The flow in this row of the first snapshot differs from that of its name in the second in
-    /// its prefixes or its class.
+    /// its prefixes or its class. `before` and `after` are what each says of it.
     #[error("the flow in row {row} differs")]
     FlowDiffers {
         row: u32,
@@ -64,22 +67,24 @@ impl<T: Drop> From<AllocFailed<T>> for PairError {
     }
 }
 
-/// The flows of a second snapshot, by what they are to those of a first.
+/// The flows of a second snapshot, split by whether a first has one of the same name.
 #[derive(Drop)]
 struct Partners {
-    /// For each flow of the first snapshot, the flow of its name, if there is one.
+    /// For each flow of the first snapshot, in order, the flow of its name, and `None` where there
+    /// is none.
     found: Vec<Option<Flow>>,
-    /// Those of no such name, in order.
+    /// The flows whose names the first snapshot lacks, in order.
     others: Vec<Flow>,
 }
 
-/// The flows of two snapshots, paired by their names: first those of `before` in order, and then, in
-/// order, those that only `after` has.
+/// The flows of two snapshots, paired by their names: first those of `before` in order, and then,
+/// in order, those that only `after` has. Both snapshots are spent. Time and space: expected linear
+/// in the flows; no graph is copied.
 ///
 /// # Errors
 ///
 /// `FlowDiffers` for the first flow of `before` that differs from that of its name in `after`;
-/// `Memory`. Both snapshots are spent.
+/// `Memory` where memory runs out.
 pub fn pair(alloc: Global, before: Snapshot, after: Snapshot) -> Result<Vec<FlowPair>, PairError>
     ensures pairs { IfOk result (λ pairs. IsAnswer (Pairing before after) (Ok pairs.items)) }
     ensures differs { IfErr result (λ e. e ≢ PairError.Memory → IsAnswer (Pairing before after) (Err e)) }
@@ -94,6 +99,8 @@ pub fn pair(alloc: Global, before: Snapshot, after: Snapshot) -> Result<Vec<Flow
     Ok(pairs)
 }
 
+/// The flows of `after`, split by whether `before` has one of the same name. The list is turned
+/// round and emptied from its end, so that each flow is moved and none is copied.
 fn find_partners(
     alloc: Global,
     before: &Vec<Flow>,
@@ -132,6 +139,7 @@ fn names_of<'a>(alloc: Global, flows: &'a [Flow]) -> Result<NameTable<'a>, Alloc
     Ok(names)
 }
 
+/// A list of `count` places without a flow.
 fn no_flows(alloc: Global, count: usize) -> Result<Vec<Option<Flow>>, AllocError>
     ensures len { IfOk result (λ none. vec_len none ≡ count) }
     ensures none { IfOk result (λ none. All IsNone none.items) }
@@ -143,7 +151,8 @@ fn no_flows(alloc: Global, count: usize) -> Result<Vec<Option<Flow>>, AllocError
     Ok(none)
 }
 
-/// Puts a flow to the flow of its name, or to the others.
+/// Puts a flow beside the flow of its name, or to the others. `names` are the names of the first
+/// snapshot's flows.
 fn put(names: &NameTable<'_>, partners: &mut Partners, flow: Flow) -> Result<(), AllocError>
     requires room { length names.now ≤ vec_len partners.old.found }
     ensures found { OnOk result (partners.new.found.items ≡ with_flow partners.old.found.items (place_of names.now flow.class.name) flow) }
@@ -160,7 +169,8 @@ fn put(names: &NameTable<'_>, partners: &mut Partners, flow: Flow) -> Result<(),
     Ok(())
 }
 
-/// The pairs of the first snapshot's flows, of which the last come off first.
+/// The pairs of the first snapshot's flows, in order. Both lists are turned round and emptied from
+/// their ends, so that each flow is moved and none is copied.
 fn pair_found(
     alloc: Global,
     mut before: Vec<Flow>,
@@ -185,7 +195,12 @@ fn pair_found(
     Ok(pairs)
 }
 
-/// A flow beside its partner.
+/// The pair of a flow of the first snapshot, in this row, and its partner in the second, if it has
+/// one.
+///
+/// # Errors
+///
+/// `FlowDiffers` where the partner has other prefixes or another class; `Memory`.
 fn pair_of(
     alloc: Global,
     row: u32,
@@ -219,7 +234,7 @@ fn pair_of(
     })
 }
 
-/// Adds the pairs of the flows that only the second snapshot has.
+/// Adds the pairs of the flows that only the second snapshot has, in order.
 fn pair_others(
     alloc: Global,
     pairs: &mut Vec<FlowPair>,

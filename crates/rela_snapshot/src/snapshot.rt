@@ -24,13 +24,16 @@ pub const MAX_FLOWS: usize = 10_000;
 /// One flow: what is said of it, and the graph on which it is forwarded.
 #[derive(Drop)]
 pub(crate) struct Flow {
+    /// What is said of the flow: its name, its prefixes and its class.
     pub(crate) class: FlowClass,
+    /// The graph on which it is forwarded.
     pub(crate) graph: Graph,
 }
 
 /// The flows of a network at one time, in the order of their file.
 #[derive(Drop)]
 pub struct Snapshot {
+    /// The flows, each of a name of its own, in the order of their file.
     flows: Vec<Flow>,
 }
 
@@ -48,16 +51,41 @@ impl Model for Snapshot {
 }
 
 impl Snapshot {
-    /// The flows that a file in JSON lists, whose nodes stand at interfaces of these locations. The
-    /// walk reads the version, and then of each flow in order its name, its prefixes, its class,
-    /// its nodes, its edges and its lists of nodes. The first fault is the answer.
+    /// The flows that a file in JSON lists, whose nodes stand at interfaces of these locations.
+    /// Time: expected O(n log n) in its length; space: linear.
+    ///
+    /// The file is an object with the members `version`, which is 1 or 2, and `flows`, an array of
+    /// at most 10,000 flows. A flow is an object with a `name` of its own, a prefix `dst`, maybe a
+    /// prefix `src` of the same family and the name of a `class`, at most 10,000 `nodes`, at most
+    /// 100,000 `edges`, each a pair of nodes, and the lists of nodes `starts`, and maybe
+    /// `delivered` and `dropped`. In version 1 the prefixes are of IPv4, a node is the name of an
+    /// interface, and an edge or list names it by its index. In version 2 a node is an object with
+    /// an `id` of its own and the name of an interface `at`, and an edge or list names it by its
+    /// id. Other members count for nothing.
     ///
     /// # Errors
     ///
-    /// `NotJson`; `BadVersion` where the version is neither 1 nor 2; `WrongShape` where a part is
-    /// missing or of another kind than its rule wants; with the flow's row `TooMany`, `BadName`,
-    /// `BadPrefix`, `UnknownLocation`, `RepeatedEntry` for a flow's name or a node's id that an
-    /// earlier one has, `BadIndex` and `UnknownNode` for what names no node of the flow; `Memory`.
+    /// `NotJson`; else the first fault of a walk of the file, which takes the version, and then the
+    /// flows in order, and of each its name, its prefixes, its class, its nodes, its edges and its
+    /// lists of nodes; `Memory`.
+    ///
+    /// `WrongShape` has the number of the rule that is broken: 21 the file is an object, 22 its
+    /// `version` is a whole number, 23 its `flows` are an array. In version 1: 24 a flow is an
+    /// object, 25 its `name` is a string, 26 its `dst` is a string, 27 its `src`, if there, is a
+    /// string, 28 its `class`, if there, is a string, 29 its `nodes` are an array, 30 a node is a
+    /// string, 31 its `edges` are an array, 32 an edge is an array of two whole numbers, 33 its
+    /// `starts` are an array of whole numbers, and so are 34 its `delivered`, if there, and 35 its
+    /// `dropped`, if there. In version 2 the rules 41 to 46 stand for 24 to 29; 47 a node is an
+    /// object, 48 its `id` is a string, 49 its `at` is a string, 50 the `edges` are an array, 51 an
+    /// edge is an array of two strings, 52 the `starts` are an array of strings, and so are 53 the
+    /// `delivered`, if there, and 54 the `dropped`, if there.
+    ///
+    /// The row is the index of the flow for all faults of a flow. `BadVersion` comes after the
+    /// shape of the version. `TooMany` comes before the shape of a flow, and after that of its
+    /// nodes or edges. `BadName`, `BadPrefix` and `UnknownLocation` come after the shape of what
+    /// they are about, and `RepeatedEntry` after `BadName`, for the name of a flow or the id of a
+    /// node that an earlier one has. `BadIndex` and `UnknownNode` are for what names no node of the
+    /// flow.
     pub fn decode(alloc: Global, bytes: &[u8], locations: &Locations) -> Result<Snapshot, LoadError>
         requires { length bytes.now ≤ 33554432 }
         ensures load { IfOk result (λ snapshot. (listed : List ListedFlow) × IsAnswer (Load locations.now bytes.now) (Ok listed) × AreFlowsOf listed snapshot) }
@@ -69,7 +97,7 @@ impl Snapshot {
         Ok(Snapshot { flows })
     }
 
-    /// The flows, to be moved on.
+    /// The flows in order, moved out of the snapshot.
     pub(crate) fn into_flows(self) -> Vec<Flow>
         ensures flows { result.items ≡ self }
         ensures held { AreSnapshotFlows result.items }
@@ -85,7 +113,7 @@ impl Snapshot {
         self.flows.len()
     }
 
-    /// What is said of a flow.
+    /// What is said of the flow of this index.
     pub fn class(&self, i: usize) -> &FlowClass
         requires { i < length self.now }
         ensures { option_map (λ flow. flow.class) (slice_get self.now i) ≡ Some result.now }
@@ -93,7 +121,7 @@ impl Snapshot {
         &self.flows[i].class
     }
 
-    /// The graph of a flow.
+    /// The graph of the flow of this index.
     pub fn graph(&self, i: usize) -> &Graph
         requires { i < length self.now }
         ensures { option_map (λ flow. flow.graph) (slice_get self.now i) ≡ Some result.now }

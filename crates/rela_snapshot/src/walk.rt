@@ -27,7 +27,11 @@ use rela_locations::Locations;
 use rela_names::Name;
 use std::alloc::Global;
 
-/// The flows of a file.
+/// The flows of a file, in order.
+///
+/// # Errors
+///
+/// The first fault of the walk, as [`Snapshot::decode`](crate::Snapshot::decode) tells it.
 pub(crate) fn read_snapshot(
     alloc: Global,
     locations: &Locations,
@@ -43,7 +47,7 @@ pub(crate) fn read_snapshot(
     read_flows(alloc, locations, version, values)
 }
 
-/// The version, and the entries of the flows.
+/// The version of a file, and the entries of its flows.
 #[tactic(auto, unfolding(crate::specs::Contents::contents_of))]
 fn read_contents(root: &Value) -> Result<(Version, &[Value]), LoadError>
     ensures contents { IfOk result (λ contents. contents_of (view root.now) ≡ Ok (contents.0, map view contents.1.now)) }
@@ -55,6 +59,7 @@ fn read_contents(root: &Value) -> Result<(Version, &[Value]), LoadError>
     Ok((version, flows))
 }
 
+/// The flows of these entries, in order.
 fn read_flows(
     alloc: Global,
     locations: &Locations,
@@ -96,7 +101,11 @@ fn read_flow<'a>(
     read_flow_named(alloc, locations, version, name, value, row)
 }
 
-/// The name of the next flow, which goes to those of the flows so far.
+/// The name of the next flow, which goes to those of the flows so far. `row` is their number.
+///
+/// # Errors
+///
+/// `TooMany` where there are 10,000 flows already; else those of [`read_name`].
 #[tactic(auto, unfolding(crate::specs::FlowEntry::next_name_of))]
 fn read_next_name<'a>(
     alloc: Global,
@@ -120,7 +129,7 @@ fn read_next_name<'a>(
     read_name(alloc, names, value, flow_rules(version), row)
 }
 
-/// The flow of this name.
+/// The flow of this name, with the prefixes, the class and the graph that its entry tells.
 fn read_flow_named(
     alloc: Global,
     locations: &Locations,
@@ -147,7 +156,7 @@ fn read_flow_named(
     Ok(Flow { class, graph })
 }
 
-/// The graph of a flow.
+/// The graph of a flow, as the version of the file lists it.
 fn read_graph(
     alloc: Global,
     locations: &Locations,
@@ -163,6 +172,7 @@ fn read_graph(
     Ok(listing.into_graph(alloc)?)
 }
 
+/// The nodes, edges and lists of a flow, as the version of the file lists them.
 #[tactic(auto, unfolding(crate::specs::FlowEntry::graph_of))]
 fn read_listing(
     alloc: Global,
