@@ -6,7 +6,11 @@ ghost use Rattle.rela_snapshot.specs.Parts.{part_of, string_of, entries_of, whol
 
 use rela_json::{LoadError, Value, array, member, number, text};
 
-/// An object's member, if it has one of that name.
+/// An object's member of that name, and `None` where the object has none.
+///
+/// # Errors
+///
+/// `WrongShape` where the value is no object.
 #[tactic(auto, unfolding(rela_snapshot::specs::Parts::part_of))]
 pub(crate) fn part<'a>(
     value: &'a Value,
@@ -21,6 +25,10 @@ pub(crate) fn part<'a>(
 }
 
 /// The bytes of a string that has to be there.
+///
+/// # Errors
+///
+/// `WrongShape` where it is missing or no string.
 #[tactic(auto, unfolding(rela_snapshot::specs::Parts::string_of))]
 pub(crate) fn string(value: Option<&Value>, rule: u8, row: u32) -> Result<&[u8], LoadError>
     ensures found { IfOk result (λ bytes. string_of rule row (option_map (λ v. view v.now) value.entry) ≡ Ok bytes.now) }
@@ -31,6 +39,10 @@ pub(crate) fn string(value: Option<&Value>, rule: u8, row: u32) -> Result<&[u8],
 }
 
 /// The entries of an array that has to be there.
+///
+/// # Errors
+///
+/// `WrongShape` where it is missing or no array.
 #[tactic(auto, unfolding(rela_snapshot::specs::Parts::entries_of))]
 pub(crate) fn entries(value: Option<&Value>, rule: u8, row: u32) -> Result<&[Value], LoadError>
     ensures found { IfOk result (λ vs. entries_of rule row (option_map (λ v. view v.now) value.entry) ≡ Ok (map view vs.now)) }
@@ -41,6 +53,10 @@ pub(crate) fn entries(value: Option<&Value>, rule: u8, row: u32) -> Result<&[Val
 }
 
 /// A whole number that has to be there.
+///
+/// # Errors
+///
+/// `WrongShape` where it is missing or no whole number from 0 to 2^64 - 1.
 #[tactic(auto, unfolding(rela_snapshot::specs::Parts::whole_number_of))]
 pub(crate) fn whole_number(value: Option<&Value>, rule: u8, row: u32) -> Result<u64, LoadError>
     ensures found { IfOk result (λ n. whole_number_of rule row (option_map (λ v. view v.now) value.entry) ≡ Ok n) }
@@ -50,7 +66,11 @@ pub(crate) fn whole_number(value: Option<&Value>, rule: u8, row: u32) -> Result<
     number(value).map_err(|_| LoadError::WrongShape { rule, row })
 }
 
-/// The entries of an array that has to be there and has no more than so many.
+/// The entries of an array that has to be there, at most `most` of them.
+///
+/// # Errors
+///
+/// `WrongShape` where it is missing or no array; else `TooMany` where it has more entries.
 #[tactic(auto, unfolding(rela_snapshot::specs::Parts::few_entries_of))]
 pub(crate) fn few_entries(
     value: Option<&Value>,

@@ -31,12 +31,16 @@ pub const MAX_ROUTES: usize = 10_000;
 pub struct Route {
     /// The addresses that the route is for.
     pub prefix: Ipv4Prefix,
-    /// The interfaces that the packets go to next. With an empty list they are dropped, and without
-    /// a list they are delivered here.
+    /// The interfaces that the packets go to next. With an empty list they are dropped, and with
+    /// `None` they are delivered here.
     pub hops: Option<List<Symbol>>,
 }
 
 /// The routes of a table, of which the first has the row `first` in the file.
+///
+/// # Errors
+///
+/// The first fault of a route, with its row; `Memory`.
 pub(crate) fn read_routes(
     alloc: Global,
     locations: &Locations,
@@ -61,7 +65,14 @@ pub(crate) fn read_routes(
     Ok(routes)
 }
 
-/// The next route of a table, whose prefix goes to those of the earlier ones.
+/// The next route of a table, whose prefix goes to those of the earlier ones, as its address and
+/// its length in `seen`.
+///
+/// # Errors
+///
+/// `WrongShape` where the route is no object or its `prefix` no string; else `BadPrefix` where that
+/// is no IPv4 prefix; else `RepeatedEntry` where an earlier route of the table has it; else the
+/// first fault of its hops; `Memory`.
 fn read_route(
     alloc: Global,
     locations: &Locations,
@@ -85,6 +96,11 @@ fn read_route(
 }
 
 /// The prefix of a route.
+///
+/// # Errors
+///
+/// `WrongShape` where the route is no object or its `prefix` no string; else `BadPrefix` where that
+/// is no IPv4 prefix.
 fn read_prefix(value: &Value, row: u32) -> Result<Ipv4Prefix, LoadError>
     ensures { IsAnswer (spec.IsPrefixOf row (view value.now)) result }
 {
@@ -92,6 +108,7 @@ fn read_prefix(value: &Value, row: u32) -> Result<Ipv4Prefix, LoadError>
     ipv4_prefix(text, row)
 }
 
+/// The text of a route's prefix, or `WrongShape`.
 #[tactic(auto, unfolding(crate::specs::RouteParts::prefix_text_of))]
 fn prefix_text(value: &Value, row: u32) -> Result<&[u8], LoadError>
     ensures text { IfOk result (λ text. parts.prefix_text_of row (view value.now) ≡ Ok text.now) }
@@ -100,7 +117,7 @@ fn prefix_text(value: &Value, row: u32) -> Result<&[u8], LoadError>
     string(part(value, "prefix", 69, row)?, 70, row)
 }
 
-/// The IPv4 prefix that a text writes.
+/// The IPv4 prefix that a text writes, or `BadPrefix` where it writes none.
 fn ipv4_prefix(text: &[u8], row: u32) -> Result<Ipv4Prefix, LoadError>
     ensures { IsAnswer (spec.IsPrefix row text.now) result }
 {
@@ -113,7 +130,11 @@ fn ipv4_prefix(text: &[u8], row: u32) -> Result<Ipv4Prefix, LoadError>
     }
 }
 
-/// The hops of a route, if it has the member.
+/// The hops of a route, in order, and `None` where it has no such member.
+///
+/// # Errors
+///
+/// `WrongShape` where they are no array; else the first fault of a hop; `Memory`.
 #[tactic(auto, unfolding(crate::specs::RouteParts::hops_of))]
 fn read_hops(
     alloc: Global,
@@ -128,6 +149,8 @@ fn read_hops(
     listed_hops(alloc, locations, part(value, "hops", 69, row)?, row)
 }
 
+/// The hops of a member that may be missing, and `None` where it is. The errors are those of
+/// [`read_hops`].
 #[tactic(auto, unfolding(crate::specs::RouteParts::listed_hops_of))]
 fn listed_hops(
     alloc: Global,
@@ -149,7 +172,7 @@ fn listed_hops(
     }
 }
 
-/// The interfaces of these entries.
+/// The interfaces that these entries name, in order.
 fn hops_of(
     alloc: Global,
     locations: &Locations,
@@ -168,6 +191,12 @@ fn hops_of(
     Ok(hops)
 }
 
+/// The interface that an entry names.
+///
+/// # Errors
+///
+/// `WrongShape` where the entry is no string; else `UnknownLocation` where no interface has that
+/// name.
 #[tactic(auto, unfolding(crate::specs::RouteParts::hop_of))]
 fn read_hop(locations: &Locations, value: &Value, row: u32) -> Result<Symbol, LoadError>
     ensures hop { IfOk result (λ hop. parts.hop_of locations.now row (view value.now) ≡ Ok hop) }

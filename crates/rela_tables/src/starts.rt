@@ -14,7 +14,11 @@ use rela_locations::Locations;
 use rela_names::Symbol;
 use std::alloc::Global;
 
-/// The starts of a file.
+/// The interfaces of these entries, in order. Time: expected linear.
+///
+/// # Errors
+///
+/// The first fault of an entry, with its index as the row; `Memory`.
 pub(crate) fn read_starts(
     alloc: Global,
     locations: &Locations,
@@ -36,6 +40,12 @@ pub(crate) fn read_starts(
     Ok(starts)
 }
 
+/// The interface that an entry names.
+///
+/// # Errors
+///
+/// `WrongShape` where the entry is no string; else `UnknownLocation` where no interface has that
+/// name.
 #[tactic(auto, unfolding(crate::specs::Starts::start_of))]
 fn read_start(locations: &Locations, value: &Value, row: u32) -> Result<Symbol, LoadError>
     ensures start { IfOk result (λ start. spec.start_of locations.now row (view value.now) ≡ Ok start) }

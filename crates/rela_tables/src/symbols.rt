@@ -10,7 +10,7 @@ use rela_json::LoadError;
 use rela_locations::Locations;
 use rela_names::{Level, Symbol};
 
-/// The symbol of the interface of this name.
+/// The symbol of the interface of this name. Time: expected constant.
 ///
 /// # Errors
 ///
@@ -24,6 +24,7 @@ pub(crate) fn interface(locations: &Locations, name: &[u8], row: u32) -> Result<
     find_interface(locations, name).ok_or(LoadError::UnknownLocation { row })
 }
 
+/// The symbol of the interface of this name, and `None` where no interface has it.
 fn find_interface(locations: &Locations, name: &[u8]) -> Option<Symbol>
     ensures place { result ≡ place_of (alphabet_of levels.Interface locations.now) name.now }
     ensures within { IfSome result (λ s. s < length (alphabet_of levels.Interface locations.now)) }
@@ -31,7 +32,7 @@ fn find_interface(locations: &Locations, name: &[u8]) -> Option<Symbol>
     locations.interface(name)
 }
 
-/// The symbol of the device of this name.
+/// The symbol of the device of this name. Time: a binary search among the devices.
 ///
 /// # Errors
 ///
@@ -45,6 +46,7 @@ pub(crate) fn device(locations: &Locations, name: &[u8], row: u32) -> Result<Sym
     find_device(locations, name).ok_or(LoadError::UnknownLocation { row })
 }
 
+/// The symbol of the device of this name, and `None` where no device has it.
 fn find_device(locations: &Locations, name: &[u8]) -> Option<Symbol>
     ensures place { result ≡ place_of (alphabet_of levels.Device locations.now) name.now }
     ensures within { IfSome result (λ s. s < length (alphabet_of levels.Device locations.now)) }

@@ -27,13 +27,17 @@ pub const MAX_TABLES: usize = 100_000;
 /// The forwarding table of a device.
 #[derive(Drop)]
 pub struct Table {
-    /// The device.
+    /// The symbol of the device.
     pub device: Symbol,
     /// Its routes, each of a prefix of its own, in the order of the file.
     pub routes: List<Route>,
 }
 
-/// The tables of a file.
+/// The tables of these entries, in order, each of a device of its own.
+///
+/// # Errors
+///
+/// The first fault of a table or of one of its routes; `Memory`.
 pub(crate) fn read_tables(
     alloc: Global,
     locations: &Locations,
@@ -55,7 +59,8 @@ pub(crate) fn read_tables(
     Ok(tables)
 }
 
-/// The next table, whose device goes to those of the earlier ones, which have `count` routes.
+/// The next table, whose device goes to those of the earlier ones. `count` is the number of their
+/// routes.
 fn read_table(
     alloc: Global,
     locations: &Locations,
@@ -80,7 +85,13 @@ fn read_table(
     })
 }
 
-/// The device of the next table, and the entries of its routes.
+/// The device of the next table, which goes to those of the earlier ones, and the entries of its
+/// routes.
+///
+/// # Errors
+///
+/// `TooMany` where there are 100,000 tables already; else the first fault of [`read_device`]; else
+/// that of [`route_entries`].
 #[tactic(auto, unfolding(crate::specs::TableParts::head_of))]
 fn read_head<'a>(
     locations: &Locations,
@@ -106,7 +117,13 @@ fn read_head<'a>(
     Ok((device, values))
 }
 
-/// The device of the next table, which no earlier one has.
+/// The device of the next table, which goes to those of the earlier ones.
+///
+/// # Errors
+///
+/// `WrongShape` where the table is no object or its `device` no string; else `UnknownLocation`
+/// where no device has that name; else `RepeatedEntry` where an earlier table is of that device;
+/// `Memory`.
 #[tactic(auto, unfolding(crate::specs::TableParts::device_of))]
 fn read_device(
     locations: &Locations,
@@ -130,6 +147,10 @@ fn read_device(
 }
 
 /// The entries of the routes of a table.
+///
+/// # Errors
+///
+/// `WrongShape` where its `routes` are no array; else `TooMany` where there are more than 10,000.
 #[tactic(auto, unfolding(crate::specs::TableParts::route_entries_of))]
 fn route_entries(value: &Value, row: u32) -> Result<&[Value], LoadError>
     ensures entries { IfOk result (λ values. parts.route_entries_of row (view value.now) ≡ Ok (map view values.now)) }

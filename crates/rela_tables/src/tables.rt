@@ -1,4 +1,4 @@
-//! The forwarding tables of a network, and the walk of their file.
+//! The forwarding tables of a network, read from their file.
 
 ghost use Rattle.std.specs.Prelude.{◌≡◌, ◌≢◌, ◌≤◌, Ok, Err, IfOk, IfErr, length, map};
 ghost use Rattle.serde_json.specs.View.{view};
@@ -20,7 +20,9 @@ use std::marker::Model;
 /// The forwarding tables of a network's devices, and the interfaces at which its traffic starts.
 #[derive(Drop)]
 pub struct Tables {
+    /// The symbols of the interfaces at which traffic starts, in the order of the file.
     starts: List<Symbol>,
+    /// The tables, each of a device of its own, in the order of the file.
     tables: List<Table>,
 }
 
@@ -37,14 +39,15 @@ impl Model for Tables {
 }
 
 impl Tables {
-    /// The tables that a file in JSON lists, in time linear in its length.
+    /// The tables that a file in JSON lists. Time: expected O(n log n) in its length; space:
+    /// linear.
     ///
     /// The file is an object with the members `version`, which is 1, `starts`, an array of names of
     /// interfaces, and `tables`, an array of tables. A table is an object with the name of a
-    /// `device` and an array `routes`. A route is an object with an IPv4 `prefix` and maybe an array
-    /// `hops` of names of interfaces. Other members count for nothing. There are at most 100,000
-    /// tables, each of a device of its own, and at most 10,000 routes a table, each of a prefix of
-    /// its own.
+    /// `device` and an array `routes`. A route is an object with an IPv4 `prefix` and maybe an
+    /// array `hops` of names of interfaces. Other members count for nothing. There are at most
+    /// 100,000 tables, each of a device of its own, and at most 10,000 routes a table, each of a
+    /// prefix of its own.
     ///
     /// # Errors
     ///
@@ -58,11 +61,11 @@ impl Tables {
     /// are an array, 72 a hop is a string. The row is the place of the start for rule 64, that of
     /// the table for the rules 66 to 68, and the number of earlier routes in the file for 69 to 72.
     ///
-    /// `BadVersion` comes after the shape of the version. `UnknownLocation` comes after the shape of
-    /// a start, a device or a hop that names no interface or no device. `RepeatedEntry` comes after
-    /// that for a device that an earlier table has, and after `BadPrefix` for a prefix that an
-    /// earlier route of the table has. `TooMany` comes before the shape of a table, and after that
-    /// of the routes.
+    /// `BadVersion` comes after the shape of the version. `UnknownLocation` comes after the shape
+    /// of a start, a device or a hop that names no interface or no device. `RepeatedEntry` comes
+    /// after that for a device that an earlier table has, and after `BadPrefix` for a prefix that
+    /// an earlier route of the table has. `TooMany` comes before the shape of a table, and after
+    /// that of the routes.
     pub fn decode(alloc: Global, bytes: &[u8], locations: &Locations) -> Result<Tables, LoadError>
         requires { length bytes.now ≤ 33554432 }
         ensures tables { IfOk result (λ tables. IsAnswer (spec.LoadTables locations.now bytes.now) (Ok tables)) }
@@ -90,7 +93,7 @@ impl Tables {
     }
 }
 
-/// The tables of a file.
+/// The tables of a file, from the JSON value that it is.
 fn read_file(alloc: Global, locations: &Locations, root: &Value) -> Result<Tables, LoadError>
     ensures tables { IfOk result (λ tables. IsAnswer (spec.IsForwarding locations.now (view root.now)) (Ok tables)) }
     ensures fault { IfErr result (λ e. e ≢ LoadError.Memory → IsAnswer (spec.IsForwarding locations.now (view root.now)) (Err e)) }
@@ -104,7 +107,13 @@ fn read_file(alloc: Global, locations: &Locations, root: &Value) -> Result<Table
     })
 }
 
-/// The starts, and the entries of the tables.
+/// The starts of a file, and the entries of its tables.
+///
+/// # Errors
+///
+/// `WrongShape` where the file is no object or its version no whole number; else `BadVersion` where
+/// that is not 1; else `WrongShape` where the starts are no array, or the first fault of a start;
+/// else `WrongShape` where the tables are no array; `Memory`.
 #[tactic(auto, unfolding(crate::specs::TableParts::contents_of))]
 fn read_contents<'a>(
     alloc: Global,
