@@ -12,7 +12,7 @@ use rela_tables::{Route, Table, Tables};
 use std::alloc::{AllocError, Global};
 
 /// The classes of addresses that the routes of two files cut, in the order of their addresses. By
-/// either file each device treats all addresses of a class alike. Time and space are linear in the
+/// either file each device treats all addresses of a class alike. Time and space: linear in the
 /// number of routes times the 32 bits of an address.
 ///
 /// # Errors
@@ -45,6 +45,7 @@ fn push_prefixes(prefixes: &mut Vec<Ipv4Prefix>, tables: &[Table]) -> Result<(),
     Ok(())
 }
 
+/// Adds the prefixes of some routes.
 fn push_each(prefixes: &mut Vec<Ipv4Prefix>, routes: &[Route]) -> Result<(), AllocError>
     ensures { IfOk result (λ _. prefixes.new.items ≡ prefixes.old.items ++ prefixes_of routes.now) }
 {

@@ -18,15 +18,16 @@ use std::alloc::{AllocError, Global};
 pub(crate) struct Device {
     /// Finds the longest of the routes' prefixes.
     pub(crate) prefixes: PrefixTable,
-    /// What is done by each route, in the order of the table.
+    /// What is done by each route, in the order of the table and of the prefixes.
     pub(crate) steps: Vec<Step>,
-    /// What is done where no route is chosen.
+    /// What is done where no route's prefix holds the address.
     pub(crate) otherwise: Step,
 }
 
 impl Device {
-    /// The device of these routes, in time and space linear in the number of routes times the 32
-    /// bits of an address, and n log n in the number of their hops.
+    /// The device of these routes, among these nodes. Time: linear in the number of routes times
+    /// the 32 bits of an address, and for the hops of each route a binary search among the nodes
+    /// each, and a sort; space: linear in the same.
     ///
     /// # Errors
     ///
@@ -51,8 +52,8 @@ impl Device {
         })
     }
 
-    /// What the device does with the packets to an address, in a number of steps that is
-    /// logarithmic in the number of its routes.
+    /// What the device does with the packets to an address, by the route with the longest prefix
+    /// that holds it. Time: logarithmic in the number of routes.
     pub(crate) fn step(&self, address: u32) -> &Step
         requires { length self.now.prefixes ≡ length self.now.steps.items }
         ensures { IsStepAt self.now address result.now }
@@ -64,7 +65,7 @@ impl Device {
     }
 }
 
-/// What is done by each of these routes.
+/// What is done by each of these routes, in their order.
 fn steps_by(alloc: Global, nodes: &[Symbol], routes: &[Route]) -> Result<Vec<Step>, AllocError>
     requires few { length nodes.now < 2 ^ 32 }
     requires ascending { IsStrictlyIncreasing nodes.now }
@@ -78,7 +79,7 @@ fn steps_by(alloc: Global, nodes: &[Symbol], routes: &[Route]) -> Result<Vec<Ste
     Ok(steps)
 }
 
-/// The prefixes of these routes.
+/// The prefixes of these routes, in their order.
 fn prefixes_of(alloc: Global, routes: &[Route]) -> Result<Vec<Ipv4Prefix>, AllocError>
     ensures { IfOk result (λ found. found.items ≡ prefixes_of routes.now) }
 {

@@ -1,4 +1,4 @@
-//! The devices of the nodes.
+//! The devices that the nodes of a graph belong to.
 
 ghost use Rattle.std.specs.Prelude.{◌≡◌, ◌<◌, ◌≤◌, ◌^◌, IfOk, length, map, nat_eq};
 ghost use Rattle.std.specs.List.{All, AllZip, IsDistinct};
@@ -19,15 +19,16 @@ use std::alloc::{AllocError, Global};
 /// The devices of some nodes.
 #[derive(Drop)]
 pub(crate) struct Devices {
-    /// Each device once.
+    /// Each device once, in the order in which the nodes name them first.
     pub(crate) devices: Vec<Device>,
-    /// For each node the place of its device.
+    /// For each node the index of its device.
     pub(crate) of_nodes: Vec<u32>,
 }
 
 impl Devices {
-    /// The devices of these nodes, with the tables of a file. Time and space are linear in the
-    /// number of routes times the 32 bits of an address, and n log n in the number of hops.
+    /// The devices of these nodes, with the tables of a file. Time: expected linear in the nodes,
+    /// the tables and the number of routes times the 32 bits of an address, and for the hops of
+    /// each route a binary search among the nodes each, and a sort; space: linear in the same.
     ///
     /// # Errors
     ///
@@ -49,6 +50,7 @@ impl Devices {
     }
 
     /// What the device of each node does with the packets to an address. Each device chooses once.
+    /// Time: linear in the nodes, and logarithmic in the number of routes of each device.
     ///
     /// # Errors
     ///
@@ -67,7 +69,7 @@ impl Devices {
     }
 }
 
-/// What each device does with the packets to an address.
+/// What each device does with the packets to an address, in the order of the devices.
 fn steps_of<'a>(
     alloc: Global,
     devices: &'a [Device],
@@ -83,7 +85,8 @@ fn steps_of<'a>(
     Ok(steps)
 }
 
-/// The symbols of the devices of these nodes, each once, and for each node the place of its device.
+/// The symbols of the devices of these nodes, each once, and for each node the index of its device
+/// among them. Time: expected linear in the nodes.
 fn place_devices(
     alloc: Global,
     locations: &Locations,
@@ -103,7 +106,8 @@ fn place_devices(
     Ok((names, of_nodes))
 }
 
-/// The devices of these symbols, with the tables of a file.
+/// The devices of these symbols, in their order, with the tables of a file. One without a table has
+/// no routes.
 fn devices_at(
     alloc: Global,
     tables: &Tables,
@@ -138,7 +142,8 @@ fn routes_of<'a>(tables: &'a Tables, listed: &IndexSet<Symbol>, device: Symbol) 
     }
 }
 
-/// The devices of these tables.
+/// The symbols of the devices of these tables, in their order, so that each has the index of its
+/// table.
 fn devices_of(alloc: Global, tables: &[Table]) -> Result<IndexSet<Symbol>, AllocError>
     requires { IsDistinct nat_eq (devices_of tables.now) }
     ensures { IfOk result (λ devices. devices.keys ≡ devices_of tables.now) }

@@ -8,13 +8,14 @@ use thiserror::Error;
 /// Why no snapshot is written.
 #[derive(Debug, PartialEq, Eq, Drop, Error)]
 pub enum FibError {
-    /// There are more nodes or classes than a snapshot may have, or a graph has more edges.
+    /// There are more than 10,000 nodes or classes, or a graph has more than 100,000 edges, which
+    /// is what a snapshot may have.
     #[error("a snapshot has at most 10,000 nodes and flows, and 100,000 edges a flow")]
     TooMany,
-    /// The text is longer than a snapshot may be.
+    /// The text has more than 33,554,432 bytes, which is what a snapshot may have.
     #[error("a snapshot has at most 33,554,432 bytes")]
     TooLong,
-    /// Memory is wanted.
+    /// Memory ran out.
     #[error("out of memory")]
     Memory,
 }

@@ -10,10 +10,10 @@ use std::alloc::{AllocError, Global};
 /// The greatest number of edges of a graph.
 pub(crate) const MAX_EDGES: usize = 100_000;
 
-/// A graph, whose nodes are named by their places in a list.
+/// A graph, whose nodes are named by their indexes in a list.
 #[derive(Drop)]
 pub(crate) struct ForwardingGraph {
-    /// The edges, in the order of their first and then their second nodes.
+    /// The edges, in the order of their first nodes and then of their second ones.
     pub(crate) edges: Vec<(u32, u32)>,
     /// The nodes where packets are delivered, ascending.
     pub(crate) delivered: Vec<u32>,
@@ -21,7 +21,7 @@ pub(crate) struct ForwardingGraph {
     pub(crate) dropped: Vec<u32>,
 }
 
-/// The graph where the devices of the nodes take these steps, in time linear in its size.
+/// The graph of the nodes whose devices take these steps. Time and space: linear in its size.
 ///
 /// # Errors
 ///
@@ -43,7 +43,8 @@ pub(crate) fn graph_of(alloc: Global, steps: &[&Step]) -> Result<ForwardingGraph
     Ok(graph)
 }
 
-/// Whether the graph where the devices of the nodes take these steps has more than 100,000 edges.
+/// Whether the graph of the nodes whose devices take these steps has more than 100,000 edges. Time:
+/// linear in the nodes; no graph is made.
 pub(crate) fn has_many_edges(steps: &[&Step]) -> bool
     ensures { result ≡ nat_lt 100000 (length (graph_of (map (λ s. s.now) steps.now)).edges) }
 {
@@ -68,7 +69,7 @@ fn push_edges(edges: &mut Vec<(u32, u32)>, from: u32, to: &[u32]) -> Result<(), 
     Ok(())
 }
 
-/// Adds a number, where it passes.
+/// Adds a number, if it passes.
 fn push_if(numbers: &mut Vec<u32>, passes: bool, number: u32) -> Result<(), AllocError>
     ensures { OnOk result (numbers.new.items ≡ numbers.old.items ++ number_if passes number) }
 {

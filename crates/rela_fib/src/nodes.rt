@@ -10,7 +10,8 @@ use rela_tables::{Route, Table, Tables};
 use std::alloc::{AllocError, Global};
 
 /// The nodes of the graphs of these tables: the interfaces of the starts and of the hops of all
-/// routes, each once, in the order of symbols. It takes time n log n in their number.
+/// routes, each once, in the order of symbols. Time: O(n log n) in the number of starts and hops;
+/// space: linear.
 ///
 /// # Errors
 ///
@@ -34,6 +35,7 @@ fn push_hops(interfaces: &mut Vec<Symbol>, tables: &[Table]) -> Result<(), Alloc
     Ok(())
 }
 
+/// Adds the hops of some routes.
 fn push_each(interfaces: &mut Vec<Symbol>, routes: &[Route]) -> Result<(), AllocError>
     ensures { IfOk result (λ _. interfaces.new.items
         ≡ interfaces.old.items ++ flat_map hops_of routes.now) }

@@ -1,4 +1,4 @@
-//! The pieces of JSON that a snapshot is written of.
+//! The pieces of compact JSON (RFC 8259) that a snapshot is written of.
 
 ghost use Rattle.std.specs.Prelude.{◌≡◌, ◌++◌, ◌∷◌, [], OnOk, decimal, map, slice_index_or};
 ghost use Rattle.json.specs.Print.{escape};
@@ -14,7 +14,7 @@ use rela_locations::Locations;
 use rela_names::{Alphabet, Level, Symbol};
 use std::alloc::AllocError;
 
-/// Adds a comma, where something stands before.
+/// Adds a comma, if a member or entry stands before.
 pub(crate) fn push_comma(text: &mut Vec<u8>, later: bool) -> Result<(), AllocError>
     ensures { OnOk result (text.new.items ≡ text.old.items ++ comma_if later) }
 {
@@ -24,7 +24,7 @@ pub(crate) fn push_comma(text: &mut Vec<u8>, later: bool) -> Result<(), AllocErr
     Ok(())
 }
 
-/// Adds the name of a member, with its colon.
+/// Adds the name of a member, with its colon, and a comma before it if a member stands before.
 pub(crate) fn push_key(text: &mut Vec<u8>, later: bool, name: &[u8]) -> Result<(), AllocError>
     ensures { OnOk result (text.new.items ≡ text.old.items ++ key_text later name.now) }
 {
@@ -44,6 +44,7 @@ pub(crate) fn push_plain(text: &mut Vec<u8>, string: &[u8]) -> Result<(), AllocE
     Ok(())
 }
 
+/// Adds a number in decimal.
 fn push_number(text: &mut Vec<u8>, number: u32) -> Result<(), AllocError>
     ensures { OnOk result (text.new.items ≡ text.old.items ++ decimal number) }
 {
@@ -65,7 +66,7 @@ pub(crate) fn push_numbers(text: &mut Vec<u8>, numbers: &[u32]) -> Result<(), Al
     Ok(())
 }
 
-/// Adds an array of two numbers.
+/// Adds an array of two numbers: the node that an edge comes from, and the one that it leads to.
 fn push_edge(text: &mut Vec<u8>, edge: (u32, u32)) -> Result<(), AllocError>
     ensures { OnOk result (text.new.items ≡ text.old.items ++ compact_text (edge_data edge)) }
 {
@@ -99,7 +100,7 @@ pub(crate) fn interfaces_ascend(locations: &Locations)
     let _len = locations.alphabet(Level::Interface).len();
 }
 
-/// The name of a symbol, which needs no escapes.
+/// The name of a symbol, which needs no escapes. It is empty for a symbol that is no location.
 fn name_in(alphabet: &Alphabet, symbol: Symbol) -> &[u8]
     ensures name { result.now ≡ slice_index_or alphabet.now symbol [] }
     ensures plain { escape result.now ≡ result.now }
@@ -110,7 +111,7 @@ fn name_in(alphabet: &Alphabet, symbol: Symbol) -> &[u8]
     }
 }
 
-/// Adds an array of the names of these interfaces.
+/// Adds an array of the names of these interfaces. Time: linear in the text.
 pub(crate) fn push_names(
     text: &mut Vec<u8>,
     locations: &Locations,

@@ -1,4 +1,4 @@
-//! The places of interfaces among the nodes.
+//! The indexes of interfaces among the nodes.
 
 ghost use Rattle.std.specs.Prelude.{◌<◌, ◌^◌, IfOk, length};
 ghost use Rattle.std.specs.List.Sorted.{IsStrictlyIncreasing};
@@ -8,8 +8,8 @@ use crate::numbers::ascending;
 use rela_names::Symbol;
 use std::alloc::{AllocError, Global};
 
-/// The places of the nodes that are among these interfaces, ascending. It takes a binary search for
-/// each interface, and a sort.
+/// The indexes of the nodes that are among these interfaces, ascending and each once. Time: a
+/// binary search for each interface, and a sort.
 ///
 /// # Errors
 ///

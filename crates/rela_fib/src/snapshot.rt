@@ -30,15 +30,15 @@ const MAX_FLOWS: usize = 10_000;
 /// chooses, by `tables`, for the addresses of the class. Read as a snapshot of these locations, the
 /// text gives just these flows, each from any address and in the class `default`.
 ///
-/// Time and space are linear in the number of routes times the 32 bits of an address, n log n in
-/// the number of hops, and linear in the text; and each device of a node chooses once for each
-/// class, in time logarithmic in the number of its routes.
+/// Time and space: linear in the number of routes times the 32 bits of an address, O(n log n) in
+/// the number of hops, and linear in the text; for each class the nodes are passed once, and each
+/// of their devices chooses once, in time logarithmic in the number of its routes.
 ///
 /// # Errors
 ///
 /// `TooMany` where there are more than 10,000 nodes or classes, or the graph of some class has more
 /// than 100,000 edges; else `TooLong` where the text would have more than 33,554,432 bytes;
-/// `Memory`.
+/// `Memory` where memory runs out.
 pub fn snapshot_text(
     alloc: Global,
     tables: &Tables,

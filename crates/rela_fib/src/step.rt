@@ -9,19 +9,19 @@ use rela_names::{List, Symbol};
 use rela_tables::Route;
 use std::alloc::{AllocError, Global};
 
-/// What a device does with the packets to an address.
+/// What a device does with the packets that one route, or no route, is chosen for.
 #[derive(Drop)]
 pub(crate) struct Step {
-    /// The places of the nodes that the packets go to next, ascending.
+    /// The indexes of the nodes that the packets go to next, ascending.
     pub(crate) next: List<u32>,
     /// Whether the packets are delivered at the device.
     pub(crate) is_delivered: bool,
-    /// Whether the device drops them.
+    /// Whether the device drops the packets.
     pub(crate) is_dropped: bool,
 }
 
 impl Step {
-    /// What is done where no route is chosen.
+    /// What is done where no route is chosen: the packets are dropped.
     pub(crate) fn without_route(alloc: Global) -> Step
         ensures { (nodes : List ℕ) → IsStep nodes None result }
     {
@@ -32,7 +32,12 @@ impl Step {
         }
     }
 
-    /// What is done by a route.
+    /// What is done by a route: the packets go to its hops, are dropped where its list of hops is
+    /// empty, and are delivered where it has none.
+    ///
+    /// # Errors
+    ///
+    /// Only where memory is wanted.
     pub(crate) fn by_route(
         alloc: Global,
         nodes: &[Symbol],

@@ -1,4 +1,4 @@
-//! The text of a snapshot.
+//! The text of a snapshot, written flow after flow.
 
 ghost use Rattle.std.specs.Prelude.{◌≡◌, ◌≢◌, ◌<◌, ◌^◌, ◌++◌, Err, IfOk, OnOk, length};
 ghost use Rattle.rela_fib.specs.Steps.{IsMatched, drawn};
@@ -17,13 +17,14 @@ use std::alloc::{AllocError, Global};
 /// The greatest number of bytes of a snapshot.
 const MAX_BYTES: usize = 33_554_432;
 
-/// The text of the snapshot that has a flow for each of these classes, which all end in `end`. It
-/// takes time linear in the text, and a look of each device at each class.
+/// The text of the snapshot that has a flow for each of these classes, which all end in `end`.
+/// Time: linear in the text, a pass over the nodes for each class, and a choice of each device for
+/// each class.
 ///
 /// # Errors
 ///
 /// `TooMany` where the graph of a class has more than 100,000 edges; else `TooLong` where the text
-/// would have more than 33,554,432 bytes; `Memory`.
+/// would have more than 33,554,432 bytes; `Memory` where memory runs out.
 pub(crate) fn text_of(
     alloc: Global,
     devices: &Devices,
@@ -47,7 +48,12 @@ pub(crate) fn text_of(
     Ok(text)
 }
 
-/// Adds the flows of these classes, until the text is too long.
+/// Adds the flows of these classes, until the text is longer than a snapshot may be.
+///
+/// # Errors
+///
+/// `TooMany` where the graph of a class has more than 100,000 edges, also past that length;
+/// `Memory`. Never `TooLong`.
 fn push_flows(
     alloc: Global,
     text: &mut Vec<u8>,
@@ -68,7 +74,12 @@ fn push_flows(
     Ok(())
 }
 
-/// Adds the flow of a class, unless the text is too long.
+/// Adds the flow of a class, unless the text is longer than a snapshot may be. A comma stands
+/// before it where it comes `later` than the first.
+///
+/// # Errors
+///
+/// `TooMany` where the graph of the class has more than 100,000 edges; `Memory`. Never `TooLong`.
 fn push_class(
     alloc: Global,
     text: &mut Vec<u8>,
@@ -97,7 +108,7 @@ fn push_class(
     Ok(())
 }
 
-/// Adds a flow.
+/// Adds a flow, of which `end` are the nodes and the starts.
 fn push_flow(
     alloc: Global,
     text: &mut Vec<u8>,
@@ -114,7 +125,7 @@ fn push_flow(
     Ok(())
 }
 
-/// Adds the ends of the paths.
+/// Adds the brace that begins a flow, and the lists of nodes that deliver and that drop.
 fn push_ends(text: &mut Vec<u8>, graph: &ForwardingGraph) -> Result<(), AllocError>
     ensures { OnOk result (text.new.items ≡ text.old.items ++ ends_text (drawn graph.now)) }
 {
@@ -126,7 +137,7 @@ fn push_ends(text: &mut Vec<u8>, graph: &ForwardingGraph) -> Result<(), AllocErr
     Ok(())
 }
 
-/// Adds the class and the edges.
+/// Adds the class, as the `dst` and the name of a flow, and the edges.
 fn push_middle(
     alloc: Global,
     text: &mut Vec<u8>,
@@ -146,7 +157,11 @@ fn push_middle(
     Ok(())
 }
 
-/// What ends each flow: the nodes and the starts.
+/// What ends each flow: the names of its nodes, the indexes of its starts, and the brace.
+///
+/// # Errors
+///
+/// Only where memory is wanted.
 pub(crate) fn end_of(
     alloc: Global,
     locations: &Locations,
