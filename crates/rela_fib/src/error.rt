@@ -8,11 +8,11 @@ use thiserror::Error;
 /// Why no snapshot is written.
 #[derive(Debug, PartialEq, Eq, Drop, Error)]
 pub enum FibError {
-    /// There are more than 10,000 nodes or classes, or a graph has more than 100,000 edges, which
-    /// is what a snapshot may have.
+    /// There are more than 10,000 nodes or classes, or more than 100,000 edges in a graph, and a
+    /// snapshot may have no more.
     #[error("a snapshot has at most 10,000 nodes and flows, and 100,000 edges a flow")]
     TooMany,
-    /// The text has more than 33,554,432 bytes, which is what a snapshot may have.
+    /// The text has more than 33,554,432 bytes, and a snapshot may have no more.
     #[error("a snapshot has at most 33,554,432 bytes")]
     TooLong,
     /// Memory ran out.
