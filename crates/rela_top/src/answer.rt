@@ -1,4 +1,4 @@
-//! The text that a run writes, and its status.
+//! The text that a run writes, and its exit status.
 
 ghost use Rattle.std.specs.Prelude.{◌≡◌, ◌<◌};
 ghost use Rattle.rela_io.specs.Count.{Rose};
@@ -6,28 +6,29 @@ ghost use Rattle.rela_top.specs.Answer.{Delivers};
 
 use rela_io::{Sink, write_all};
 
-/// Every row is compliant or unselected; a canonical text or a snapshot is written.
+/// The status where every row is compliant or unselected, and where a canonical text or a snapshot
+/// is written.
 pub const MET: u8 = 0;
 
-/// Some row is violated.
+/// The status where some row is violated.
 pub const VIOLATED: u8 = 1;
 
-/// The words of the command line aren't read.
+/// The status where the words of the command line aren't read.
 pub const BAD_WORDS: u8 = 2;
 
-/// No row is violated, and some row is undecided.
+/// The status where no row is violated, and some row is undecided.
 pub const UNDECIDED: u8 = 3;
 
-/// An input is refused.
+/// The status where an input is refused.
 pub const REFUSED: u8 = 4;
 
-/// A file can't be read.
+/// The status where a file can't be read. Nothing is written.
 pub const READ_FAULT: u8 = 5;
 
-/// The answer can't be written.
+/// The status where the answer can't be written, or not to its end.
 pub const WRITE_FAULT: u8 = 6;
 
-/// Memory ran out.
+/// The status where memory ran out. Nothing is written.
 pub const NO_MEMORY: u8 = 7;
 
 /// A text that is made whole before any of it is written, and the status that says what it is.
@@ -35,11 +36,12 @@ pub const NO_MEMORY: u8 = 7;
 pub struct Answer {
     /// The lines, each with its line feed.
     pub text: Vec<u8>,
-    /// The status once they are written.
+    /// The exit status once they are written.
     pub status: u8,
 }
 
-/// Writes the text, and gives the status, or [`WRITE_FAULT`] where a write fails.
+/// Writes the text, and gives the status, or [`WRITE_FAULT`] where a write fails. It takes no
+/// memory.
 pub fn deliver<K: Sink>(out: &mut K, text: &[u8], status: u8) -> u8
     requires { status < WRITE_FAULT }
     ensures delivered { Delivers (K.taken out.old) (K.taken out.new)

@@ -1,4 +1,5 @@
-//! Words that are read one after another: operands, and what the options among them say.
+//! The words after a command's name, read one after another: operands, and what the options among
+//! them say.
 
 ghost use Rattle.std.specs.Prelude.{◌≡◌, ◌≢◌, ℕ, ◌+◌, ◌≤◌, ◌↔◌, ◌⊎◌, ◌∷◌, List, [], Option, true, false, None, Some, IsTrue, MatchOption, MatchResult, OnOk, OnErr, IfOk, map, length, string_bytes};
 ghost use Rattle.rela_top.specs.Words.{Give, GivesStates, is_plain};
@@ -10,19 +11,19 @@ use crate::words::MAX_STATES;
 #[derive(Clone, Copy, Debug)]
 pub(crate) struct BadWords;
 
-/// The words that are left, and what was met before them.
+/// The words that are left, and what the words before them said.
 #[derive(Clone, Copy)]
 pub(crate) struct Arguments<'a> {
     /// The words that are left.
     rest: &'a [String],
     /// Whether a word `--` was met: each word after it is an operand.
     ended: bool,
-    /// The limit that was met.
+    /// The state limit that an option gave, and `None` where none did.
     states: Option<usize>,
 }
 
 impl<'a> Arguments<'a> {
-    /// All of the words.
+    /// All of the words, of which none is read yet.
     pub(crate) fn new(words: &'a [String]) -> Arguments<'a>
         ensures { (operands : List (List ℕ)) (states : Option ℕ) →
             StillGive result operands states ↔ Give (map string_bytes words.now) operands states }
@@ -34,7 +35,7 @@ impl<'a> Arguments<'a> {
         }
     }
 
-    /// The next operand, if there is one.
+    /// The next operand, and `None` where there is none, or an option before it can't be read.
     pub(crate) fn operand(&mut self) -> Option<&'a str>
         ensures { MatchOption result ((n : ℕ) → GiveNone self.old (n + 1)) (λ word. Passes self.old word.now self.new) }
     {
@@ -44,7 +45,8 @@ impl<'a> Arguments<'a> {
         }
     }
 
-    /// The limit that was given, or none, where no further operand comes.
+    /// The state limit that was given, where no operand is left; it is `Some(None)` where no option
+    /// gave one. `None` where an operand is left, or an option before the end can't be read.
     pub(crate) fn end(&mut self) -> Option<Option<usize>>
         ensures { MatchOption result (GiveNone self.old 0) (GiveJust self.old []) }
     {
@@ -54,7 +56,12 @@ impl<'a> Arguments<'a> {
         }
     }
 
-    // The next operand, or none at the end of the words.
+    /// The next operand, and `None` at the end of the words. The options before it are taken. Time:
+    /// linear in the bytes of the words that are read.
+    ///
+    /// # Errors
+    ///
+    /// `BadWords` where a word before it is no option, or one that can't be taken.
     fn read(&mut self) -> Result<Option<&'a str>, BadWords>
         ensures { MatchResult result (λ word. MatchOption word (GiveJust self.old [] self.new.states) (λ w. Passes self.old w.now self.new))
             (λ _. GiveNothing self.old) }
@@ -69,7 +76,12 @@ impl<'a> Arguments<'a> {
         Ok(None)
     }
 
-    // Takes a word that is no operand.
+    /// Takes a word that is no operand: `--`, or an option with the state limit.
+    ///
+    /// # Errors
+    ///
+    /// `BadWords` where the word is neither, the option has no number from 1 to 4,000,000, or an
+    /// earlier one gave a limit.
     fn option(&mut self, word: &'a str) -> Result<(), BadWords>
         requires open { self.old.ended ≡ false }
         requires option { is_plain word.now ≡ false }
@@ -91,7 +103,12 @@ impl<'a> Arguments<'a> {
         Ok(())
     }
 
-    // The number that an option gives, in its own word or the next one.
+    /// The number that an option with the state limit gives, in its own word or as the next one,
+    /// which is then taken.
+    ///
+    /// # Errors
+    ///
+    /// `BadWords` where the word is no such option, or no word comes next.
     fn number(&mut self, word: &'a str) -> Result<&'a str, BadWords>
         ensures number { IfOk result (λ number. HasNumber word.now (map string_bytes self.old.rest.now)
             number.now (map string_bytes self.new.rest.now)) }
@@ -109,14 +126,15 @@ impl<'a> Arguments<'a> {
     }
 }
 
-// Whether the word can stand for an operand before `--`: no dash begins it, or it is one alone.
+/// Whether the word can stand for an operand before `--`: no dash begins it, or it is a dash alone.
 fn is_plain(word: &str) -> bool
     ensures { result ≡ is_plain word.now }
 {
     !matches!(word.as_bytes(), [b'-', _, ..])
 }
 
-// The number of states that the word gives.
+/// The state limit that the word gives: decimal digits without a sign or a zero before them, for a
+/// number from 1 to [`MAX_STATES`]. `None` for any other word.
 fn states_of(word: &str) -> Option<usize>
     ensures { (n : ℕ) → (result ≡ Some n) ↔ GivesStates word.now n }
 {

@@ -1,4 +1,4 @@
-//! What a specification asks for.
+//! What a specification asks for, from its text.
 
 ghost use Rattle.std.specs.Prelude.{◌≢◌, ◌≤◌, Ok, Err, IfOk, IfErr, All, length};
 ghost use Rattle.rela_locations.specs.Network.{alphabet_of};
@@ -13,12 +13,12 @@ use rela_names::Level;
 use rela_translate::Check;
 use std::alloc::Global;
 
-/// What a specification asks for.
+/// What a specification asks for: checks over the locations of one level.
 #[derive(Debug, Drop)]
 pub struct Asked {
     /// The level of its locations.
     pub level: Level,
-    /// Its checks, in their order.
+    /// Its checks, in their order, with all names replaced by what they stand for.
     pub checks: Vec<Check>,
 }
 

@@ -17,7 +17,12 @@ use rela_locations::Locations;
 use std::alloc::Global;
 
 /// Reads the locations, the tables and the other tables in the files of these names, in this order,
-/// and makes the snapshot of the tables. The first refusal or fault ends it.
+/// and makes the snapshot of the tables. Time and space: those of decoding the files and of
+/// [`snapshot_text`].
+///
+/// # Errors
+///
+/// The first refusal, read fault or want of memory ends it.
 pub fn draw<F: Files>(
     alloc: Global,
     files: &mut F,
@@ -43,7 +48,7 @@ pub fn draw<F: Files>(
     draw_over(alloc, files, tables, other, &locations)
 }
 
-// The same over the locations that were read first.
+/// The answer of [`draw`] over locations that are read already.
 fn draw_over<F: Files>(
     alloc: Global,
     files: &mut F,

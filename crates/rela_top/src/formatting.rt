@@ -21,6 +21,10 @@ use rela_spec::{SpecFile, parse};
 use std::alloc::Global;
 
 /// Reads the specification in the file of this name, and makes its canonical text.
+///
+/// # Errors
+///
+/// The first refusal, read fault or want of memory ends it.
 pub fn format<F: Files>(alloc: Global, files: &mut F, spec: &str) -> Result<Answer, Halt>
     ensures formats { IfOk result (λ answer.
         Formats (F.holds files.old) spec.now (Ok (answer_by answer))) }

@@ -1,4 +1,5 @@
-//! Loading each input: its bytes are read whole, and then decoded.
+//! Loading each input: its bytes are read whole, and then decoded. The first refusal or fault is
+//! the answer.
 
 ghost use Rattle.std.specs.Prelude.{◌≡◌, ◌≢◌, ◌≤◌, Ok, Err, All, IsTrue, IfOk, IfErr, OnOk};
 ghost use Rattle.rela_names.specs.declared.level.Level.{Level};
@@ -28,6 +29,11 @@ use rela_tables::Tables;
 use std::alloc::Global;
 
 /// The locations in the file of this name.
+///
+/// # Errors
+///
+/// `ReadFault` where the file can't be read; `Refused` where it is too long, or for its first
+/// fault; `Memory`.
 pub fn load_locations<F: Files>(alloc: Global, files: &mut F, name: &str) -> Result<Locations, Halt>
     ensures network { IfOk result (λ locations.
         Gives (F.holds files.old) name.now Input.Locations ReadsNetwork (Ok locations)) }
@@ -49,7 +55,7 @@ pub fn load_locations<F: Files>(alloc: Global, files: &mut F, name: &str) -> Res
     }
 }
 
-// What a decoder's error ends the command with.
+/// What a decoder's error ends the command with: want of memory, or the refusal of this input.
 fn load_halt(input: Input, error: LoadError) -> Halt
     ensures { result ≡ load_halt input error }
 {
@@ -59,7 +65,13 @@ fn load_halt(input: Input, error: LoadError) -> Halt
     }
 }
 
-/// The snapshot in the file of this name, which stands for this input. Its graphs lie in the locations.
+/// The snapshot in the file of this name, which stands for this input. Its graphs lie in the
+/// locations.
+///
+/// # Errors
+///
+/// `ReadFault` where the file can't be read; `Refused` where it is too long, or for its first
+/// fault; `Memory`.
 pub fn load_snapshot<F: Files>(
     alloc: Global,
     files: &mut F,
@@ -90,6 +102,11 @@ pub fn load_snapshot<F: Files>(
 }
 
 /// The tables in the file of this name, which stands for this input; they speak of the locations.
+///
+/// # Errors
+///
+/// `ReadFault` where the file can't be read; `Refused` where it is too long, or for its first
+/// fault; `Memory`.
 pub fn load_tables<F: Files>(
     alloc: Global,
     files: &mut F,
@@ -120,6 +137,11 @@ pub fn load_tables<F: Files>(
 
 /// The flows of the snapshots in the files of these names, side by side. Their graphs lie in the
 /// locations.
+///
+/// # Errors
+///
+/// That of the snapshot before, or else of the one after, as [`load_snapshot`] gives it; else
+/// `Refused` where a flow differs between them; `Memory`.
 pub fn load_pairs<F: Files>(
     alloc: Global,
     files: &mut F,
@@ -152,6 +174,11 @@ pub fn load_pairs<F: Files>(
 }
 
 /// What the specification in the file of this name asks for over these locations.
+///
+/// # Errors
+///
+/// `ReadFault` where the file can't be read; `Refused` where it is too long, or for its first
+/// fault; `Memory`.
 pub fn load_spec<F: Files>(
     alloc: Global,
     files: &mut F,
@@ -181,7 +208,7 @@ pub fn load_spec<F: Files>(
     }
 }
 
-// What an error of the specification ends the command with.
+/// What an error of the specification ends the command with: want of memory, or its refusal.
 pub(crate) fn spec_halt(error: SpecError) -> Halt
     ensures { result ≡ spec_halt error }
 {
@@ -191,7 +218,8 @@ pub(crate) fn spec_halt(error: SpecError) -> Halt
     }
 }
 
-// What a difference between two snapshots ends the command with.
+/// What an error of pairing two snapshots ends the command with: want of memory, or the refusal of
+/// the pair.
 fn pair_halt(error: PairError) -> Halt
     ensures { result ≡ pair_halt error }
 {
@@ -203,7 +231,8 @@ fn pair_halt(error: PairError) -> Halt
     }
 }
 
-// What an error of drawing a snapshot from tables ends the command with.
+/// What an error of making a snapshot from tables ends the command with: want of memory, or its
+/// refusal.
 pub(crate) fn fib_halt(error: FibError) -> Halt
     ensures { result ≡ fib_halt error }
 {

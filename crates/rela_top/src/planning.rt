@@ -9,7 +9,13 @@ use rela_snapshot::FlowPair;
 use rela_translate::Check;
 use std::alloc::{AllocError, Global};
 
-/// The rows to be made for these flows under these checks, each by its place.
+/// The rows to be made for these flows under these checks, each with the indexes of its flow and
+/// its check. Time: linear in the flows times the sizes of the predicates; space: linear in the
+/// flows, the checks and the rows.
+///
+/// # Errors
+///
+/// Only where memory is wanted.
 pub(crate) fn plan_rows(
     alloc: Global,
     pairs: &[FlowPair],
@@ -22,6 +28,7 @@ pub(crate) fn plan_rows(
     plan(alloc, &classes, &predicates)
 }
 
+/// What is said of each flow, lent in their order.
 fn classes_of<'a>(alloc: Global, pairs: &'a [FlowPair]) -> Result<Vec<&'a FlowClass>, AllocError>
     ensures { IfOk result (λ classes. map (λ c. c.now) classes.items ≡ map (λ pair. pair.class) pairs.now) }
 {
@@ -32,6 +39,7 @@ fn classes_of<'a>(alloc: Global, pairs: &'a [FlowPair]) -> Result<Vec<&'a FlowCl
     Ok(classes)
 }
 
+/// The predicate of each check, lent in their order.
 fn predicates_of<'a>(alloc: Global, checks: &'a [Check]) -> Result<Vec<&'a Predicate>, AllocError>
     ensures predicates { IfOk result (λ predicates. map (λ p. p.now) predicates.items ≡ map (λ check. check.when) checks.now) }
     ensures shallow { IfOk result (λ predicates. All (λ p. depth p.now ≤ 1000) predicates.items) }
@@ -43,6 +51,7 @@ fn predicates_of<'a>(alloc: Global, checks: &'a [Check]) -> Result<Vec<&'a Predi
     Ok(predicates)
 }
 
+/// The predicate by which a check selects flows, which is at most 1,000 deep.
 fn predicate_of(check: &Check) -> &Predicate
     ensures predicate { result.now ≡ check.now.when }
     ensures shallow { depth result.now ≤ 1000 }

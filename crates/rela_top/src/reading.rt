@@ -10,7 +10,7 @@ use crate::refusal::{Input, Refusal};
 use rela_io::{Files, ReadError, read_all};
 use std::alloc::{AllocError, Global};
 
-/// The most bytes that a file may have.
+/// The most bytes that a file may have: 32 MiB.
 pub const MAX_FILE_BYTES: usize = 33_554_432;
 
 /// Why a command ends before its answer.
@@ -35,6 +35,11 @@ impl From<AllocError> for Halt {
 }
 
 /// The bytes of the file of this name, which stands for an input.
+///
+/// # Errors
+///
+/// `ReadFault` where the file can't be opened or a read fails; `Refused` where it has more than
+/// [`MAX_FILE_BYTES`]; `Memory`.
 #[tactic(auto, unfolding(crate::specs::Inputs::HasBytes))]
 pub fn read_input<F: Files>(
     alloc: Global,

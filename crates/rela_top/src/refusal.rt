@@ -29,11 +29,12 @@ pub enum Input {
 /// Why an input is refused.
 #[derive(Debug, Drop)]
 pub enum Refusal {
-    /// The file has more bytes than are allowed.
+    /// The file of this input has more bytes than are allowed.
     TooLong(Input),
-    /// The first fault of the file, in the order in which it is walked. It isn't want of memory.
+    /// The first fault of a JSON file, which stands for this input, in the order in which it is
+    /// walked. It isn't want of memory.
     Load { input: Input, error: LoadError },
-    /// A flow of one name whose two snapshots tell different classes of it.
+    /// The two snapshots give a flow of one name different prefixes or classes.
     FlowDiffers { before: FlowClass, after: FlowClass },
     /// The first fault of the specification. It isn't want of memory.
     Specification(SpecError),
@@ -41,7 +42,12 @@ pub enum Refusal {
     Snapshot(FibError),
 }
 
-/// The line that a refused input gets, with its line feed.
+/// The line that a refused input gets, with its line feed: `refused`, the place, the number and
+/// name of the refusal, and its detail.
+///
+/// # Errors
+///
+/// Only where memory is wanted.
 pub fn refusal_line(alloc: Global, refusal: &Refusal) -> Result<Vec<u8>, AllocError>
     ensures { IfOk result (λ text. text.items ≡ refusal_line refusal.now) }
 {
@@ -66,6 +72,7 @@ pub fn refusal_line(alloc: Global, refusal: &Refusal) -> Result<Vec<u8>, AllocEr
     }
 }
 
+/// The place that a refusal names for an input.
 fn input_text(input: Input) -> &'static str
     ensures { result.now ≡ input_text input }
 {
@@ -79,6 +86,7 @@ fn input_text(input: Input) -> &'static str
     }
 }
 
+/// The line that says what is refused at a place.
 #[tactic(auto, unfolding(crate::specs::Refusal::at_place))]
 fn at_place(alloc: Global, place: &str, said: &[u8]) -> Result<Vec<u8>, AllocError>
     ensures { IfOk result (λ text. text.items ≡ at_place place.now said.now) }
@@ -92,6 +100,8 @@ fn at_place(alloc: Global, place: &str, said: &[u8]) -> Result<Vec<u8>, AllocErr
     Ok(text)
 }
 
+/// The number and name of a JSON file's fault, with its rule and its row where it has them. It is
+/// empty for want of memory, which is no refusal.
 fn load_text(alloc: Global, error: &LoadError) -> Result<String, AllocError>
     ensures { IfOk result (λ text. string_bytes text ≡ load_text error.now) }
 {
@@ -114,6 +124,7 @@ fn load_text(alloc: Global, error: &LoadError) -> Result<String, AllocError>
     }
 }
 
+/// The number and name of a wrong shape, with the rule that is broken.
 #[tactic(auto, unfolding(crate::specs::Refusal::by_rule))]
 fn by_rule(alloc: Global, rule: u8) -> Result<String, AllocError>
     ensures { IfOk result (λ text. string_bytes text ≡ by_rule rule) }
@@ -121,6 +132,7 @@ fn by_rule(alloc: Global, rule: u8) -> Result<String, AllocError>
     format!(in alloc; "12 WrongShape rule {rule}")
 }
 
+/// A refusal with the row that it stands in.
 #[tactic(auto, unfolding(crate::specs::Refusal::in_row))]
 fn in_row(alloc: Global, refusal: &str, row: u32) -> Result<String, AllocError>
     ensures { IfOk result (λ text. string_bytes text ≡ in_row refusal.now row) }
@@ -128,6 +140,8 @@ fn in_row(alloc: Global, refusal: &str, row: u32) -> Result<String, AllocError>
     format!(in alloc; "{refusal} row {row}")
 }
 
+/// The number and name of a specification's fault, and the offset in bytes where it stands. It is
+/// empty for want of memory, which is no refusal.
 fn spec_text(alloc: Global, error: &SpecError) -> Result<String, AllocError>
     ensures { IfOk result (λ text. string_bytes text ≡ spec_text error.now) }
 {
@@ -146,6 +160,7 @@ fn spec_text(alloc: Global, error: &SpecError) -> Result<String, AllocError>
     }
 }
 
+/// A refusal with the offset in bytes where it stands.
 #[tactic(auto, unfolding(crate::specs::Refusal::at_offset))]
 fn at_offset(alloc: Global, refusal: &str, at: u32) -> Result<String, AllocError>
     ensures { IfOk result (λ text. string_bytes text ≡ at_offset refusal.now at) }
@@ -153,6 +168,8 @@ fn at_offset(alloc: Global, refusal: &str, at: u32) -> Result<String, AllocError
     format!(in alloc; "{refusal} at {at}")
 }
 
+/// The number and name of why tables give no snapshot. It is empty for want of memory, which is no
+/// refusal.
 fn fib_text(alloc: Global, error: &FibError) -> Result<String, AllocError>
     ensures { IfOk result (λ text. string_bytes text ≡ fib_text error.now) }
 {
@@ -163,6 +180,7 @@ fn fib_text(alloc: Global, error: &FibError) -> Result<String, AllocError>
     }
 }
 
+/// The number and name of a difference, the flow's name, and what each snapshot says of it.
 #[tactic(auto, unfolding(crate::specs::Refusal::differs_text))]
 fn differs_text(alloc: Global, before: &FlowClass, after: &FlowClass) -> Result<Vec<u8>, AllocError>
     ensures { IfOk result (λ text. text.items ≡ differs_text before.now after.now) }
@@ -175,6 +193,7 @@ fn differs_text(alloc: Global, before: &FlowClass, after: &FlowClass) -> Result<
     Ok(text)
 }
 
+/// Appends the destination, the source and the class of a flow.
 #[tactic(auto, unfolding(crate::specs::Refusal::class_text))]
 fn push_class(alloc: Global, text: &mut Vec<u8>, flow: &FlowClass) -> Result<(), AllocError>
     ensures { OnOk result (text.new.items ≡ text.old.items ++ class_text flow.now) }

@@ -1,4 +1,4 @@
-//! From the four files to the report.
+//! From the two snapshots, the locations and the specification to the report.
 
 ghost use Rattle.std.specs.Prelude.{◌≡◌, ◌≢◌, ◌≤◌, Ok, Err, IsTrue, IfOk, IfErr, OnOk};
 ghost use Rattle.rela_io.specs.Held.{HoldsName};
@@ -21,8 +21,12 @@ use rela_translate::Check;
 use std::alloc::{AllocError, Global};
 
 /// Reads the locations, the snapshot before, the snapshot after and the specification in the files
-/// of these names, in this order, and makes the report under this state limit. The first refusal or
-/// fault ends it.
+/// of these names, in this order, and makes the report. `states` is the state limit of each
+/// verdict.
+///
+/// # Errors
+///
+/// The first refusal, read fault or want of memory ends it.
 pub fn report<F: Files>(
     alloc: Global,
     files: &mut F,
@@ -52,7 +56,7 @@ pub fn report<F: Files>(
     report_over(alloc, files, before, after, spec, &locations, states)
 }
 
-// The same over the locations that were read first.
+/// The answer of [`report`] over locations that are read already.
 fn report_over<F: Files>(
     alloc: Global,
     files: &mut F,
@@ -89,8 +93,12 @@ fn report_over<F: Files>(
     )?)
 }
 
-// The report on these flows under these checks, made whole; `names` are the locations of the checks'
-// level.
+/// The report on these flows under these checks, made whole. `names` are the locations of the
+/// checks' level.
+///
+/// # Errors
+///
+/// Only where memory is wanted.
 fn report_on(
     alloc: Global,
     pairs: &[FlowPair],

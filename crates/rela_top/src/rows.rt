@@ -1,4 +1,4 @@
-//! The rows of a run.
+//! The rows of a run: which there are, and the verdict of each.
 
 ghost use Rattle.std.specs.Prelude.{◌≡◌, ◌≤◌, IfOk, OnOk, All, length, map};
 ghost use Rattle.std.specs.List.{AllZip};
@@ -18,10 +18,14 @@ use rela_translate::Check;
 use std::alloc::{AllocError, Global};
 use std::collections::HashMap;
 
-/// The rows of the flows under the checks, whose locations are those of the alphabet: flow after flow,
-/// one for each check that selects it, in their order, or one alone. `states` is the state limit. Each
-/// check is compiled once, and decided once for all flows that look the same at its level, where the
-/// checks have one level.
+/// The rows of the flows under the checks, whose locations are those of the alphabet: flow after
+/// flow, one for each check that selects it, in the order of the checks, or one alone where none
+/// does. `states` is the state limit. Each check is compiled once, and decided once for all flows
+/// that look the same at its level, where the checks have one level.
+///
+/// # Errors
+///
+/// Only where memory is wanted.
 pub fn rows_of(
     alloc: Global,
     pairs: &[FlowPair],
@@ -39,7 +43,7 @@ pub fn rows_of(
     decide_all(alloc, &planned, pairs, &compiled, alphabet)
 }
 
-// Each check, compiled under the state limit.
+/// Each check, compiled under the state limit, in their order.
 fn compile_all<'a>(
     alloc: Global,
     checks: &'a [Check],
@@ -59,7 +63,8 @@ fn compile_all<'a>(
     Ok(compiled)
 }
 
-// The rows that are planned, in their order. Under a check, flows that look the same are decided once.
+/// The rows that are planned, in their order. Under a check, flows that look the same are decided
+/// once.
 fn decide_all(
     alloc: Global,
     planned: &[PlannedRow],
@@ -90,7 +95,8 @@ fn decide_all(
     Ok(rows)
 }
 
-// The row that is planned. Its verdict is that on the flow that looks the same.
+/// The row that is planned. Its verdict is that on the flow that looks the same, whose index is in
+/// `others`.
 fn row_of(
     alloc: Global,
     planned: &PlannedRow,
@@ -123,7 +129,7 @@ fn row_of(
     }
 }
 
-// The row of a flow under a check, with this verdict.
+/// The row of a flow under a check, with this verdict.
 fn row_under(
     alloc: Global,
     pair: &FlowPair,

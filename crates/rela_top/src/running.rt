@@ -59,14 +59,20 @@ pub fn run<F: Files, K: Sink>(alloc: Global, words: &[String], files: &mut F, ou
     }
 }
 
-// Why a run writes nothing.
+/// Why a run writes nothing.
 #[derive(Clone, Copy)]
 enum Stop {
+    /// A file can't be read.
     ReadFault,
+    /// Memory ran out.
     Memory,
 }
 
-// What is answered to the command: what it makes, or the line that an input is refused with.
+/// What is answered to the command: what it makes, or the line that an input is refused with.
+///
+/// # Errors
+///
+/// `ReadFault` where a file can't be read; `Memory` where memory runs out.
 fn answer<F: Files>(alloc: Global, files: &mut F, command: &Command<'_>) -> Result<Answer, Stop>
     requires { HasStates (command_of command.now) }
     ensures fits { IfOk result (λ answer.
@@ -96,7 +102,11 @@ fn answer<F: Files>(alloc: Global, files: &mut F, command: &Command<'_>) -> Resu
     }
 }
 
-// What the command makes.
+/// What the command makes.
+///
+/// # Errors
+///
+/// The first refusal, read fault or want of memory ends it.
 fn carry_out<F: Files>(alloc: Global, files: &mut F, command: &Command<'_>) -> Result<Answer, Halt>
     requires { HasStates (command_of command.now) }
     ensures made { IfOk result (λ answer.

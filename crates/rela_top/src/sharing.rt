@@ -19,12 +19,16 @@ use std::alloc::{AllocError, Global};
 use std::collections::HashMap;
 use std::marker::Brand;
 
-/// Verdicts by the numbers of their flows and checks.
+/// Verdicts by the indexes of their flows and checks, in this order.
 pub(crate) type Verdicts = HashMap<(usize, usize), Row>;
 
-/// For each flow the number of one that looks the same at the level of each check, before and after
-/// the change. Where the checks have one level it is the first such flow, else the flow itself. The
-/// number of steps is linear in the graphs.
+/// For each flow the index of one that looks the same at the level of each check, before and after
+/// the change. Where the checks have one level it is the first such flow, else the flow itself.
+/// Time: expected linear in the graphs.
+///
+/// # Errors
+///
+/// Only where memory is wanted.
 pub(crate) fn alike(
     alloc: Global,
     pairs: &[FlowPair],
@@ -38,7 +42,7 @@ pub(crate) fn alike(
     }
 }
 
-// The level that the checks have, if they have one.
+/// The level that the checks have in common, and `None` where there is no check or they differ.
 fn one_level(compiled: &[Compiled<'_>]) -> Option<Level>
     ensures { IfSome result (λ level. All (λ c. c.check.level ≡ level) compiled.now) }
 {
@@ -51,7 +55,7 @@ fn one_level(compiled: &[Compiled<'_>]) -> Option<Level>
     Some(level)
 }
 
-// The number of each flow.
+/// The index of each flow, for itself.
 fn own_numbers(alloc: Global, pairs: &[FlowPair]) -> Result<Vec<usize>, AllocError>
     ensures { IfOk result (λ own. (level : Level) → AreAlike level pairs.now own.items) }
 {
@@ -62,7 +66,8 @@ fn own_numbers(alloc: Global, pairs: &[FlowPair]) -> Result<Vec<usize>, AllocErr
     Ok(own)
 }
 
-// For each flow the first that looks the same at the level.
+/// For each flow the index of the first that looks the same at the level. Time: expected linear in
+/// the graphs.
 fn alike_at(alloc: Global, pairs: &[FlowPair], level: Level) -> Result<Vec<usize>, AllocError>
     ensures { IfOk result (λ firsts. AreAlike level pairs.now firsts.items) }
 {
@@ -74,7 +79,8 @@ fn alike_at(alloc: Global, pairs: &[FlowPair], level: Level) -> Result<Vec<usize
     Ok(firsts)
 }
 
-// The number that the look of flow n has, which is n where it has none yet.
+/// The index that the look of flow `n` has in `numbers`, where it is put with `n` itself if it is
+/// new.
 fn number_of<'a>(
     numbers: &mut HashMap<(LevelGraph<'a>, LevelGraph<'a>), usize>,
     pairs: &'a [FlowPair],
@@ -114,7 +120,8 @@ pub(crate) fn share_verdicts(
     carry_over::<Brand, Brand>(by, pair, other, alphabet);
 }
 
-// The law for rows, at paths that the caller's proof picks by these values.
+/// The law for rows, at paths that the caller's proof picks by these values. The call does nothing,
+/// and its contract is this law.
 fn carry_over<P: TwoPathSets, Q: TwoPathSets>(
     _by: &Compiled<'_>,
     _pair: &FlowPair,
@@ -127,7 +134,11 @@ fn carry_over<P: TwoPathSets, Q: TwoPathSets>(
     rows_carry_over::<P, Q>();
 }
 
-/// The verdict of a check on a flow, by their numbers: a kept one, or else it is decided and kept.
+/// The verdict of a check on a flow, by their indexes: a kept one, or else it is decided and kept.
+///
+/// # Errors
+///
+/// Only where memory is wanted.
 pub(crate) fn verdict_on(
     alloc: Global,
     verdicts: &mut Verdicts,

@@ -13,6 +13,10 @@ use rela_snapshot::FlowPair;
 use std::alloc::{AllocError, Global};
 
 /// The verdict of a compiled check on a flow. Each symbol that it shows has a text.
+///
+/// # Errors
+///
+/// Only where memory is wanted.
 pub(crate) fn verdict(
     alloc: Global,
     compiled: &Compiled<'_>,

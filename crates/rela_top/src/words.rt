@@ -9,7 +9,7 @@ use crate::arguments::Arguments;
 /// The state limit where the words give none.
 pub const DEFAULT_STATES: usize = 100_000;
 
-/// The highest state limit that the words may give.
+/// The greatest state limit that the words may give.
 pub const MAX_STATES: usize = 4_000_000;
 
 /// What the words ask for, with the names of the files that it reads.
@@ -45,9 +45,9 @@ pub enum Command<'a> {
 }
 
 /// Reads `check BEFORE AFTER LOCATIONS SPEC`, `fmt SPEC` and `fib TABLES OTHER LOCATIONS`, and
-/// `None` for any other words. Anywhere after `check` may stand `--states N` or `--states=N`, and
-/// after each of the three the word `--`, behind which each word is an operand. The time is linear
-/// in the bytes of the words.
+/// gives `None` for any other words. Anywhere after `check` may stand `--states N` or `--states=N`,
+/// and after each of the three the word `--`, behind which each word is an operand. Time: linear in
+/// the bytes of the words.
 pub fn read_words(words: &[String]) -> Option<Command<'_>>
     ensures { AskJust (map string_bytes words.now) (option_map command_of result) }
 {
@@ -60,7 +60,7 @@ pub fn read_words(words: &[String]) -> Option<Command<'_>>
     }
 }
 
-// What the words after `check` ask for.
+/// What the words after `check` ask for: four operands, and a state limit if one is given.
 fn read_check(rest: &[String]) -> Option<Command<'_>>
     ensures { AskJust (codes "check" ∷ map string_bytes rest.now) (option_map command_of result) }
 {
@@ -79,7 +79,7 @@ fn read_check(rest: &[String]) -> Option<Command<'_>>
     })
 }
 
-// What the words after `fmt` ask for.
+/// What the words after `fmt` ask for: one operand, and no state limit.
 fn read_fmt(rest: &[String]) -> Option<Command<'_>>
     ensures { AskJust (codes "fmt" ∷ map string_bytes rest.now) (option_map command_of result) }
 {
@@ -91,7 +91,7 @@ fn read_fmt(rest: &[String]) -> Option<Command<'_>>
     }
 }
 
-// What the words after `fib` ask for.
+/// What the words after `fib` ask for: three operands, and no state limit.
 fn read_fib(rest: &[String]) -> Option<Command<'_>>
     ensures { AskJust (codes "fib" ∷ map string_bytes rest.now) (option_map command_of result) }
 {
