@@ -58,7 +58,7 @@ impl Tables {
     /// `version` is a whole number, 63 its `starts` are an array, 64 a start is a string, 65 its
     /// `tables` are an array, 66 a table is an object, 67 its `device` is a string, 68 its `routes`
     /// are an array, 69 a route is an object, 70 its `prefix` is a string, 71 its `hops`, if there,
-    /// are an array, 72 a hop is a string. The row is the place of the start for rule 64, that of
+    /// are an array, 72 a hop is a string. The row is the index of the start for rule 64, that of
     /// the table for the rules 66 to 68, and the number of earlier routes in the file for 69 to 72.
     ///
     /// `BadVersion` comes after the shape of the version. `UnknownLocation` comes after the shape
