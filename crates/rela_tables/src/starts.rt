@@ -30,7 +30,7 @@ pub(crate) fn read_starts(
 {
     let mut starts = Vec::with_capacity(alloc, values.len())?;
     for (place, value) in values.iter().enumerate() {
-        // No memory holds a file with more.
+        // A file with more entries would not fit into memory.
         let Ok(row) = u32::try_from(place) else {
             return Err(LoadError::Memory);
         };

@@ -138,7 +138,7 @@ fn is_plain(word: &str) -> bool
 fn states_of(word: &str) -> Option<usize>
     ensures { (n : ℕ) → (result ≡ Some n) ↔ GivesStates word.now n }
 {
-    // No sign and no zero stands first, both of which come before the other digits.
+    // Neither a sign nor a zero may stand first. Both come before the other digits.
     if *word.as_bytes().first()? < b'1' {
         return None;
     }

@@ -56,7 +56,7 @@ fn predicate_of(check: &Check) -> &Predicate
     ensures predicate { result.now ≡ check.now.when }
     ensures shallow { depth result.now ≤ 1000 }
 {
-    // With its body a check tells its limits.
+    // The contract of the body tells the limits of the check.
     let _body = check.body();
     check.when()
 }

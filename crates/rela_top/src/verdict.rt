@@ -29,7 +29,7 @@ pub(crate) fn verdict(
         (paths_of compiled.now.check.level alphabet.now pair.now.before pair.now.after) compiled.now.states) }
     ensures texts { IfOk result (VerdictHasTexts alphabet.now) }
 {
-    // With its body a check tells that its markers are few.
+    // The contract of the body tells that the markers of the check are few.
     let _body = compiled.check().body();
     decide_compiled(alloc, compiled, pair, alphabet)
 }
