@@ -1,3 +1,4 @@
+//! What a set of letters is, whatever holds it.
 ghost use Rattle.std.specs.Prelude.{◌≡◌, ◌≢◌, ℕ, ◌<◌, ◌↔◌, ◌&&◌, ◌||◌, Bool, true, false, not, IsTrue, List, length, IfOk, IfErr, OnOk, IfNone, IfSome, IsOk};
 ghost use Rattle.rela_labels.specs.Letters.{has};
 

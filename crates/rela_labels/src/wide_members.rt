@@ -8,11 +8,15 @@ use crate::words::{
 };
 use std::alloc::{AllocError, Global};
 
-/// The letters of a set: none, one, or those whose bits are 1. Only the last takes heap memory.
+/// The letters of a set: none, one, or those whose bits are 1. Only the last takes memory on the
+/// heap, and it may have one letter or none as well.
 #[derive(Debug, Drop)]
 pub(crate) enum Members {
+    /// No letter.
     Nothing,
+    /// This letter alone.
     One(u32),
+    /// The letters whose bits are 1: letter `k` is bit `k % 64` of word `k / 64`.
     Many(Vec<u64>),
 }
 
@@ -41,7 +45,7 @@ impl Members {
         }
     }
 
-    /// The letters as bits.
+    /// The letters as the bits of words, of which there are as many as letters below the size need.
     fn words(&self, alloc: Global, size: u32) -> Result<Vec<u64>, AllocError>
         requires { IsHeld size self.now }
         ensures wide { IfOk result (λ words. IsWide size words.items) }
@@ -170,7 +174,7 @@ impl Members {
         self.least().is_none()
     }
 
-    /// The least letter.
+    /// The least letter, and `None` where there is none.
     pub(crate) fn least(&self) -> Option<u32>
         requires { AreFew self.now }
         ensures none { IfNone result ((k : ℕ) → holds self.now k ≡ false) }

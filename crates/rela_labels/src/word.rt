@@ -2,7 +2,7 @@
 ghost use Rattle.std.specs.Prelude.{◌≡◌, ℕ, ◌<◌, ◌↔◌, ◌==◌, ◌&&◌, ◌||◌, true, false, not, IsTrue, IfNone, IfSome};
 ghost use Rattle.rela_labels.specs.Words.{word_has};
 
-/// Whether the letter's bit is 1.
+/// Whether the letter's bit is 1, which that of no letter from 64 on is.
 pub(crate) fn is_in_word(word: u64, letter: u32) -> bool
     ensures { result ≡ word_has word letter }
 {
@@ -42,7 +42,7 @@ pub(crate) fn minus_word(word: u64, other: u64) -> u64
     word & !other
 }
 
-/// The least letter whose bit is 1.
+/// The least letter whose bit is 1, and `None` where no bit is.
 pub(crate) fn least_of_word(word: u64) -> Option<u32>
     ensures none { IfNone result ((k : ℕ) → word_has word k ≡ false) }
     ensures member { IfSome result (λ least. word_has word least ≡ true) }
