@@ -1,3 +1,4 @@
+//! Edges of automata.
 ghost use Rattle.std.specs.Prelude.{◌≡◌, ◌+◌, ◌<◌, ◌^◌, IfOk};
 ghost use Rattle.rela_nfa.specs.Construction.{shifted};
 ghost use Rattle.rela_nfa.specs.Stored.{move_of};
@@ -9,7 +10,9 @@ use std::alloc::{AllocError, Global};
 /// has none.
 #[derive(Debug, Drop)]
 pub struct Edge<L> {
+    /// The letters by which the edge may be taken, and `None` where it is silent.
     pub label: Option<L>,
+    /// The number of the state to which it leads.
     pub to: usize,
 }
 

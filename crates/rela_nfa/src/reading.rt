@@ -1,3 +1,4 @@
+//! Whether an automaton accepts a word.
 ghost use Rattle.std.specs.Prelude.{◌≡◌, ℕ, ◌<◌, ◌≤◌, ◌↔◌, List, [], ◌∷◌, ◌++◌, IsTrue, IfOk, OnOk, Contains};
 ghost use Rattle.rela_nfa.specs.Automaton.{states, IsFinal};
 ghost use Rattle.rela_nfa.specs.Reading.{takes, AreReached, Closes};
@@ -37,8 +38,9 @@ impl<L: LabelSet> Edge<L> {
 }
 
 impl<L: LabelSet> Nfa<L> {
-    /// Whether the word is in the language: each edge out of the states that are reached is looked at
-    /// once for each letter.
+    /// Whether the word is in the language. Time: for each letter of the word a step for each
+    /// state, and a look at each edge out of the states that are reached, once for the letter and
+    /// once to follow silent edges; space: linear in the states.
     pub fn accepts(&self, alloc: Global, word: &[u32]) -> Result<bool, AllocError>
         ensures { IfOk result (λ accepted. IsTrue accepted ↔ Accepts self.now word.now) }
     {
