@@ -1,3 +1,4 @@
+//! The automaton of what a transducer writes for the words of an automaton.
 ghost use Rattle.std.specs.Prelude.{◌≡◌, ◌<◌, [], IfOk, OnOk, map, length};
 ghost use Rattle.std.specs.List.{All, range_with_len};
 ghost use Rattle.std.specs.Option.{ForSome, option_map};
@@ -18,7 +19,7 @@ use rela_nfa::{Edge, EdgeLists, Nfa, add_directed, add_silent};
 use rela_pairs::{Explored, Pair};
 use std::alloc::{AllocError, Global};
 
-/// The label by what a move of this kind writes.
+/// What a move of this kind writes, as a label: `None` where it writes nothing.
 fn written_label<L: LabelSet>(kind: MoveKind<L>) -> Option<L>
     ensures { option_map L.letters result ≡ written_label (kind_of L.letters kind) }
 {
@@ -44,7 +45,7 @@ fn add_written<L: LabelSet>(
     Ok(())
 }
 
-/// Adds what the transducer writes alone by these moves.
+/// Adds what the transducer does by these moves while the automaton stays: they read nothing.
 fn add_alone<L: LabelSet>(
     alloc: Global,
     edges: &mut Vec<Edge<L>>,
@@ -97,8 +98,8 @@ fn add_read<L: LabelSet>(
     Ok(())
 }
 
-/// Adds the edges by what is written from a pair of states on, to these numbers of the pairs to which
-/// they lead. There are none before.
+/// Adds the edges by what is written from a pair of states on, to these numbers of the pairs to
+/// which they lead, in the order in which the pairs were found to follow. There are none before.
 fn add_edges_from<L: LabelSet>(
     alloc: Global,
     edges: &mut Vec<Edge<L>>,

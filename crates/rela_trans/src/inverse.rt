@@ -1,3 +1,4 @@
+//! The inverse of a transducer.
 ghost use Rattle.std.specs.Prelude.{◌≡◌, ℕ, ◌↔◌, List, IfOk, map};
 ghost use Rattle.rela_trans.specs.Construction.{turned_move};
 ghost use Rattle.rela_trans.specs.Machine.{machine_states};
@@ -35,7 +36,8 @@ fn turned_lists<L: LabelSet>(
 }
 
 impl<L: LabelSet> Transducer<L> {
-    /// The pairs of `self` turned round. The states are the same.
+    /// The pairs of `self` turned round. The states are the same. Time and space: linear in the
+    /// states and the moves, whose sets are copied.
     pub fn inverse(&self, alloc: Global) -> Result<Transducer<L>, AllocError>
         ensures letters { IfOk result (λ t. t.letters ≡ self.now.letters) }
         ensures states { IfOk result (λ t. machine_states t ≡ machine_states self.now) }

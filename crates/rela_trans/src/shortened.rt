@@ -1,3 +1,4 @@
+//! Transducers without silent detours.
 ghost use Rattle.std.specs.Prelude.{◌≡◌, ℕ, ◌<◌, ◌↔◌, List, IfOk, length, map};
 ghost use Rattle.std.specs.List.{All, Contains};
 ghost use Rattle.rela_trans.specs.Coaccessible.{next_states};
@@ -34,11 +35,12 @@ fn redirect_each<L: LabelSet>(lists: &mut [Vec<Move<L>>], ends: &[usize])
 
 impl<L: LabelSet> Transducer<L> {
     /// The same pairs, without silent detours. A state is a detour if it is not final and its only
-    /// move is silent. Each move, and the start, leads to the end of the chain of detours that it led to;
-    /// where silent moves lead in a circle, to some state of it. The states keep their numbers. It is
-    /// the removal of silent moves (M. Mohri, *Generic epsilon-removal and input epsilon-normalization
-    /// algorithms for weighted transducers*, 2002) where it adds no move. It costs a step for each state
-    /// and for each move, however long the chains; no move is copied. Want of memory is the only error.
+    /// move is silent. Each move, and the start, leads to the end of the chain of detours that it
+    /// led to; where silent moves lead in a circle, to some state of it. The states keep their
+    /// numbers. It is the removal of silent moves (M. Mohri, *Generic epsilon-removal and input
+    /// epsilon-normalization algorithms for weighted transducers*, 2002) where it adds no move.
+    /// Time: linear in the states and the moves, however long the chains; space: linear in the
+    /// states, and no move is copied.
     pub fn shortened(self, alloc: Global) -> Result<Transducer<L>, AllocError>
         ensures letters { IfOk result (λ t. t.letters ≡ self.letters) }
         ensures states { IfOk result (λ t. machine_states t ≡ machine_states self) }
