@@ -1,3 +1,4 @@
+//! Copies of edges.
 ghost use Rattle.std.specs.Prelude.{◌≡◌, ◌+◌, IfOk, map};
 ghost use Rattle.rela_nfa.specs.Stored.{move_of, moves_in};
 

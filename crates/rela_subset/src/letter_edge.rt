@@ -9,10 +9,12 @@ ghost use Rattle.rela_subset.specs.Splitting.{letters_left};
 use rela_labels::LabelSet;
 use std::alloc::{AllocError, Global};
 
-/// An edge by one letter alone: the letter, and the state to which it leads.
+/// An edge by one letter alone.
 #[derive(Clone, Copy, Debug)]
 pub(crate) struct LetterEdge {
+    /// The letter.
     pub(crate) letter: u32,
+    /// The state to which it leads.
     pub(crate) to: usize,
 }
 
@@ -26,7 +28,7 @@ pub(crate) fn sorted_by_letter(edges: Vec<LetterEdge>) -> Vec<LetterEdge>
     sorted
 }
 
-/// The letters of the edges.
+/// The set of the letters of the edges, all below `size`. Time: linear in the edges.
 pub(crate) fn letters_of<L: LabelSet>(
     alloc: Global,
     size: u32,
@@ -109,7 +111,7 @@ pub(crate) fn past_letter(edges: &[LetterEdge], letter: u32) -> &[LetterEdge]
     coming
 }
 
-/// The set of this letter alone.
+/// The set, of this size, of this letter alone.
 pub(crate) fn alone<L: LabelSet>(alloc: Global, size: u32, letter: u32) -> Result<L, AllocError>
     requires fits { L.fits size }
     requires below { letter < size }
@@ -121,7 +123,7 @@ pub(crate) fn alone<L: LabelSet>(alloc: Global, size: u32, letter: u32) -> Resul
     Ok(set)
 }
 
-/// The letter of the label, if it has just one.
+/// The letter of the label, if it has just one, and else `None`.
 pub(crate) fn only_letter<L: LabelSet>(alloc: Global, label: &L) -> Result<Option<u32>, AllocError>
     ensures only { IfOk result (λ only. IfSome only (λ letter. IsAlone (L.letters label.now) letter)) }
     ensures below { IfOk result (λ only. IfSome only (λ letter. letter < length (L.letters label.now))) }
