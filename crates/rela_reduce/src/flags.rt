@@ -22,7 +22,7 @@ pub(crate) fn is_set(rows: &[Vec<bool>], i: usize, j: usize) -> bool
     }
 }
 
-/// Clears the flag at a place of a row.
+/// Clears the flag at a place of a row, if there is one.
 pub(crate) fn clear(rows: &mut [Vec<bool>], i: usize, j: usize) {
     if let Some(row) = rows.get_mut(i) {
         if let Some(flag) = row.get_mut(j) {
