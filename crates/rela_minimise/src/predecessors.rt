@@ -13,7 +13,8 @@ use rela_nfa::Edge;
 use rela_subset::Dfa;
 use std::alloc::{AllocError, Global};
 
-/// For each state, the states from which an edge leads to it, each once for each such edge.
+/// For each state, the states from which an edge leads to it, each once for each such edge. Time
+/// and space: linear in the states and the edges.
 pub(crate) fn predecessors<L: LabelSet>(
     alloc: Global,
     dfa: &Dfa<L>,
