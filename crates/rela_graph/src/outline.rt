@@ -13,12 +13,14 @@ use std::hash::{Hash, Hasher};
 use std::marker::Model;
 
 /// A graph as it looks at a level: the location of each node there, the edges, and which nodes are
-/// starts, deliver or drop. Two are equal where all of these are, whatever the other levels tell; to
-/// compare or to hash them takes a number of steps that is linear in the nodes and the edges.
-/// Contracts see it as an [`Outline`].
+/// starts, deliver or drop. Two are equal where all of these are, whatever the other levels tell.
+/// Time to compare or to hash them: linear in the nodes and the edges. Contracts see it as an
+/// [`Outline`].
 #[derive(Drop)]
 pub struct LevelGraph<'a> {
+    /// The graph.
     graph: &'a Graph,
+    /// The level at which it is looked at.
     level: Level,
 }
 
@@ -94,7 +96,8 @@ impl Graph {
             ↔ Undelivered other.now level names w }
     {}
 
-    /// Whether the graph looks at the level as the other one does at its level.
+    /// Whether the graph looks at the level as the other one does at its level. Time: linear in the
+    /// nodes and the edges.
     fn looks_like(&self, level: Level, other: &Graph, other_level: Level) -> bool
         ensures { result ≡ same_outline (outline_of level self.now) (outline_of other_level other.now) }
     {
