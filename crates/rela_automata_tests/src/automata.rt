@@ -52,7 +52,7 @@ impl Question for Accepts<'_> {
     }
 }
 
-/// Of unions, concatenations and stars of the words 0 and 1.
+/// Questions about unions, concatenations and stars of the words 0 and 1.
 const JOINED: &[Accepts<'static>] = &[
     Accepts(Form::Union, &[0], true),
     Accepts(Form::Union, &[1], true),
@@ -80,7 +80,7 @@ impl Question for MorePairs {
     }
 }
 
-/// Of the meet of any number of letters 0 and the word 0.
+/// Questions about the meet of any number of letters 0 and the word 0.
 const MET: &[Accepts<'static>] = &[
     Accepts(Form::Meet, &[0], true),
     Accepts(Form::Meet, &[], false),
@@ -94,7 +94,7 @@ fn words_that_both_accept(rt: HostRuntime) {
     assert!(rt; is_so_of_classes(rt.alloc(), &[0], &[1], &MorePairs));
 }
 
-/// Of the automata of no word and of the empty word.
+/// Questions about the automata of no word and of the empty word.
 const AT_MOST_EMPTY: &[Accepts<'static>] = &[
     Accepts(Form::Nothing, &[], false),
     Accepts(Form::EmptyWord, &[], true),
@@ -115,7 +115,7 @@ fn pair_has_three_states(alloc: Global) -> bool {
     }
 }
 
-/// Of the automaton of the word 0 1.
+/// Questions about the automaton of the word 0 1.
 const THE_PAIR: &[Accepts<'static>] = &[
     Accepts(Form::Pair, &[0, 1], true),
     Accepts(Form::Pair, &[0], false),

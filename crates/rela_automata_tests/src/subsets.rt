@@ -46,7 +46,7 @@ impl Question for Other<'_> {
     }
 }
 
-/// Of all words but 0.
+/// Questions about all words but 0.
 const ALL_BUT_ZERO: &[Other<'static>] = &[
     Other(&[], true),
     Other(&[1], true),

@@ -95,7 +95,7 @@ impl Question for Relates<'_> {
     }
 }
 
-/// Of the first transducer and its inverse.
+/// Questions about the first transducer and its inverse.
 const OF_LETTERS: &[Relates<'static>] = &[
     Relates(Form::Turned, 0, &[0], &[1], true),
     Relates(Form::Turned, 0, &[0], &[0], false),
@@ -111,7 +111,7 @@ fn pairs_of_letters(rt: HostRuntime) {
     hold(&rt, rt.alloc(), &[0], &[1], OF_LETTERS);
 }
 
-/// Of stars, unions and concatenations.
+/// Questions about stars, unions and concatenations.
 const OF_WORDS: &[Relates<'static>] = &[
     Relates(Form::Star, 0, &[0, 0], &[1, 1], true),
     Relates(Form::Star, 0, &[], &[], true),
@@ -128,7 +128,7 @@ fn pairs_of_words(rt: HostRuntime) {
     hold(&rt, rt.alloc(), &[0], &[1], OF_WORDS);
 }
 
-/// Of compositions.
+/// Questions about compositions.
 const COMPOSED: &[Relates<'static>] = &[
     Relates(Form::Compose, 1, &[0], &[1], true),
     Relates(Form::Compose, 0, &[0], &[1], false),
@@ -153,7 +153,7 @@ impl Question for Written<'_> {
     }
 }
 
-/// Of the image of the word 0.
+/// Questions about the image of the word 0.
 const OF_ZERO: &[Written<'static>] = &[
     Written(&[1], true),
     Written(&[0], false),

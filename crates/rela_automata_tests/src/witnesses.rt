@@ -146,7 +146,7 @@ impl Question for Source<'_> {
     }
 }
 
-/// Of the machine that reads letter 0 or 1 and writes letter 2.
+/// Questions about the machine that reads letter 0 or 1 and writes letter 2.
 const SOURCES: &[Source<'static>] = &[
     Source(&[0, 1], &[2], Some(&[0])),
     Source(&[1], &[2], Some(&[1])),
