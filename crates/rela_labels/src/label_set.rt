@@ -8,7 +8,8 @@ use std::alloc::{AllocError, Global};
 /// edge. Contracts see it as `letters`, a list with one boolean for each letter below the size,
 /// whether it is in the set. `has` reads it, and is false from the size on.
 ///
-/// Memory is the only error.
+/// Memory is the only error. What calls cost is said by the types that implement it: at most a step
+/// for each 64 letters of the size.
 pub trait LabelSet: Drop {
     // for each letter below the size, whether it is in the set
     ghost letters: { Self → List Bool };

@@ -178,8 +178,8 @@ impl Partition {
         self.base.blocks.len() as u32
     }
 
-    /// Two partitions of as many symbols are the same where their symbols share blocks alike. The
-    /// call does nothing, and its contract is this law.
+    /// Two partitions of as many symbols are the same where the same symbols share blocks in both.
+    /// The call does nothing, and its contract is this law.
     pub fn determined_by_blocks(&self, other: &Partition)
         ensures { length self.now ≡ length other.now
             → ((s t : ℕ) → s < length self.now → t < length self.now → Together self.now s t ↔ Together other.now s t)
