@@ -8,8 +8,8 @@ use indexmap::IndexSet;
 use std::alloc::{AllocError, Global};
 use std::marker::Model;
 
-/// The pairs that were found, each once, in the order in which they came, and looked up by their hash.
-/// Contracts see it as the list of them.
+/// The pairs that were found, each once, in the order in which they came, and looked up by their
+/// hash. Contracts see them as a list.
 #[derive(Drop)]
 pub(crate) struct Hashed {
     /// The pairs in the order of their numbers, and a hash table of their numbers.

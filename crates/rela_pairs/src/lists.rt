@@ -54,7 +54,7 @@ impl Lists {
         &self.numbers[from..to]
     }
 
-    /// Puts a copy of the list behind the others.
+    /// Puts a copy of the list behind the others. Time: linear in it.
     pub(crate) fn push(&mut self, list: &[usize]) -> Result<(), AllocError>
         ensures { OnOk result (self.new ≡ self.old ++ list.now ∷ []) }
     {

@@ -21,7 +21,7 @@ pub trait Successors {
     fn shape(&self) -> Shape
         ensures fits { (x : Pair) → is_pair self.now x → Fits result x };
 
-    /// Puts the pairs that follow behind those that are there, in order; a pair may come more than
+    /// Puts the pairs that follow behind those in `followers`, in order; a pair may come more than
     /// once.
     fn add_next(
         &self,
