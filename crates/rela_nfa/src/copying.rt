@@ -41,7 +41,7 @@ fn silent_edges<L: LabelSet>(alloc: Global, ends: &[usize]) -> Result<Vec<Edge<L
     Ok(edges)
 }
 
-/// The edges of a first state: a silent one to each of these.
+/// The lists of edges of a first state alone: a silent edge to each of these states.
 pub(crate) fn entry_edges<L: LabelSet>(
     alloc: Global,
     ends: &[usize],
@@ -54,7 +54,7 @@ pub(crate) fn entry_edges<L: LabelSet>(
     Ok(edges)
 }
 
-/// The set of one letter.
+/// The set, of this size, of one letter.
 pub(crate) fn one_letter<L: LabelSet>(
     alloc: Global,
     size: u32,

@@ -23,7 +23,7 @@ pub fn add_directed<L: LabelSet>(
     Ok(())
 }
 
-/// Adds a silent edge to the next of the targets where this one is silent.
+/// Adds a silent edge to the next of the targets where the source is silent.
 fn add_if_silent<L: LabelSet>(
     edges: &mut Vec<Edge<L>>,
     source: &Edge<L>,

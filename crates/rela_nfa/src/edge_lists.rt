@@ -43,7 +43,7 @@ impl<L: LabelSet> EdgeLists<L> {
         }
     }
 
-    /// No state, with room for this many.
+    /// No state, with room for this many states, but for none of their edges.
     pub fn with_capacity(alloc: Global, states: usize) -> Result<EdgeLists<L>, AllocError>
         ensures { IfOk result (λ lists. lists ≡ []) }
     {

@@ -12,7 +12,8 @@ use rela_labels::LabelSet;
 use rela_pairs::{Pair, Shape, Successors};
 use std::alloc::{AllocError, Global};
 
-/// Two automata over the same letters, of which pairs of states follow pairs of states.
+/// Two automata over the same letters, which go on together: pairs of their states follow pairs of
+/// their states.
 #[derive(Drop)]
 pub(crate) struct Meeting<'a, L: LabelSet> {
     /// The automaton of the left states.

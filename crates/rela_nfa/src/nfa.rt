@@ -20,7 +20,7 @@ pub struct Nfa<L: LabelSet> {
     pub(crate) letters: u32,
     /// The state from which runs begin.
     pub(crate) start: usize,
-    /// For each state whether a word that leads to it is accepted.
+    /// For each state whether it is final.
     pub(crate) finals: Vec<bool>,
     /// The edges that leave each state.
     pub(crate) edges: EdgeLists<L>,
@@ -113,7 +113,7 @@ impl<L: LabelSet> Nfa<L> {
         self.start
     }
 
-    /// Whether a word that leads to the state is accepted.
+    /// Whether the state is final: a word that leads to it is accepted.
     pub fn is_final(&self, q: usize) -> bool
         requires { q < states self.now }
         ensures { IsTrue result ↔ IsFinal self.now q }

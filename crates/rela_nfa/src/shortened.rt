@@ -31,7 +31,8 @@ fn is_step<L: LabelSet>(nfa: &Nfa<L>, q: usize) -> bool
     !nfa.is_final(q) && only_labelled(nfa.edges(q))
 }
 
-/// The edge itself; where it is silent and the state is a step, the edge of that step.
+/// The edge itself; where it is silent and `end`, the end of its detours, is a step, the edge of
+/// that step.
 fn pulled<'a, L: LabelSet>(nfa: &'a Nfa<L>, end: usize, edge: &'a Edge<L>) -> &'a Edge<L>
     requires state { end < states nfa.now }
     requires lead { edge.now.to < states nfa.now }
@@ -45,7 +46,7 @@ fn pulled<'a, L: LabelSet>(nfa: &'a Nfa<L>, end: usize, edge: &'a Edge<L>) -> &'
     }
 }
 
-/// A copy of the edge, its end moved on to the one that stands for it.
+/// A copy of the edge that leads on at once to the end of the detours that it led to.
 fn redirected<L: LabelSet>(
     alloc: Global,
     ends: &[usize],

@@ -14,7 +14,7 @@ use rela_labels::LabelSet;
 use std::alloc::{AllocError, Global};
 
 impl<L: LabelSet> Nfa<L> {
-    /// No word at all.
+    /// The automaton of no word at all: one state, which isn't final, and no edge.
     pub fn none(alloc: Global, letters: u32) -> Result<Nfa<L>, AllocError>
         requires { L.fits letters }
         ensures letters { IfOk result (λ nfa. nfa.letters ≡ letters) }
@@ -25,7 +25,7 @@ impl<L: LabelSet> Nfa<L> {
         one_state(alloc, letters, false)
     }
 
-    /// The empty word alone.
+    /// The automaton of the empty word alone: one state, which is final, and no edge.
     pub fn empty_word(alloc: Global, letters: u32) -> Result<Nfa<L>, AllocError>
         requires { L.fits letters }
         ensures letters { IfOk result (λ nfa. nfa.letters ≡ letters) }
@@ -154,7 +154,7 @@ fn one_state<L: LabelSet>(alloc: Global, letters: u32, is_final: bool) -> Result
     })
 }
 
-/// A state that no edge leaves.
+/// The lists of edges of one state that none leaves.
 fn no_edges<L: LabelSet>(alloc: Global) -> Result<EdgeLists<L>, AllocError>
     ensures { IfOk result (λ edges. edges ≡ [] ∷ []) }
 {
