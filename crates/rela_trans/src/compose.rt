@@ -60,7 +60,8 @@ fn numbered_moves<L: LabelSet>(
     Ok(moves)
 }
 
-/// Two transducers over the same letters, of which pairs of states follow pairs of states.
+/// Two transducers over the same letters, the second of which reads what the first writes: pairs of
+/// their states follow pairs of their states.
 #[derive(Drop)]
 struct Composing<'a, L: LabelSet> {
     /// The transducer of the left states, which writes the words in the middle.

@@ -56,7 +56,7 @@ fn walk<L: LabelSet>(
     Ok(end)
 }
 
-/// Writes the end at the place of each state of the path.
+/// Writes the end for each state of the path.
 fn settle(ends: &mut [usize], path: &[usize], end: usize)
     requires { All (λ p. p < length ends.old) path.now }
     ensures settled { (p : ℕ) → Contains path.now p → slice_index ends.new p ≡ end }

@@ -31,7 +31,8 @@ fn written_label<L: LabelSet>(kind: MoveKind<L>) -> Option<L>
     }
 }
 
-/// Adds an edge by what a move of this kind writes, where there is one, to the next of the targets.
+/// Adds an edge by what a move of this kind writes, where there is a kind, to the next of the
+/// targets.
 fn add_written<L: LabelSet>(
     edges: &mut Vec<Edge<L>>,
     kind: Option<MoveKind<L>>,
@@ -61,7 +62,8 @@ fn add_alone<L: LabelSet>(
     Ok(())
 }
 
-/// Adds what is written by a letter of the edge that the move reads, where there is one.
+/// Adds an edge by what the move writes where it reads a letter of the automaton's edge, if it
+/// reads one, to the next of the targets.
 fn add_if_read<L: LabelSet>(
     alloc: Global,
     edges: &mut Vec<Edge<L>>,
@@ -80,7 +82,8 @@ fn add_if_read<L: LabelSet>(
     Ok(())
 }
 
-/// Adds what is written by letters of the edge that the moves read.
+/// Adds an edge for each of the moves that reads a letter of the automaton's edge, by what it
+/// writes then, to the next of the targets.
 fn add_read<L: LabelSet>(
     alloc: Global,
     edges: &mut Vec<Edge<L>>,

@@ -69,10 +69,10 @@ pub fn are_letters(word: &[u32], letters: u32) -> bool
 }
 
 impl<L: LabelSet> Transducer<L> {
-    /// Whether the pair of words of letters is related. None is with a number that is no letter.
-    /// Time: that of the [`image`] of the word `u` and of accepting `v` by it, so at most linear in
-    /// the product of the words' lengths and the size of the transducer, in set operations; space:
-    /// that of the image.
+    /// Whether the pair of words of letters is related: `u` is read, and `v` is written. None is
+    /// with a number that is no letter. Time: that of the [`image`] of the word `u` and of
+    /// accepting `v` by it, so at most linear in the product of the words' lengths and the size of
+    /// the transducer, in set operations; space: that of the image.
     pub fn relates(&self, alloc: Global, u: &[u32], v: &[u32]) -> Result<bool, AllocError>
         ensures { IfOk result (λ related. IsTrue related ↔ Relates (λ k. k) self.now u.now v.now) }
     {

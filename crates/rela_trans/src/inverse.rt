@@ -10,7 +10,7 @@ use crate::transducer::Transducer;
 use rela_labels::LabelSet;
 use std::alloc::{AllocError, Global};
 
-/// Each of the moves with what it reads and what it writes exchanged.
+/// Copies of the moves, with what they read and what they write exchanged.
 fn turned_moves<L: LabelSet>(alloc: Global, moves: &[Move<L>]) -> Result<Vec<Move<L>>, AllocError>
     ensures { IfOk result (λ new. map (move_of L.letters) new.items ≡ map turned_move (map (move_of L.letters) moves.now)) }
 {
@@ -21,7 +21,7 @@ fn turned_moves<L: LabelSet>(alloc: Global, moves: &[Move<L>]) -> Result<Vec<Mov
     Ok(new)
 }
 
-/// The moves of each state with what they read and what they write exchanged.
+/// Copies of the moves of each state, with what they read and what they write exchanged.
 fn turned_lists<L: LabelSet>(
     alloc: Global,
     lists: &[Vec<Move<L>>],

@@ -126,7 +126,7 @@ fn both_by_letter<L: LabelSet>(
     }
 }
 
-/// Adds a move of this kind, where there is one.
+/// Adds a move of this kind to the pair, where there is a kind.
 fn add_made<L: LabelSet>(
     joint: &mut Vec<JointMove<L>>,
     kind: Option<MoveKind<L>>,

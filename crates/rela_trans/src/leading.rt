@@ -12,7 +12,7 @@ use crate::transducer::Transducer;
 use rela_labels::LabelSet;
 use std::alloc::{AllocError, Global};
 
-/// This many empty lists.
+/// As many empty lists as `count`.
 fn empty_lists(alloc: Global, count: usize) -> Result<Vec<Vec<usize>>, AllocError>
     ensures each { IfOk result (λ lists. length lists.items ≡ count) }
     ensures empty { IfOk result (λ lists. (q : ℕ) → list_at (lists_of lists.items) q ≡ []) }

@@ -83,7 +83,7 @@ fn add_followers<L: LabelSet, M: LabelSet>(
     Ok(())
 }
 
-/// Adds the pair, if it is to be taken.
+/// Adds the pair where `is_taken` says so.
 fn add_if(followers: &mut Vec<Pair>, is_taken: bool, to: Pair) -> Result<(), AllocError>
     ensures { OnOk result (followers.new.items ≡ followers.old.items ++ pair_if is_taken to) }
 {

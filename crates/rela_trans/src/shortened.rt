@@ -13,7 +13,7 @@ use crate::transducer::Transducer;
 use rela_labels::LabelSet;
 use std::alloc::{AllocError, Global};
 
-/// Moves the end of each move on to the one that stands for it.
+/// Lets each move lead on at once to the end of the detours that it led to.
 fn redirect<L: LabelSet>(moves: &mut [Move<L>], ends: &[usize])
     requires { All (λ edge. edge.to < length ends.now) moves.old }
     ensures { map (move_of L.letters) moves.new ≡ map (redirected ends.now) (map (move_of L.letters) moves.old) }
@@ -23,7 +23,7 @@ fn redirect<L: LabelSet>(moves: &mut [Move<L>], ends: &[usize])
     }
 }
 
-/// Moves the end of each move of each state on to the one that stands for it.
+/// Lets each move of each state lead on at once to the end of the detours that it led to.
 fn redirect_each<L: LabelSet>(lists: &mut [Vec<Move<L>>], ends: &[usize])
     requires { All (All (λ move. move.to < length ends.now)) (moves_in L.letters lists.old) }
     ensures { moves_in L.letters lists.new ≡ map (map (redirected ends.now)) (moves_in L.letters lists.old) }

@@ -37,7 +37,7 @@ fn kind_on<L: LabelSet>(tape: Tape, set: L) -> MoveKind<L>
     }
 }
 
-/// The edge as a move, its letter on the tape.
+/// The edge as a move, with its letter on the tape. The label is copied.
 fn lifted<L: LabelSet>(alloc: Global, edge: &Edge<L>, tape: Tape) -> Result<Move<L>, AllocError>
     ensures { IfOk result (λ result. move_of L.letters result ≡ lifted tape (edge_of L.letters edge.now)) }
 {
@@ -54,7 +54,7 @@ fn lifted<L: LabelSet>(alloc: Global, edge: &Edge<L>, tape: Tape) -> Result<Move
     }
 }
 
-/// Each of the edges as a move.
+/// Each of the edges as a move, with its letter on the tape.
 fn lifted_edges<L: LabelSet>(
     alloc: Global,
     edges: &[Edge<L>],
@@ -69,7 +69,7 @@ fn lifted_edges<L: LabelSet>(
     Ok(moves)
 }
 
-/// The edges of each state as moves.
+/// The edges of each state as moves, with their letters on the tape.
 fn lifted_lists<L: LabelSet>(
     alloc: Global,
     a: &Nfa<L>,

@@ -17,7 +17,7 @@ pub struct Transducer<L: LabelSet> {
     pub(crate) letters: u32,
     /// The state from which runs begin.
     pub(crate) start: usize,
-    /// For each state whether a pair of words that leads to it is related.
+    /// For each state whether it is final.
     pub(crate) finals: Vec<bool>,
     /// The moves that leave each state.
     pub(crate) moves: Vec<Vec<Move<L>>>,
@@ -72,7 +72,7 @@ impl<L: LabelSet> Transducer<L> {
         self.start
     }
 
-    /// Whether a pair of words that leads to the state is related.
+    /// Whether the state is final: a pair of words that leads to it is related.
     pub fn is_final(&self, q: usize) -> bool
         requires { q < machine_states self.now }
         ensures { IsTrue result ↔ IsFinal self.now q }
