@@ -25,9 +25,9 @@ pub(crate) struct Block<L: LabelSet> {
     pub(crate) letters: L,
 }
 
-/// The letters of a set that are left, to be taken in blocks. Those that edges have by themselves come
-/// from the list of these edges, and are no work for the others. Contracts see the edges as they are
-/// sorted out, and the letters that are left.
+/// The letters of a set that are left, to be taken in blocks. Those that edges have by themselves
+/// come from the list of these edges, and cost nothing for the other edges. Contracts see the two
+/// lists of edges, and the letters that are left.
 #[derive(Drop)]
 pub(crate) struct Blocks<'a, L: LabelSet> {
     /// The letters at first.
@@ -92,9 +92,9 @@ impl<'a, L: LabelSet> Blocks<'a, L> {
         })
     }
 
-    /// Takes the next block, that of the least letter that is left: those that are left by which the
-    /// same edges may be taken as by it. `None` where no letter is left. A letter that edges have by
-    /// themselves costs a step for each of these; any other, a set operation for each other edge.
+    /// Takes the next block: the least letter that is left, with those that are left by which the
+    /// same edges may be taken. `None` where no letter is left. Time: for a letter that edges have
+    /// by themselves a step for each of these; for any other a set operation for each other edge.
     pub(crate) fn next(&mut self, alloc: Global) -> Result<Option<Block<L>>, AllocError>
         ensures singles { self.new.singles ≡ self.old.singles }
         ensures others { self.new.others ≡ self.old.others }
@@ -182,7 +182,7 @@ fn comes_before(letter: u32, other: Option<u32>) -> bool
     }
 }
 
-/// The letters of the set that none of the edges has.
+/// The letters of the set that none of the edges, each by one letter, has.
 fn without<L: LabelSet>(alloc: Global, set: &L, edges: &[LetterEdge]) -> Result<L, AllocError>
     requires { All (λ edge. edge.letter < length (L.letters set.now)) edges.now }
     ensures size { IfOk result (λ rest. length (L.letters rest) ≡ length (L.letters set.now)) }

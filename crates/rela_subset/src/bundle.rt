@@ -70,7 +70,7 @@ impl<L: LabelSet> Bundle<L> {
         Ok(())
     }
 
-    /// The edges, without room for more: an automaton keeps them for each of its states.
+    /// The edges, in a vector without room for more: an automaton keeps one for each of its states.
     pub(crate) fn into_edges(self) -> Vec<Edge<L>>
         ensures { map (move_of L.letters) result.items ≡ self }
     {

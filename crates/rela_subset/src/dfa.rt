@@ -22,7 +22,7 @@ pub struct Dfa<L: LabelSet> {
     pub(crate) over: L,
     /// The state from which words are read.
     pub(crate) start: usize,
-    /// For each state whether a word that leads to it is accepted.
+    /// For each state whether it is final.
     pub(crate) finals: Vec<bool>,
     /// The edges that leave each state. Each has a label.
     pub(crate) edges: Vec<Vec<Edge<L>>>,
@@ -105,7 +105,7 @@ impl<L: LabelSet> Dfa<L> {
         self.start
     }
 
-    /// Whether a word that leads to the state is accepted.
+    /// Whether the state is final: a word that leads to it is accepted.
     pub fn is_final(&self, q: usize) -> bool
         requires { q < states self.now }
         ensures { IsTrue result ↔ IsFinal self.now q }

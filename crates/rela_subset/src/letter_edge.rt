@@ -18,7 +18,7 @@ pub(crate) struct LetterEdge {
     pub(crate) to: usize,
 }
 
-/// The edges in ascending order of their letters.
+/// The edges in ascending order of their letters. Time: that of a sort.
 pub(crate) fn sorted_by_letter(edges: Vec<LetterEdge>) -> Vec<LetterEdge>
     ensures same { IsPermutation edges.items result.items }
     ensures rising { IsNonDecreasingBy (λ edge. edge.letter) result.items }
@@ -65,7 +65,7 @@ fn place_of(edges: &[LetterEdge], letter: u32) -> usize
     edges.partition_point(|edge| edge.letter < letter)
 }
 
-/// How many of the edges have a lesser letter or this one.
+/// How many of the edges have this letter or a lesser one.
 fn place_after(edges: &[LetterEdge], letter: u32) -> usize
     requires { IsNonDecreasingBy (λ edge. edge.letter) edges.now }
     ensures parted { IsPartitionPoint (λ edge. edge.letter ≤ letter) (λ edge. letter < edge.letter) edges.now result }
@@ -74,7 +74,8 @@ fn place_after(edges: &[LetterEdge], letter: u32) -> usize
     edges.partition_point(|edge| edge.letter <= letter)
 }
 
-/// The edges from the first on whose letter is in the set.
+/// The edges from the first one on whose letter is in the set. Time: a step for each edge before
+/// it.
 pub(crate) fn from_letter_in<'a, L: LabelSet>(edges: &'a [LetterEdge], set: &L) -> &'a [LetterEdge]
     requires { IsNonDecreasingBy (λ edge. edge.letter) edges.now }
     ensures rising { IsNonDecreasingBy (λ edge. edge.letter) result.now }
@@ -92,7 +93,7 @@ pub(crate) fn from_letter_in<'a, L: LabelSet>(edges: &'a [LetterEdge], set: &L) 
     coming
 }
 
-/// The edges behind those by this letter, which come first.
+/// The edges behind those by this letter, which come first. Time: a step for each of these.
 pub(crate) fn past_letter(edges: &[LetterEdge], letter: u32) -> &[LetterEdge]
     requires rising { IsNonDecreasingBy (λ edge. edge.letter) edges.now }
     requires first { All (λ edge. letter ≤ edge.letter) edges.now }

@@ -4,8 +4,8 @@ ghost use Rattle.std.specs.Prelude.{◌≡◌, ℕ, ◌<◌, true, false, IfOk, 
 use std::alloc::{AllocError, Global};
 use std::marker::Model;
 
-/// A mark on each number below a bound, or none; all are cleared at once. Contracts see them as the
-/// list of flags, whether each number is marked.
+/// For each number below a bound whether it is marked; all marks are cleared at once. Contracts see
+/// them as the list of flags, whether each number is marked.
 #[derive(Drop)]
 pub(crate) struct Marks {
     /// For each number the stamp with which it was marked last, or 0 where it never was.

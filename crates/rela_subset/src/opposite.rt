@@ -44,7 +44,7 @@ impl<L: LabelSet> Dfa<L> {
     }
 }
 
-/// The opposite of each.
+/// The opposite of each flag.
 fn others(alloc: Global, flags: &[bool]) -> Result<Vec<bool>, AllocError>
     ensures { IfOk result (λ others. others.items ≡ map not flags.now) }
 {

@@ -17,9 +17,9 @@ use rela_nfa::{Edge, Nfa};
 use std::alloc::{AllocError, Global};
 use std::marker::Model;
 
-/// The edges of an automaton out of a set of its states, but for the silent ones. Those by one letter
-/// alone are most, and stand apart: they are no work for another letter. Contracts see the automaton,
-/// and the two lists of edges.
+/// The edges of an automaton out of a set of its states, but for the silent ones. Those by one
+/// letter alone are most, and stand apart, since they don't matter to any other letter. Contracts
+/// see the automaton, and the two lists of edges.
 #[derive(Drop)]
 pub(crate) struct Outgoing<'a, L: LabelSet> {
     /// The automaton.
@@ -142,7 +142,7 @@ fn sort_out_one<'a, L: LabelSet>(
     Ok(())
 }
 
-/// Puts the ends of the edges with the others.
+/// Puts the ends of the edges behind the other states, unless they are among them.
 fn insert_singles(visited: &mut Visited, edges: &[LetterEdge]) -> Result<(), AllocError>
     requires { All (λ edge. edge.to < visited.old.count) edges.now }
     ensures adds { IfOk result (λ _. Adds (λ q. (k : ℕ) × HasEnd edges.now k q) visited.old.states visited.new.states) }
@@ -154,7 +154,8 @@ fn insert_singles(visited: &mut Visited, edges: &[LetterEdge]) -> Result<(), All
     Ok(())
 }
 
-/// Puts the ends of those edges that may be taken by the letter with the others.
+/// Puts the ends of those edges that may be taken by the letter behind the other states, unless
+/// they are among them.
 fn insert_others<L: LabelSet>(
     visited: &mut Visited,
     edges: &[&Edge<L>],
