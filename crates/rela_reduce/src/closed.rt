@@ -70,7 +70,8 @@ fn silent_ends(alloc: Global, whole: &Numbered, p: usize) -> Result<Vec<usize>, 
     Ok(ends)
 }
 
-/// Puts the ends of silent ones among the arrows behind the others, unless their flags are set.
+/// Puts the ends of the silent arrows behind the others, unless their flags are set, and sets
+/// these.
 fn insert_silent(
     arrows: &[Arrow],
     flags: &mut [bool],
@@ -89,7 +90,7 @@ fn insert_silent(
     Ok(())
 }
 
-/// The labelled arrows of the states.
+/// The labelled arrows of the states, as steps.
 fn steps_of(alloc: Global, whole: &Numbered, states: &[usize]) -> Result<Vec<Step>, AllocError>
     requires plain { IsPlain (plain whole.now) }
     requires states { All (λ q. q < length whole.now.finals.items) states.now }
@@ -103,7 +104,7 @@ fn steps_of(alloc: Global, whole: &Numbered, states: &[usize]) -> Result<Vec<Ste
     Ok(steps)
 }
 
-/// Puts those of the arrows that have a label behind the others.
+/// Puts the labelled ones of the arrows behind the others, as steps.
 fn add_steps(arrows: &[Arrow], steps: &mut Vec<Step>) -> Result<(), AllocError>
     ensures { IfOk result (λ _. (step : StepOf) → Contains steps.new.items step
         → Contains steps.old.items step ⊎ Contains arrows.now (record { label = Some step.label; to = step.to })) }

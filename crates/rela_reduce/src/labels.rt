@@ -107,7 +107,8 @@ const START: u64 = 0xcbf2_9ce4_8422_2325;
 /// The number by which fingerprints are multiplied at each letter (the prime of that hash).
 const FACTOR: u64 = 0x0100_0000_01b3;
 
-/// A number that two labels rarely share unless they have the same letters. Each letter is looked at.
+/// A number that two labels rarely share unless they have the same letters. Time: a look at each
+/// letter below the label's size.
 fn fingerprint<L: LabelSet>(label: &L) -> u64 {
     let mut hash = START;
     for letter in 0..label.size() {

@@ -20,7 +20,7 @@ pub(crate) struct Numbered {
     pub(crate) labels: usize,
     /// The state from which runs begin.
     pub(crate) start: usize,
-    /// For each state whether a word that leads to it is accepted.
+    /// For each state whether it is final.
     pub(crate) finals: Vec<bool>,
     /// The arrows that leave each state.
     pub(crate) arrows: Vec<Vec<Arrow>>,
