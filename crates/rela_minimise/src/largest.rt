@@ -97,7 +97,7 @@ impl Refinement {
     }
 }
 
-/// The states of the list that are in the class.
+/// The states of the list that are in the class, in their order.
 fn own(
     alloc: Global,
     list: &[usize],
@@ -118,7 +118,7 @@ fn own(
     Ok(own)
 }
 
-/// Writes the class of each of the states.
+/// Writes the class for each of the states.
 fn write_all(classes: &mut Vec<usize>, states: &[usize], class: usize)
     requires { All (λ q. q < length classes.old.items) states.now }
     ensures each { length classes.new.items ≡ length classes.old.items }

@@ -29,7 +29,7 @@ pub(crate) fn predecessors<L: LabelSet>(
     Ok(lists)
 }
 
-/// This many empty lists.
+/// As many empty lists as `count`.
 fn empty_lists(alloc: Global, count: usize) -> Result<Vec<Vec<usize>>, AllocError>
     ensures each { IfOk result (λ lists. length lists.items ≡ count) }
     ensures empty { IfOk result (λ lists. (i : ℕ) → slice_index_or (lists_of lists.items) i [] ≡ []) }

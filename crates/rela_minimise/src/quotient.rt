@@ -63,7 +63,7 @@ fn finals_of<L: LabelSet>(
     Ok(finals)
 }
 
-/// The edges of each of the states, to classes.
+/// Copies of the edges of each of the states, which lead to classes instead of states.
 fn edges_of<L: LabelSet>(
     alloc: Global,
     dfa: &Dfa<L>,
@@ -82,7 +82,7 @@ fn edges_of<L: LabelSet>(
     Ok(edges)
 }
 
-/// The edges, to classes.
+/// Copies of the edges, which lead to classes instead of states.
 fn edges_onto<L: LabelSet>(
     alloc: Global,
     edges: &[Edge<L>],
@@ -98,7 +98,7 @@ fn edges_onto<L: LabelSet>(
     Ok(turned)
 }
 
-/// The edge, to a class.
+/// A copy of the edge, which leads to a class instead of a state.
 fn edge_onto<L: LabelSet>(
     alloc: Global,
     edge: &Edge<L>,
