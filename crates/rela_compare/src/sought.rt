@@ -16,7 +16,7 @@ pub(crate) enum Sought {
     EitherAlone,
 }
 
-/// The sets of states of the union of two automata that a sought word reaches.
+/// The property of sets of states of the union of two automata that a sought word reaches them.
 #[derive(Drop)]
 pub(crate) struct SoughtSets<'a, L: LabelSet> {
     /// The first automaton.
@@ -40,7 +40,7 @@ impl<'a, L: LabelSet> Wanted for SoughtSets<'a, L> {
     }
 }
 
-/// Whether a word is sought that these of the two automata accept.
+/// Whether a word is sought, by whether the first automaton accepts it and whether the second does.
 fn is_sought(sought: Sought, in_first: bool, in_second: bool) -> bool
     ensures { IsTrue result ↔ IsSought sought (IsTrue in_first) (IsTrue in_second) }
 {
