@@ -89,7 +89,7 @@ impl Claimed {
         self.places.as_slice()
     }
 
-    /// The places alone.
+    /// The places alone, as by [`places`](Claimed::places).
     pub(crate) fn into_places(self) -> Vec<usize>
         ensures { result.items ≡ self.places }
     {

@@ -17,9 +17,9 @@ pub const MAX_NODES: usize = 10_000;
 pub const MAX_EDGES: usize = 100_000;
 
 /// How one class of traffic is forwarded: a directed graph of nodes that are numbered from 0, some
-/// of which are starts, and some of which are listed as those that deliver or drop the traffic.
-/// Contracts see it as a [`Topology`]: the lists of its nodes and edges, and a flag of each kind for
-/// each node.
+/// of which are starts, and some of which are listed as those that deliver or drop the traffic. It
+/// has at most [`MAX_NODES`] nodes and [`MAX_EDGES`] edges. Contracts see it as a [`Topology`]: the
+/// lists of its nodes and edges, and a flag of each kind for each node.
 #[derive(Debug, Drop)]
 pub struct Graph {
     /// The nodes, in the order of their numbers.

@@ -58,7 +58,7 @@ impl Letters {
         })
     }
 
-    /// An edge by one letter.
+    /// An edge by one letter to this state of the automaton.
     fn edge_by<L: LabelSet>(
         &self,
         alloc: Global,
@@ -77,7 +77,7 @@ impl Letters {
         })
     }
 
-    /// Adds an edge by one letter, if it is wanted.
+    /// Adds an edge by one letter, if it is wanted, to this state of the automaton.
     pub(crate) fn add_if<L: LabelSet>(
         &self,
         alloc: Global,

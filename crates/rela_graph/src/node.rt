@@ -24,7 +24,7 @@ pub struct Link {
     pub b: u32,
 }
 
-/// The node's location at a level.
+/// The symbol of the node's location at a level.
 pub(crate) fn symbol_at(node: &Node, level: Level) -> Symbol
     ensures { result ≡ symbol_at level node.now }
 {
