@@ -6,7 +6,8 @@ use crate::three_letters::{Question, Table, has, hold, is_past_limit, is_so_of_c
 use rela_nfa::BuildError;
 use std::alloc::Global;
 
-/// How an automaton is made, some of letter 0 as a word and of letter 1 as another.
+/// How an automaton is made: some forms are made of the word 0, the first, and of the word 1, the
+/// second.
 enum Form {
     /// No word.
     Nothing,
@@ -20,11 +21,12 @@ enum Form {
     Concat,
     /// Any number of the first.
     Star,
-    /// What is both any number of the first and one of it.
+    /// The meet of any number of the first and of the first itself.
     Meet,
 }
 
-/// What is both any number of the words and one of them.
+/// The meet of any number of the words and of the words themselves. `Limit` where that takes more
+/// than `limit` pairs of states.
 fn star_and_one(alloc: Global, words: &Table, limit: usize) -> Result<Table, BuildError>
     requires { 1 ≤ limit }
 {

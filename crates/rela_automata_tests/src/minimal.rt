@@ -155,7 +155,7 @@ fn are_of_two_kinds(alloc: Global, all: &WideSet) -> bool
     }
 }
 
-/// Whether this is so over all letters.
+/// Whether the words over all letters reach more than 64 sets of states, and 64 are enough.
 fn are_all_of_two_kinds(alloc: Global) -> bool {
     match all(alloc) {
         Ok(all) => are_of_two_kinds(alloc, &all),

@@ -72,7 +72,7 @@ fn is_reading(dfa: &Dfa<Letters>) -> bool {
         && dfa.is_final(dfa.next(start, 2))
 }
 
-/// That the word of letter 2 is read so, over letters 0 and 2 alone.
+/// That an automaton over letters 0 and 2 alone reads the word of letter 2 so.
 struct Reading;
 
 impl Question for Reading {
@@ -90,7 +90,7 @@ fn reads_a_letter(rt: HostRuntime) {
     assert!(rt; is_so_of_classes(rt.alloc(), &[2], &[0], &Reading));
 }
 
-/// How many sets of states the words reach.
+/// How many sets of states the words reach, `Limit` where there are more than `limit`.
 fn sets_reached(alloc: Global, words: &Table, limit: usize) -> Result<usize, BuildError>
     requires letters { words.now.letters ≡ 3 }
     requires limit { 1 ≤ limit }
@@ -99,8 +99,8 @@ fn sets_reached(alloc: Global, words: &Table, limit: usize) -> Result<usize, Bui
     Ok(dfa.states())
 }
 
-/// Whether the words reach as many sets of states as a limit allows that is as great, and too many for
-/// the next lower one.
+/// Whether the number of sets of states that the words reach is enough as a limit, and one less is
+/// too low.
 fn has_exact_limit(alloc: Global, words: &Table) -> bool
     requires { words.now.letters ≡ 3 }
 {

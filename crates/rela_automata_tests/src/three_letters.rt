@@ -15,7 +15,7 @@ pub(crate) type Letters = BlockSet<1>;
 /// Automata whose labels are [`Letters`].
 pub(crate) type Table = Nfa<Letters>;
 
-/// The set of these of three letters.
+/// The set of these of three letters. Numbers that are no letters are left out.
 pub(crate) fn set_of(alloc: Global, letters: &[u32]) -> Result<Letters, AllocError>
     ensures { IfOk result (λ set. length set ≡ 3) }
 {
@@ -112,8 +112,8 @@ fn is_so_beside_word(alloc: Global, first: &Table, second: &[u32], question: &im
     }
 }
 
-/// Says of each question that it is so of the words of one of the first letters and those of one of the
-/// second.
+/// Says of each question that its answer is yes, of the words of one of the first letters and those
+/// of one of the second.
 pub(crate) fn hold<Q: Question>(
     rt: &impl Abort,
     alloc: Global,
@@ -138,7 +138,8 @@ pub(crate) fn has<E: Drop>(alloc: Global, words: Result<Table, E>, word: &[u32])
     }
 }
 
-/// Whether the word that was found is that of these letters, or none was and none is asked for.
+/// Whether the word that was found is that of these letters, or whether none was found where none
+/// is asked for.
 pub(crate) fn is_word<E: Drop>(found: Result<Option<Word>, E>, letters: Option<&[u32]>) -> bool {
     match found {
         Ok(Some(word)) => match letters {

@@ -67,7 +67,7 @@ impl Relates<'_> {
         }
     }
 
-    /// Whether it is so where this is the first of the two.
+    /// Whether the answer is yes where this is the first of the two.
     fn is_so_of(&self, alloc: Global, turned: &Machine) -> bool
         requires { turned.now.letters ≡ 3 }
     {
@@ -193,7 +193,7 @@ fn any(alloc: Global) -> Result<Table, AllocError>
     Nfa::class(alloc, 1, &set)
 }
 
-/// Reads the one letter and writes it again.
+/// The transducer that reads the one letter and writes it again.
 fn keeping_any(alloc: Global) -> Result<Machine, AllocError>
     ensures { IfOk result (λ machine. machine.letters ≡ 1) }
 {
@@ -237,7 +237,7 @@ fn is_split_of(alloc: Global, any: &Machine) -> bool
     }
 }
 
-/// Whether what keeps the one letter of one block is.
+/// Whether what keeps the one letter of one block is split so.
 fn is_block_split(alloc: Global) -> bool {
     match keeping_any(alloc) {
         Ok(any) => is_split_of(alloc, &any),
@@ -268,7 +268,8 @@ fn leads_to(machine: &Machine, q: usize, to: usize) -> bool {
     false
 }
 
-/// Reads any letter by the states 0 and 1, and then writes any by the states 2 and 3, over one block.
+/// The transducer that reads any letter by the states 0 and 1, and then writes any by the states 2
+/// and 3, over one block.
 fn turning_any(alloc: Global) -> Result<Machine, AllocError>
     ensures { IfOk result (λ machine. machine.letters ≡ 1) }
 {
@@ -343,7 +344,7 @@ fn of_no_letter(alloc: Global) -> Result<Machine, AllocError> {
     of_sources(alloc, &sources)
 }
 
-/// Whether it leads nowhere.
+/// Whether what turns any letter leads nowhere for the empty word alone.
 fn no_letter_leads_nowhere(alloc: Global) -> bool {
     match of_no_letter(alloc) {
         Ok(machine) => leads_nowhere(alloc, machine),
