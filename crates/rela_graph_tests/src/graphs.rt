@@ -185,7 +185,7 @@ fn is_placed(graph: &Graph, level: Level, alphabet: &Alphabet) -> bool
         .all(|node| symbol_at(node, level) < locations)
 }
 
-/// Says that all of these are so of the graph that is drawn.
+/// Says of each question that its answer is yes, of the graph that is drawn.
 fn hold<Q: Question>(rt: &impl Abort, alloc: Global, drawing: &Drawing<'_>, questions: &[Q]) {
     for place in 0..questions.len() {
         assert!(rt;
@@ -200,7 +200,7 @@ fn hold<Q: Question>(rt: &impl Abort, alloc: Global, drawing: &Drawing<'_>, ques
 struct Path<'a>(Level, &'a [Symbol], bool);
 
 impl Path<'_> {
-    /// Whether this is so under the alphabet of the level.
+    /// Whether the answer is yes under the alphabet of the level.
     fn is_so_under(&self, alloc: Global, graph: &Graph, alphabet: &Alphabet) -> bool {
         let Path(level, word, is_path) = self;
         if !is_placed(graph, *level, alphabet) {
@@ -334,7 +334,8 @@ fn a_path_of_groups(rt: HostRuntime) {
     hold(&rt, rt.alloc(), G, OF_G);
 }
 
-/// Whether the automaton accepts the word, where it was made.
+/// Whether the automaton accepts the word, where it was made, and `None` where it wasn't or there
+/// is no memory to tell.
 fn has(alloc: Global, made: Result<Nfa<WideSet>, AllocError>, word: &[Symbol]) -> Option<bool> {
     match made {
         Ok(nfa) => nfa.accepts(alloc, word).ok(),
@@ -343,6 +344,7 @@ fn has(alloc: Global, made: Result<Nfa<WideSet>, AllocError>, word: &[Symbol]) -
 }
 
 /// Whether the automaton of the graph's devices accepts the word, where each symbol is a letter.
+/// `None` where the alphabet lacks a node's symbol, or there is no memory to tell.
 fn reads(alloc: Global, graph: &Graph, alphabet: &Alphabet, word: &[Symbol]) -> Option<bool> {
     if !is_placed(graph, Level::Device, alphabet) {
         return None;
@@ -389,7 +391,7 @@ fn automata(rt: HostRuntime) {
     hold(&rt, rt.alloc(), C2, BY_C2);
 }
 
-/// An edge from r1 to r4, which delivers, where no walk begins.
+/// The graph of an edge from r1 to r4, which delivers, where no walk begins.
 fn unentered(alloc: Global) -> Result<Graph, AllocError> {
     let nodes = Vec::from_slice(alloc, &[R1, R4])?;
     Graph::new(alloc, nodes, &[Link { a: 0, b: 1 }], &[], &[1], &[])

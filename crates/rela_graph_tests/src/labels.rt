@@ -6,7 +6,7 @@ use rela_labels::{BlockSet, LabelSet, Partition, Splitter, WideSet};
 use std::alloc::{AllocError, Global};
 use std::process::Abort;
 
-/// The set of these letters, of this size.
+/// The set of these letters, of this size. Numbers that are no letters are left out.
 fn set_of<L: LabelSet>(alloc: Global, size: u32, letters: &[u32]) -> Result<L, AllocError>
     requires { L.fits size }
     ensures { IfOk result (λ set. length (L.letters set) ≡ size) }
@@ -20,7 +20,7 @@ fn set_of<L: LabelSet>(alloc: Global, size: u32, letters: &[u32]) -> Result<L, A
     Ok(set)
 }
 
-/// A copy of that set.
+/// A copy of the set of these letters, of this size.
 fn copy_of<L: LabelSet>(alloc: Global, size: u32, letters: &[u32]) -> Result<L, AllocError>
     requires { L.fits size }
     ensures { IfOk result (λ set. length (L.letters set) ≡ size) }

@@ -72,7 +72,7 @@ fn look_the_same_as_groups(alloc: Global, graph: &Graph, moved: &Graph) -> bool 
         && is_found(alloc, graph, moved, Level::Device) == Some(false)
 }
 
-/// Whether this is so of the graph with its second node moved.
+/// Whether the graph looks the same with its second node moved, at the level of groups alone.
 fn looks_the_same_moved(alloc: Global, graph: &Graph) -> bool {
     match two(alloc, [IN, OTHER_OUT], FORTH, 0, 1, 0) {
         Ok(moved) => look_the_same_as_groups(alloc, graph, &moved),
@@ -106,7 +106,8 @@ fn looks_otherwise(
     }
 }
 
-/// Whether it looks otherwise with each of these changed.
+/// Whether the graph looks otherwise with its edge, its start, the node that delivers and the one
+/// that drops changed, each alone.
 fn looks_otherwise_changed(alloc: Global, graph: &Graph) -> bool {
     looks_otherwise(alloc, graph, BACK, 0, 1, 0)
         && looks_otherwise(alloc, graph, FORTH, 1, 1, 0)
@@ -114,7 +115,7 @@ fn looks_otherwise_changed(alloc: Global, graph: &Graph) -> bool {
         && looks_otherwise(alloc, graph, FORTH, 0, 1, 1)
 }
 
-/// What of the graph that leads from the first of two nodes to the second is asked.
+/// What is asked of the graph that leads from the first of two nodes to the second.
 #[derive(Clone, Copy)]
 enum Question {
     /// Whether it looks the same at one level alone once its second node is moved.

@@ -64,7 +64,7 @@ fn finds_two(alloc: Global, states: usize) -> bool
     }
 }
 
-/// Whether a limit of one pair is too low.
+/// Whether a limit of one pair is too low, where there are so many states on each side.
 fn finds_more_than_one(alloc: Global, states: usize) -> bool
     requires { 2 < states }
 {
