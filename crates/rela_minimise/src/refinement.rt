@@ -148,6 +148,7 @@ impl Refinement {
         put(&mut self.members, class, q)?;
         Ok(())
     }
+
     /// Puts each of the states into its class.
     fn assign_all(&mut self, waiting: &[usize], targets: &[usize]) -> Result<(), AllocError>
         requires states { All (λ q. q < length self.old.classes.items) waiting.now }
