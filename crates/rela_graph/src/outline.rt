@@ -84,9 +84,9 @@ impl Graph {
             Paths self.now level names w ↔ Paths other.now level names w }
     {}
 
-    /// Graphs that look the same at a level have the same arrivals there: a word is the base word of walks
-    /// that end at the same nodes, and the same words are paths that end undelivered. The call does
-    /// nothing, and its contract is this law.
+    /// Graphs that look the same at a level have the same arrivals there: a word is the base word
+    /// of walks that end at the same nodes, and the same words are paths that end undelivered. The
+    /// call does nothing, and its contract is this law.
     pub fn same_outline_same_arrivals(&self, other: &Graph, level: Level)
         ensures arrives { outline_of level self.now ≡ outline_of level other.now
             → (n : ℕ) (w : List ℕ) → Arrives self.now (locations self.now level) n w

@@ -28,14 +28,15 @@ const MOST_LABELS: usize = 256;
 const MOST_STEPS: usize = 4_096;
 
 /// The automaton with the same states and edges, and a silent edge from each state to each that it
-/// simulates, which adds no word to the language. A word so reaches, with a state, all that are
-/// less: of sets that differ in these alone, which there may be by the thousand, one is left. Words
-/// that reached the same states still do, and a state tells no two words apart that none told apart
-/// before.
+/// simulates (R. Milner, "An algebraic definition of simulation between programs", 1971), which
+/// adds no word to the language. A word so reaches, with a state, all that it simulates: of sets
+/// that differ in these alone, which there may be by the thousand, one is left. Words that reached
+/// the same states still do, and a state tells no two words apart that none told apart before.
 ///
 /// States are compared where the automaton is small, and else none is said to simulate another.
-/// Time: for each of a few rounds a look at each pair of states, with pairs of their edges; space:
-/// a flag for each pair of states.
+/// Time: for each of a few rounds a look at each pair of states, with pairs of their edges, and a
+/// copy of each edge; space: a flag for each pair of states, and the edges. An automaton that isn't
+/// small costs the copy alone, with a look at each letter for each label.
 pub fn reduce<L: LabelSet>(alloc: Global, a: &Nfa<L>) -> Result<Nfa<L>, AllocError>
     ensures letters { IfOk result (λ nfa. nfa.letters ≡ a.now.letters) }
     ensures states { IfOk result (λ nfa. states nfa ≡ states a.now) }
