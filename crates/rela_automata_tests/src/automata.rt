@@ -1,4 +1,4 @@
-//! Automata with silent edges.
+//! Automata with silent edges: their languages, and how they are shortened.
 
 ghost use Rattle.std.specs.Prelude.{◌≤◌};
 
@@ -6,7 +6,8 @@ use crate::three_letters::{Question, Table, has, hold, is_past_limit, is_so_of_c
 use rela_nfa::BuildError;
 use std::alloc::Global;
 
-/// How an automaton is made, some of letter 0 as a word and of letter 1 as another.
+/// How an automaton is made: some forms are made of the word 0, the first, and of the word 1, the
+/// second.
 enum Form {
     /// No word.
     Nothing,
@@ -20,11 +21,12 @@ enum Form {
     Concat,
     /// Any number of the first.
     Star,
-    /// What is both any number of the first and one of it.
+    /// The meet of any number of the first and of the first itself.
     Meet,
 }
 
-/// What is both any number of the words and one of them.
+/// The meet of any number of the words and of the words themselves. `Limit` where that takes more
+/// than `limit` pairs of states.
 fn star_and_one(alloc: Global, words: &Table, limit: usize) -> Result<Table, BuildError>
     requires { 1 ≤ limit }
 {
@@ -32,7 +34,8 @@ fn star_and_one(alloc: Global, words: &Table, limit: usize) -> Result<Table, Bui
     many.meet(alloc, words, limit)
 }
 
-/// Whether the automaton that is made so accepts the word, or not.
+/// Whether the automaton that is made so accepts the word, or not: the form, the word, and whether
+/// it is accepted.
 struct Accepts<'a>(Form, &'a [u32], bool);
 
 impl Question for Accepts<'_> {
@@ -51,6 +54,7 @@ impl Question for Accepts<'_> {
     }
 }
 
+/// Questions about unions, concatenations and stars of the words 0 and 1.
 const JOINED: &[Accepts<'static>] = &[
     Accepts(Form::Union, &[0], true),
     Accepts(Form::Union, &[1], true),
@@ -63,6 +67,7 @@ const JOINED: &[Accepts<'static>] = &[
     Accepts(Form::Star, &[0, 1], false),
 ];
 
+/// Unions, concatenations and stars accept just the words that they should.
 #[test]
 fn letters_joined(rt: HostRuntime) {
     hold(&rt, rt.alloc(), &[0], &[1], JOINED);
@@ -77,24 +82,28 @@ impl Question for MorePairs {
     }
 }
 
+/// Questions about the meet of any number of letters 0 and the word 0.
 const MET: &[Accepts<'static>] = &[
     Accepts(Form::Meet, &[0], true),
     Accepts(Form::Meet, &[], false),
     Accepts(Form::Meet, &[0, 0], false),
 ];
 
+/// A meet accepts just the words of both, and needs more than one pair of states.
 #[test]
 fn words_that_both_accept(rt: HostRuntime) {
     hold(&rt, rt.alloc(), &[0], &[1], MET);
     assert!(rt; is_so_of_classes(rt.alloc(), &[0], &[1], &MorePairs));
 }
 
+/// Questions about the automata of no word and of the empty word.
 const AT_MOST_EMPTY: &[Accepts<'static>] = &[
     Accepts(Form::Nothing, &[], false),
     Accepts(Form::EmptyWord, &[], true),
     Accepts(Form::EmptyWord, &[0], false),
 ];
 
+/// The automaton of no word accepts none, and that of the empty word no other.
 #[test]
 fn no_word_and_the_empty_one(rt: HostRuntime) {
     hold(&rt, rt.alloc(), &[0], &[1], AT_MOST_EMPTY);
@@ -108,12 +117,15 @@ fn pair_has_three_states(alloc: Global) -> bool {
     }
 }
 
+/// Questions about the automaton of the word 0 1.
 const THE_PAIR: &[Accepts<'static>] = &[
     Accepts(Form::Pair, &[0, 1], true),
     Accepts(Form::Pair, &[0], false),
     Accepts(Form::Pair, &[0, 1, 1], false),
 ];
 
+/// The automaton of a word accepts no part of it and nothing longer, and has a state for each
+/// place.
 #[test]
 fn one_word(rt: HostRuntime) {
     hold(&rt, rt.alloc(), &[0], &[1], THE_PAIR);
@@ -160,6 +172,7 @@ impl Question for Detour {
     }
 }
 
+/// A shortened automaton passes no state with a silent edge alone, and accepts the same words.
 #[test]
 fn detours_left_out(rt: HostRuntime) {
     assert!(rt; is_so_of_classes(rt.alloc(), &[0], &[1], &Detour));

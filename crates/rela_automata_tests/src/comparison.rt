@@ -13,7 +13,7 @@ fn is_difference(found: Result<Verdict, BuildError>, first: &[u32], on: Which) -
     }
 }
 
-/// Whether it tells that none does.
+/// Whether the comparison tells that no word tells the two apart.
 fn is_same(found: Result<Verdict, BuildError>) -> bool {
     matches!(found, Ok(Verdict::Same))
 }
@@ -39,6 +39,8 @@ impl Question for Apart {
     }
 }
 
+/// Words of one letter are told apart by the first letter that is in one of the two classes alone,
+/// and included where the class is.
 #[test]
 fn a_class_and_two(rt: HostRuntime) {
     assert!(rt; is_so_of_classes(rt.alloc(), &[0], &[0, 1], &OneMore));
@@ -57,6 +59,7 @@ impl Question for ManySets {
     }
 }
 
+/// A comparison ends at its limit where words reach more pairs of sets of states.
 #[test]
 fn many_sets_of_states(rt: HostRuntime) {
     assert!(rt; is_so_of_classes(rt.alloc(), &[0, 1, 2], &[0], &ManySets));
@@ -74,6 +77,7 @@ impl Question for EarlyDifference {
     }
 }
 
+/// A comparison ends at the first difference, however many sets of states words reach behind it.
 #[test]
 fn a_difference_before_many_sets(rt: HostRuntime) {
     assert!(rt; is_so_of_classes(rt.alloc(), &[0, 1, 2], &[0], &EarlyDifference));

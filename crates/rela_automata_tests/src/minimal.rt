@@ -36,7 +36,7 @@ fn others_lack_zero(alloc: Global, dfa: Dfa<Letters>) -> bool {
     }
 }
 
-/// That the minimal automaton of all words but letter 0 does.
+/// That the minimal automaton of all words but letter 0 lacks just that one.
 struct Others;
 
 impl Question for Others {
@@ -48,6 +48,8 @@ impl Question for Others {
     }
 }
 
+/// The minimal automaton of all words but one has the states that it should, numbered as words
+/// arrive.
 #[test]
 fn all_words_but_one_letter(rt: HostRuntime) {
     assert!(rt; is_so_of_classes(rt.alloc(), &[0], &[1], &Others));
@@ -83,6 +85,7 @@ impl Question for Merged {
     }
 }
 
+/// States with the same words to come are merged.
 #[test]
 fn states_with_the_same_words_are_one(rt: HostRuntime) {
     assert!(rt; is_so_of_words(rt.alloc(), &[0, 2], &[1, 2], &Merged));
@@ -126,7 +129,7 @@ fn many_letters(alloc: Global, all: &WideSet) -> Result<Nfa<WideSet>, AllocError
     seventh_before_five(alloc, &any)
 }
 
-/// The sets of states that they reach.
+/// The deterministic automaton of the sets of states that these words reach, over these letters.
 fn many_letters_determinised(alloc: Global, all: &WideSet) -> Result<Dfa<WideSet>, BuildError>
     requires { length all.now ≡ 300 }
 {
@@ -152,7 +155,7 @@ fn are_of_two_kinds(alloc: Global, all: &WideSet) -> bool
     }
 }
 
-/// Whether this is so over all letters.
+/// Whether the words over all letters reach more than 64 sets of states, and 64 are enough.
 fn are_all_of_two_kinds(alloc: Global) -> bool {
     match all(alloc) {
         Ok(all) => are_of_two_kinds(alloc, &all),
@@ -160,6 +163,7 @@ fn are_all_of_two_kinds(alloc: Global) -> bool {
     }
 }
 
+/// Many letters of two kinds are minimised to as few states as two letters would be.
 #[test]
 fn many_letters_of_two_kinds(rt: HostRuntime) {
     assert!(rt; are_all_of_two_kinds(rt.alloc()));

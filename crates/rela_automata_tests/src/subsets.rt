@@ -12,7 +12,8 @@ use rela_names::Word;
 use rela_subset::{BuildError, Dfa, Wanted, complement, determinise, first_word};
 use std::alloc::{AllocError, Global};
 
-/// The sets of states that the words reach, over these of three letters.
+/// The deterministic automaton of the sets of states that the words reach, over these of three
+/// letters.
 pub(crate) fn determinised(
     alloc: Global,
     words: &Table,
@@ -32,7 +33,8 @@ fn others(alloc: Global, dfa: &Dfa<Letters>) -> Result<Table, AllocError> {
     others.into_nfa(alloc)
 }
 
-/// Whether the word is one of all words of three letters but those of the first automaton, or not.
+/// Whether the word is one of all words of three letters but those of the first automaton, or not:
+/// the word, and whether it is.
 struct Other<'a>(&'a [u32], bool);
 
 impl Question for Other<'_> {
@@ -44,6 +46,7 @@ impl Question for Other<'_> {
     }
 }
 
+/// Questions about all words but 0.
 const ALL_BUT_ZERO: &[Other<'static>] = &[
     Other(&[], true),
     Other(&[1], true),
@@ -51,6 +54,7 @@ const ALL_BUT_ZERO: &[Other<'static>] = &[
     Other(&[0], false),
 ];
 
+/// The complement of one word accepts every other.
 #[test]
 fn all_words_but_one(rt: HostRuntime) {
     hold(&rt, rt.alloc(), &[0], &[1], ALL_BUT_ZERO);
@@ -68,7 +72,7 @@ fn is_reading(dfa: &Dfa<Letters>) -> bool {
         && dfa.is_final(dfa.next(start, 2))
 }
 
-/// That the word of letter 2 is read so, over letters 0 and 2 alone.
+/// That an automaton over letters 0 and 2 alone reads the word of letter 2 so.
 struct Reading;
 
 impl Question for Reading {
@@ -80,12 +84,13 @@ impl Question for Reading {
     }
 }
 
+/// A deterministic automaton over some of the letters reads these and no other.
 #[test]
 fn reads_a_letter(rt: HostRuntime) {
     assert!(rt; is_so_of_classes(rt.alloc(), &[2], &[0], &Reading));
 }
 
-/// How many sets of states the words reach.
+/// How many sets of states the words reach, `Limit` where there are more than `limit`.
 fn sets_reached(alloc: Global, words: &Table, limit: usize) -> Result<usize, BuildError>
     requires letters { words.now.letters ≡ 3 }
     requires limit { 1 ≤ limit }
@@ -94,8 +99,8 @@ fn sets_reached(alloc: Global, words: &Table, limit: usize) -> Result<usize, Bui
     Ok(dfa.states())
 }
 
-/// Whether the words reach as many sets of states as a limit allows that is as great, and too many for
-/// the next lower one.
+/// Whether the number of sets of states that the words reach is enough as a limit, and one less is
+/// too low.
 fn has_exact_limit(alloc: Global, words: &Table) -> bool
     requires { words.now.letters ≡ 3 }
 {
@@ -121,14 +126,16 @@ impl Question for ExactLimit {
     }
 }
 
+/// The limit on sets of states is exact.
 #[test]
 fn as_many_states_as_the_limit(rt: HostRuntime) {
     assert!(rt; is_so_of_classes(rt.alloc(), &[0, 1, 2], &[0], &ExactLimit));
 }
 
-/// The sets of this many states.
+/// The property of sets of states to have this many.
 #[derive(Drop)]
 struct OfSize {
+    /// The number of states.
     size: usize,
 }
 
@@ -140,7 +147,7 @@ impl Wanted for OfSize {
     }
 }
 
-/// The first word that reaches so many states of the automaton.
+/// The first word that reaches a set of `size` states of the automaton, `None` where there is none.
 fn first_to(
     alloc: Global,
     words: &Table,
@@ -154,7 +161,7 @@ fn first_to(
     first_word(alloc, words, &all, &OfSize { size }, limit)
 }
 
-/// The first word that reaches two states of the automaton of both.
+/// The first word that reaches two states of the automaton of both, `None` where there is none.
 fn first_to_two(alloc: Global, first: &Table, second: &Table) -> Result<Option<Word>, BuildError>
     requires first { first.now.letters ≡ 3 }
     requires second { second.now.letters ≡ 3 }
@@ -176,6 +183,7 @@ impl Question for FirstWords {
     }
 }
 
+/// The first word to a wanted set is found, if there is one, within the limit.
 #[test]
 fn first_words(rt: HostRuntime) {
     assert!(rt; is_so_of_words(rt.alloc(), &[1, 2], &[1, 2, 0], &FirstWords));

@@ -9,11 +9,13 @@ use rela_nfa::{BuildError, Nfa};
 use std::alloc::{AllocError, Global};
 use std::process::Abort;
 
+/// Sets of letters, in one word of 64 bits.
 pub(crate) type Letters = BlockSet<1>;
 
+/// Automata whose labels are [`Letters`].
 pub(crate) type Table = Nfa<Letters>;
 
-/// The set of these of three letters.
+/// The set of these of three letters. Numbers that are no letters are left out.
 pub(crate) fn set_of(alloc: Global, letters: &[u32]) -> Result<Letters, AllocError>
     ensures { IfOk result (λ set. length set ≡ 3) }
 {
@@ -44,14 +46,15 @@ pub(crate) fn word(alloc: Global, letters: &[u32]) -> Result<Table, AllocError>
 
 /// A question about two automata over three letters.
 pub(crate) trait Question {
+    /// Whether the answer to the question is yes.
     fn is_so(&self, alloc: Global, first: &Table, second: &Table) -> bool
         requires first { first.now.letters ≡ 3 }
         requires second { second.now.letters ≡ 3 };
 }
 
-/// Asks it of the words of one of the first letters and those of one of the second, and is false where
-/// there is no memory for them. What owns a large value lends it at once: the proof of a function that
-/// does more with it is long.
+/// Asks the question of the words of one of the first letters and those of one of the second, and
+/// is false where there is no memory for them. What owns a large value lends it at once: the proof
+/// of a function that does more with it is long.
 pub(crate) fn is_so_of_classes(
     alloc: Global,
     first: &[u32],
@@ -64,6 +67,8 @@ pub(crate) fn is_so_of_classes(
     }
 }
 
+/// Asks the question of the first automaton and the words of one of the second letters, and is
+/// false where there is no memory for them.
 fn is_so_beside_class(
     alloc: Global,
     first: &Table,
@@ -78,7 +83,8 @@ fn is_so_beside_class(
     }
 }
 
-/// The same of these two words, each alone.
+/// Asks the question of these two words, each alone, and is false where there is no memory for
+/// them.
 pub(crate) fn is_so_of_words(
     alloc: Global,
     first: &[u32],
@@ -94,6 +100,8 @@ pub(crate) fn is_so_of_words(
     }
 }
 
+/// Asks the question of the first automaton and the second word alone, and is false where there is
+/// no memory for it.
 fn is_so_beside_word(alloc: Global, first: &Table, second: &[u32], question: &impl Question) -> bool
     requires over { first.now.letters ≡ 3 }
     requires letters { All (λ k. k < 3) second.now }
@@ -104,8 +112,8 @@ fn is_so_beside_word(alloc: Global, first: &Table, second: &[u32], question: &im
     }
 }
 
-/// Says of each question that it is so of the words of one of the first letters and those of one of the
-/// second.
+/// Says of each question that its answer is yes, of the words of one of the first letters and those
+/// of one of the second.
 pub(crate) fn hold<Q: Question>(
     rt: &impl Abort,
     alloc: Global,
@@ -121,7 +129,8 @@ pub(crate) fn hold<Q: Question>(
     }
 }
 
-/// Whether the automaton accepts the word, where it was made.
+/// Whether the automaton accepts the word, where it was made, and `None` where it wasn't or there
+/// is no memory to tell.
 pub(crate) fn has<E: Drop>(alloc: Global, words: Result<Table, E>, word: &[u32]) -> Option<bool> {
     match words {
         Ok(words) => words.accepts(alloc, word).ok(),
@@ -129,7 +138,8 @@ pub(crate) fn has<E: Drop>(alloc: Global, words: Result<Table, E>, word: &[u32])
     }
 }
 
-/// Whether the word that was found is that of these letters, or none was and none is asked for.
+/// Whether the word that was found is that of these letters, or whether none was found where none
+/// is asked for.
 pub(crate) fn is_word<E: Drop>(found: Result<Option<Word>, E>, letters: Option<&[u32]>) -> bool {
     match found {
         Ok(Some(word)) => match letters {
@@ -141,7 +151,7 @@ pub(crate) fn is_word<E: Drop>(found: Result<Option<Word>, E>, letters: Option<&
     }
 }
 
-/// Whether it wasn't made because of its limit.
+/// Whether something wasn't made because of its limit.
 pub(crate) fn is_past_limit<T: Drop>(made: Result<T, BuildError>) -> bool {
     match made {
         Ok(_) => false,

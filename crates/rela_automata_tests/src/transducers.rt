@@ -1,4 +1,4 @@
-//! Transducers, their operations and images.
+//! Transducers, their operations, their images, and how they are relabelled, pruned and shortened.
 
 ghost use Rattle.std.specs.Prelude.{◌≡◌, IfOk};
 
@@ -10,6 +10,7 @@ use rela_nfa::Nfa;
 use rela_trans::{MoveKind, Transducer, image};
 use std::alloc::{AllocError, Global};
 
+/// Transducers whose sets of letters are [`Letters`].
 type Machine = Transducer<Letters>;
 
 /// How a transducer is made of one that reads letter 0 and writes letter 1, and of one that reads a
@@ -29,7 +30,8 @@ enum Form {
     Compose,
 }
 
-/// Whether the transducer has the pair of words, where it was made.
+/// Whether the transducer has the pair of words, where it was made, and `None` where it wasn't or
+/// there is no memory to tell.
 fn has_pair<E: Drop>(
     alloc: Global,
     made: Result<Machine, E>,
@@ -42,12 +44,14 @@ fn has_pair<E: Drop>(
     }
 }
 
-/// Whether the transducer that is made so, where the second of the two keeps this letter, has the pair of
-/// words, or not.
+/// Whether the transducer that is made so, where the second of the two keeps this letter, has the
+/// pair of words, or not: the form, the letter, the word that is read, the one that is written, and
+/// whether they are related.
 struct Relates<'a>(Form, u32, &'a [u32], &'a [u32], bool);
 
 impl Relates<'_> {
-    /// What is found, by the two transducers.
+    /// Whether the transducer that is made so of these two has the pair of words, and `None` where
+    /// there is no memory to tell.
     fn found(&self, alloc: Global, turned: &Machine, kept: &Machine) -> Option<bool>
         requires turned { turned.now.letters ≡ 3 }
         requires kept { kept.now.letters ≡ 3 }
@@ -63,7 +67,7 @@ impl Relates<'_> {
         }
     }
 
-    /// Whether it is so where this is the first of the two.
+    /// Whether the answer is yes where this is the first of the two.
     fn is_so_of(&self, alloc: Global, turned: &Machine) -> bool
         requires { turned.now.letters ≡ 3 }
     {
@@ -91,6 +95,7 @@ impl Question for Relates<'_> {
     }
 }
 
+/// Questions about the first transducer and its inverse.
 const OF_LETTERS: &[Relates<'static>] = &[
     Relates(Form::Turned, 0, &[0], &[1], true),
     Relates(Form::Turned, 0, &[0], &[0], false),
@@ -99,11 +104,14 @@ const OF_LETTERS: &[Relates<'static>] = &[
     Relates(Form::Inverse, 0, &[0], &[1], false),
 ];
 
+/// A product relates the words that it should, and its inverse those turned round; a number that is
+/// no letter is never related.
 #[test]
 fn pairs_of_letters(rt: HostRuntime) {
     hold(&rt, rt.alloc(), &[0], &[1], OF_LETTERS);
 }
 
+/// Questions about stars, unions and concatenations.
 const OF_WORDS: &[Relates<'static>] = &[
     Relates(Form::Star, 0, &[0, 0], &[1, 1], true),
     Relates(Form::Star, 0, &[], &[], true),
@@ -114,22 +122,26 @@ const OF_WORDS: &[Relates<'static>] = &[
     Relates(Form::Concat, 0, &[0, 0], &[0, 1], false),
 ];
 
+/// Stars, unions and concatenations relate just the pairs of words that they should.
 #[test]
 fn pairs_of_words(rt: HostRuntime) {
     hold(&rt, rt.alloc(), &[0], &[1], OF_WORDS);
 }
 
+/// Questions about compositions.
 const COMPOSED: &[Relates<'static>] = &[
     Relates(Form::Compose, 1, &[0], &[1], true),
     Relates(Form::Compose, 0, &[0], &[1], false),
 ];
 
+/// A composition relates words where the second transducer reads what the first writes.
 #[test]
 fn letters_in_the_middle(rt: HostRuntime) {
     hold(&rt, rt.alloc(), &[0], &[1], COMPOSED);
 }
 
-/// Whether the word is written where letter 0 is read and turned, or not.
+/// Whether the word is written where letter 0 is read and turned into letter 1, or not: the word,
+/// and whether it is.
 struct Written<'a>(&'a [u32], bool);
 
 impl Question for Written<'_> {
@@ -141,12 +153,14 @@ impl Question for Written<'_> {
     }
 }
 
+/// Questions about the image of the word 0.
 const OF_ZERO: &[Written<'static>] = &[
     Written(&[1], true),
     Written(&[0], false),
     Written(&[], false),
 ];
 
+/// An image accepts just the words that are written.
 #[test]
 fn images(rt: HostRuntime) {
     hold(&rt, rt.alloc(), &[0], &[1], OF_ZERO);
@@ -164,6 +178,7 @@ impl Question for MorePairs {
     }
 }
 
+/// An image ends at its limit on pairs of states.
 #[test]
 fn an_image_of_too_many_pairs(rt: HostRuntime) {
     assert!(rt; is_so_of_classes(rt.alloc(), &[0], &[1], &MorePairs));
@@ -178,7 +193,7 @@ fn any(alloc: Global) -> Result<Table, AllocError>
     Nfa::class(alloc, 1, &set)
 }
 
-/// Reads the one letter and writes it again.
+/// The transducer that reads the one letter and writes it again.
 fn keeping_any(alloc: Global) -> Result<Machine, AllocError>
     ensures { IfOk result (λ machine. machine.letters ≡ 1) }
 {
@@ -186,7 +201,7 @@ fn keeping_any(alloc: Global) -> Result<Machine, AllocError>
     Transducer::identity(alloc, &any)
 }
 
-/// The same over three letters, where it was over their one block.
+/// The same over three letters, each a block, where it was over their one block.
 fn split(alloc: Global, machine: &Machine) -> Result<Machine, AllocError>
     requires { machine.now.letters ≡ 1 }
 {
@@ -222,7 +237,7 @@ fn is_split_of(alloc: Global, any: &Machine) -> bool
     }
 }
 
-/// Whether what keeps the one letter of one block is.
+/// Whether what keeps the one letter of one block is split so.
 fn is_block_split(alloc: Global) -> bool {
     match keeping_any(alloc) {
         Ok(any) => is_split_of(alloc, &any),
@@ -230,6 +245,7 @@ fn is_block_split(alloc: Global) -> bool {
     }
 }
 
+/// A transducer over one block of three letters keeps, over three blocks, each of them.
 #[test]
 fn one_block_split(rt: HostRuntime) {
     assert!(rt; is_block_split(rt.alloc()));
@@ -252,7 +268,8 @@ fn leads_to(machine: &Machine, q: usize, to: usize) -> bool {
     false
 }
 
-/// Reads any letter by the states 0 and 1, and then writes any by the states 2 and 3, over one block.
+/// The transducer that reads any letter by the states 0 and 1, and then writes any by the states 2
+/// and 3, over one block.
 fn turning_any(alloc: Global) -> Result<Machine, AllocError>
     ensures { IfOk result (λ machine. machine.letters ≡ 1) }
 {
@@ -298,6 +315,7 @@ impl Question for Read {
     }
 }
 
+/// A transducer that is relabelled for some sources keeps the states that these reach.
 #[test]
 fn states_that_are_read(rt: HostRuntime) {
     assert!(rt; is_so_of_classes(rt.alloc(), &[1], &[0], &Read));
@@ -326,7 +344,7 @@ fn of_no_letter(alloc: Global) -> Result<Machine, AllocError> {
     of_sources(alloc, &sources)
 }
 
-/// Whether it leads nowhere.
+/// Whether what turns any letter leads nowhere for the empty word alone.
 fn no_letter_leads_nowhere(alloc: Global) -> bool {
     match of_no_letter(alloc) {
         Ok(machine) => leads_nowhere(alloc, machine),
@@ -334,6 +352,7 @@ fn no_letter_leads_nowhere(alloc: Global) -> bool {
     }
 }
 
+/// A transducer that is relabelled for the empty word alone has no moves where only a letter leads.
 #[test]
 fn states_that_no_source_reaches(rt: HostRuntime) {
     assert!(rt; no_letter_leads_nowhere(rt.alloc()));
@@ -346,7 +365,7 @@ fn goes_straight(alloc: Global, short: &Machine) -> bool {
         && short.relates(alloc, &[0], &[1]).ok() == Some(true)
 }
 
-/// Whether it does once it is shortened.
+/// Whether the machine goes straight once it is shortened.
 fn is_straight_when_short(alloc: Global, machine: Machine) -> bool {
     match machine.shortened(alloc) {
         Ok(short) => goes_straight(alloc, &short),
@@ -366,6 +385,7 @@ impl Question for Detour {
     }
 }
 
+/// A shortened transducer passes no state with a silent move alone, and relates the same words.
 #[test]
 fn detours_left_out(rt: HostRuntime) {
     assert!(rt; is_so_of_classes(rt.alloc(), &[0], &[1], &Detour));

@@ -1,4 +1,4 @@
-//! The first words of automata, and first sources.
+//! The first words of automata, and the first words for which transducers write others.
 
 ghost use Rattle.std.specs.Prelude.{◌≡◌, IfOk};
 
@@ -12,7 +12,8 @@ fn is_least(alloc: Global, words: &Table, letters: Option<&[u32]>) -> bool {
     is_word(least_word(alloc, words), letters)
 }
 
-/// Whether it is, where the automaton was made.
+/// Whether the first word of the automaton is that of these letters, or there is none as asked for,
+/// where the automaton was made.
 fn has_least(alloc: Global, words: Result<Table, AllocError>, letters: Option<&[u32]>) -> bool {
     match words {
         Ok(words) => is_least(alloc, &words, letters),
@@ -55,6 +56,7 @@ impl Question for ShorterFirst {
     }
 }
 
+/// Of words of different lengths a shorter one comes first, whatever its letters.
 #[test]
 fn shorter_before_less(rt: HostRuntime) {
     assert!(rt; is_so_of_words(rt.alloc(), &[0, 0, 0], &[2, 1], &ShorterFirst));
@@ -75,6 +77,7 @@ impl Question for LesserFirst {
     }
 }
 
+/// Of words of one length that of the lesser letters comes first.
 #[test]
 fn least_of_one_length(rt: HostRuntime) {
     assert!(rt; is_so_of_words(rt.alloc(), &[1], &[0], &LesserFirst));
@@ -89,6 +92,7 @@ impl Question for EmptyFirst {
     }
 }
 
+/// The empty word comes before all others.
 #[test]
 fn the_empty_word(rt: HostRuntime) {
     assert!(rt; is_so_of_words(rt.alloc(), &[1], &[0], &EmptyFirst));
@@ -110,17 +114,19 @@ impl Question for NoneFirst {
     }
 }
 
+/// An automaton without a word has no first one.
 #[test]
 fn no_word(rt: HostRuntime) {
     assert!(rt; is_so_of_words(rt.alloc(), &[1], &[0], &NoneFirst));
 }
 
-/// The first of the words of one of these letters for which a machine writes the target, if there is one:
-/// a machine that reads a letter of the first automaton, and writes one of the second.
+/// The first of the words of one of these letters for which a machine writes the target, if there
+/// is one: the letters, the target, and the first word. The machine reads a letter of the first
+/// automaton, and writes one of the second.
 struct Source<'a>(&'a [u32], &'a [u32], Option<&'a [u32]>);
 
 impl Source<'_> {
-    /// Whether it is found by this machine.
+    /// Whether the first word is found by this machine.
     fn is_found(&self, alloc: Global, turned: &Transducer<Letters>) -> bool
         requires { turned.now.letters ≡ 3 }
     {
@@ -140,6 +146,7 @@ impl Question for Source<'_> {
     }
 }
 
+/// Questions about the machine that reads letter 0 or 1 and writes letter 2.
 const SOURCES: &[Source<'static>] = &[
     Source(&[0, 1], &[2], Some(&[0])),
     Source(&[1], &[2], Some(&[1])),
@@ -148,6 +155,7 @@ const SOURCES: &[Source<'static>] = &[
     Source(&[0, 1], &[3], None),
 ];
 
+/// The first source of a word is found, if there is one.
 #[test]
 fn sources_of_one_letter(rt: HostRuntime) {
     hold(&rt, rt.alloc(), &[0, 1], &[2], SOURCES);

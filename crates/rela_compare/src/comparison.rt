@@ -1,3 +1,4 @@
+//! Whether two automata accept the same words, or one of them only words of the other.
 ghost use Rattle.std.specs.Prelude.{◌≡◌, ℕ, ◌+◌, ◌^◌, ◌<◌, ◌↔◌, List, IfOk, IfErr};
 ghost use Rattle.rela_names.specs.Shortlex.{First};
 ghost use Rattle.rela_nfa.specs.Runs.{Accepts};
@@ -12,8 +13,11 @@ use rela_nfa::{BuildError, Nfa};
 use std::alloc::{AllocError, Global};
 
 /// Whether the two automata accept the same words, and if not the first word, in shortlex order,
-/// that one of them alone accepts. Pairs of sets of states are found as words first reach them, up to
-/// the one at which the two differ; neither automaton is made deterministic first.
+/// that one of them alone accepts. Pairs of sets of states are found as words first reach them, up
+/// to the one at which the two differ; neither automaton is made deterministic first. Time: for
+/// each pair of sets that is found a sort of the edges that leave its states, and a few set
+/// operations for each block of letters by which the same edges may be taken; space: linear in the
+/// pairs of sets. There may be exponentially many.
 ///
 /// # Errors
 ///
@@ -43,8 +47,8 @@ pub fn equal<L: LabelSet>(
 }
 
 /// Whether each word of the first automaton is one of the second, and if not the first word, in
-/// shortlex order, that is not, on the side of the first. It is found as by [`equal`], with the same
-/// errors.
+/// shortlex order, that is not, on the side of the first. It is found as by [`equal`], at the same
+/// cost and with the same errors.
 pub fn included<L: LabelSet>(
     alloc: Global,
     a: &Nfa<L>,
@@ -67,7 +71,7 @@ pub fn included<L: LabelSet>(
     }
 }
 
-/// The first where this automaton accepts the word, else the second.
+/// The first where the automaton `a`, the first one, accepts the word, and else the second.
 fn side_of<L: LabelSet>(alloc: Global, a: &Nfa<L>, word: &Word) -> Result<Which, AllocError>
     ensures first { IfOk result (λ side. side ≡ Which.First → Accepts a.now word.now) }
     ensures second { IfOk result (λ side. side ≡ Which.Second → ¬ Accepts a.now word.now) }

@@ -1,3 +1,4 @@
+//! The first word that tells two automata apart.
 ghost use Rattle.std.specs.Prelude.{◌≡◌, ℕ, ◌+◌, ◌^◌, ◌<◌, List, IfOk, IfErr, IfSome, IfNone};
 ghost use Rattle.rela_names.specs.Shortlex.{First};
 ghost use Rattle.rela_nfa.specs.Runs.{Accepts};
@@ -12,8 +13,10 @@ use rela_nfa::{BuildError, Nfa};
 use rela_subset::first_word;
 use std::alloc::Global;
 
-/// The first of the sought words. A set of states of the union of the two automata is a pair of sets
-/// of their states, and beside these a start, which the empty word alone reaches.
+/// The first of the sought words in shortlex order, and `None` where there is none. A set of states
+/// of the union of the two automata is a pair of sets of their states, and beside these a start,
+/// which the empty word alone reaches. `Limit` where more than `limit` pairs of sets are reached
+/// before such a word, and `Memory` where there isn't memory for them.
 pub(crate) fn first_difference<L: LabelSet>(
     alloc: Global,
     a: &Nfa<L>,

@@ -1,10 +1,11 @@
+//! All letters.
 ghost use Rattle.std.specs.Prelude.{◌≡◌, ℕ, ◌<◌, true, IfOk, length};
 ghost use Rattle.rela_labels.specs.Letters.{has};
 
 use rela_labels::LabelSet;
 use std::alloc::{AllocError, Global};
 
-/// The set of all letters below a number.
+/// The set of all letters below a number. Time: linear in that number.
 pub(crate) fn all_letters<L: LabelSet>(alloc: Global, letters: u32) -> Result<L, AllocError>
     requires { L.fits letters }
     ensures size { IfOk result (λ set. length (L.letters set) ≡ letters) }

@@ -7,22 +7,26 @@ use rela_labels::LabelSet;
 use rela_nfa::Nfa;
 use rela_subset::Wanted;
 
-/// Which words are looked for: those that the first of two automata alone accepts, or those that
-/// either one alone does.
+/// Which words are looked for.
 #[derive(Clone, Copy, Debug)]
 pub(crate) enum Sought {
+    /// Those that the first of two automata accepts and the second doesn't.
     FirstAlone,
+    /// Those that one of two automata accepts and the other doesn't.
     EitherAlone,
 }
 
-/// The sets of states of the union of two automata that a sought word reaches.
+/// The property of sets of states of the union of two automata that a sought word reaches them.
 #[derive(Drop)]
 pub(crate) struct SoughtSets<'a, L: LabelSet> {
+    /// The first automaton.
     pub(crate) first: &'a Nfa<L>,
+    /// The second automaton.
     pub(crate) second: &'a Nfa<L>,
-    // the state of the union with which the copies of the second one's states begin; those of the
-    // first one's begin with state 1
+    /// The state of the union with which the copies of the second one's states begin; those of the
+    /// first one's begin with state 1.
     pub(crate) split: usize,
+    /// Which words are looked for.
     pub(crate) sought: Sought,
 }
 
@@ -36,7 +40,7 @@ impl<'a, L: LabelSet> Wanted for SoughtSets<'a, L> {
     }
 }
 
-/// Whether a word is sought that these of the two automata accept.
+/// Whether a word is sought, by whether the first automaton accepts it and whether the second does.
 fn is_sought(sought: Sought, in_first: bool, in_second: bool) -> bool
     ensures { IsTrue result ↔ IsSought sought (IsTrue in_first) (IsTrue in_second) }
 {
@@ -46,7 +50,8 @@ fn is_sought(sought: Sought, in_first: bool, in_second: bool) -> bool
     }
 }
 
-/// Whether a state of the set is the copy of a final one, where the copies begin with this number.
+/// Whether a state of the set is the copy of a final one of the automaton, where the copies of its
+/// states begin with the number `from`. Time: linear in the set.
 fn has_final<L: LabelSet>(a: &Nfa<L>, from: usize, set: &[usize]) -> bool
     ensures { IsTrue result ↔ HasFinalFrom a.now from set.now }
 {
@@ -58,7 +63,8 @@ fn has_final<L: LabelSet>(a: &Nfa<L>, from: usize, set: &[usize]) -> bool
     false
 }
 
-/// Whether the state is such a copy.
+/// Whether the state is the copy of a final one of the automaton, where the copies of its states
+/// begin with the number `from`.
 fn is_final_copy<L: LabelSet>(a: &Nfa<L>, from: usize, state: usize) -> bool
     ensures { IsTrue result ↔ ((q : ℕ) × (from + q ≡ state) × IsFinal a.now q) }
 {

@@ -1,3 +1,4 @@
+//! What a comparison tells.
 use rela_names::Word;
 
 /// One of two automata.

@@ -1,3 +1,4 @@
+//! The automaton of a graph's paths.
 ghost use Rattle.std.specs.Prelude.{◌≡◌, ℕ, ◌+◌, ◌<◌, ◌≤◌, ◌↔◌, true, false, List, [], ◌∷◌, ◌++◌, IsTrue, IfOk, OnOk, length, map};
 ghost use Rattle.std.specs.List.{All};
 ghost use Rattle.rela_names.specs.Alphabet.{path_symbols};
@@ -22,12 +23,12 @@ use std::alloc::{AllocError, Global};
 
 impl Graph {
     /// The automaton that accepts just the paths of the graph at the level, those of which
-    /// [`Graph::has_path`] tells, each symbol read as its block. The location of each node, `drop` and
-    /// `loop` have blocks of their own.
+    /// [`Graph::has_path`] tells, each symbol read as its block. The location of each node, `drop`
+    /// and `loop` have blocks of their own.
     ///
-    /// State 0 is where words begin. State `1 + n` stands at node `n`: the words that reach it are the
-    /// locations of the walks that end there, each run of equal neighbours written once. The last
-    /// state is the end after `drop` or `loop`. The number of steps is linear in the nodes and the
+    /// State 0 is where words begin. State `1 + n` stands at node `n`: the words that reach it are
+    /// the locations of the walks that end there, each run of equal neighbours written once. The
+    /// last state is the end after `drop` or `loop`. Time and space: linear in the nodes and the
     /// edges, times the size of a set of letters.
     pub fn to_nfa<L: LabelSet>(
         &self,
@@ -59,7 +60,7 @@ impl Graph {
         Ok(Nfa::from_lists(letters.count, 0, finals, edges))
     }
 
-    /// Whether each state is final: those of nodes that deliver are, and the last.
+    /// For each state whether it is final: those of nodes that deliver are, and the last.
     fn finals(&self, alloc: Global) -> Result<Vec<bool>, AllocError>
         ensures finals { IfOk result (λ finals. finals.items ≡ false ∷ (self.now.delivered ++ true ∷ [])) }
         ensures topology { IsTopology self.now }

@@ -1,3 +1,4 @@
+//! Nodes that are claimed for roots.
 ghost use Rattle.std.specs.Prelude.{◌≡◌, ℕ, ◌<◌, ◌≤◌, ◌↔◌, [], IsTrue, IfOk, OnOk, Contains, length, slice_index};
 ghost use Rattle.std.specs.List.{All};
 ghost use Rattle.rela_graph.specs.Component.{SameFrame, ClaimsNode};
@@ -6,12 +7,14 @@ use crate::node_set::NodeSet;
 use std::alloc::{AllocError, Global};
 use std::marker::Model;
 
-/// Nodes that were claimed for roots, in the order in which they were: the roots, and for each node
-/// that was claimed its root's place among them.
+/// Nodes that were claimed for roots, each for one, in the order in which they were.
 #[derive(Drop)]
 pub(crate) struct Claimed {
+    /// The roots.
     roots: Vec<u32>,
+    /// The nodes that were claimed, in the order in which they were.
     nodes: NodeSet,
+    /// For each node that was claimed its root's place among the roots, and 0 for any other.
     places: Vec<usize>,
 }
 
@@ -27,7 +30,8 @@ impl Model for Claimed {
 }
 
 impl Claimed {
-    /// No node below `count` is claimed yet for these roots.
+    /// No node below `count` is claimed yet for these roots. Time and space: linear in the roots
+    /// and `count`.
     pub(crate) fn new(alloc: Global, roots: &[u32], count: usize) -> Result<Claimed, AllocError>
         ensures roots { IfOk result (λ claimed. claimed.roots ≡ roots.now) }
         ensures count { IfOk result (λ claimed. claimed.count ≡ count) }
@@ -40,7 +44,7 @@ impl Claimed {
         })
     }
 
-    /// Claims a node for the root at a place, unless the node was claimed before.
+    /// Claims a node for the root at a place, unless the node was claimed before. Time: constant.
     pub(crate) fn claim(&mut self, n: u32, place: usize) -> Result<(), AllocError>
         requires { n < self.old.count }
         ensures frame { SameFrame self.old self.new }
@@ -77,7 +81,7 @@ impl Claimed {
         self.roots.as_slice()
     }
 
-    /// For each node that was claimed the place of its root.
+    /// For each node that was claimed the place of its root, and 0 for any other.
     pub(crate) fn places(&self) -> &[usize]
         ensures places { result.now ≡ self.now.places }
         ensures len { length self.now.places ≡ self.now.count }
@@ -85,7 +89,7 @@ impl Claimed {
         self.places.as_slice()
     }
 
-    /// The places alone.
+    /// The places alone, as by [`places`](Claimed::places).
     pub(crate) fn into_places(self) -> Vec<usize>
         ensures { result.items ≡ self.places }
     {

@@ -1,3 +1,4 @@
+//! Strongly connected components.
 ghost use Rattle.std.specs.Prelude.{◌≡◌, ℕ, ◌<◌, ◌≤◌, IsTrue, IfOk, IfSome, OnOk, Contains, length, slice_index};
 ghost use Rattle.std.specs.Bool.{OnTrue};
 ghost use Rattle.std.specs.List.{All};
@@ -11,16 +12,17 @@ use crate::node::Link;
 use std::alloc::{AllocError, Global};
 
 impl Graph {
-    /// The strongly connected components, as a number for each node: nodes have one number where each
-    /// is reached from the other, and no edge leads to a smaller number.
+    /// The strongly connected components, as a number for each node: nodes have one number where
+    /// each is reached from the other, and no edge leads to a smaller number.
     ///
-    /// They are found by Kosaraju's algorithm: the nodes are put in the order in which a search by
-    /// depth leaves them, the last first, and each in turn claims those nodes that reach it and that
-    /// none before it has claimed. It is not proved that this finds the components. What it finds is a
-    /// certificate that is checked: each node was claimed by one that it reaches, a second search
-    /// shows that it is reached from that one, and no edge leads to a smaller number. `None` says that
-    /// the check failed, which doesn't happen. The number of steps is linear in the nodes and the
-    /// edges.
+    /// They are found by Kosaraju's algorithm (M. Sharir, *A strong-connectivity algorithm and its
+    /// applications in data flow analysis*, 1981): the nodes are put in the order in which a
+    /// depth-first search leaves them, the last first, and each in turn claims those nodes that
+    /// reach it and that none before it has claimed. It is not proved that this finds the
+    /// components. What it finds is a certificate that is checked: each node was claimed by one
+    /// that it reaches, a second search shows that it is reached from that one, and no edge leads
+    /// to a smaller number. `None` says that the check failed, which doesn't happen. Time and
+    /// space: linear in the nodes and the edges.
     pub(crate) fn components(&self, alloc: Global) -> Result<Option<Vec<usize>>, AllocError>
         ensures { IfOk result (λ found. IfSome found (λ numbers. AreComponents self.now numbers.items)) }
     {
@@ -50,7 +52,7 @@ impl Graph {
             && ascends(self.edges(), behind.places())
     }
 
-    /// Claims for each root in turn the nodes that reach it.
+    /// Claims for each root in turn the nodes that reach it and that no root before it has claimed.
     fn claim_behind(&self, alloc: Global, roots: &[u32]) -> Result<Claimed, AllocError>
         requires { All (λ n. n < length self.now.nodes) roots.now }
         ensures roots { IfOk result (λ claimed. claimed.roots ≡ roots.now) }

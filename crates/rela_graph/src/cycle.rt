@@ -1,3 +1,4 @@
+//! Which nodes lie on cycles.
 ghost use Rattle.std.specs.Prelude.{◌≡◌, ℕ, ◌<◌, ◌↔◌, IsTrue, IfOk, length, false, slice_index_or, vec_len, replicate, slice_index};
 ghost use Rattle.std.specs.List.{All, Any};
 ghost use Rattle.rela_graph.specs.Component.{AreComponents};
@@ -9,7 +10,9 @@ use crate::node_set::NodeSet;
 use std::alloc::{AllocError, Global};
 
 impl Graph {
-    /// Whether the node lies on a cycle: one or more edges lead from it back to it.
+    /// Whether the node lies on a cycle: one or more edges lead from it back to it. `false` for a
+    /// number that is no node's. Time and space: as for all nodes at once, by
+    /// [`cyclic_nodes`](Graph::cyclic_nodes).
     pub fn on_cycle(&self, alloc: Global, n: u32) -> Result<bool, AllocError>
         ensures cyclic { IfOk result (λ cyclic. IsTrue cyclic ↔ IsCyclic self.now n) }
     {
@@ -17,8 +20,7 @@ impl Graph {
         Ok(cyclic.get(n as usize).copied().unwrap_or(false))
     }
 
-    /// Whether each node lies on a cycle, in the order of their numbers. It takes a number of steps that
-    /// is linear in the nodes and the edges.
+    /// For each node whether it lies on a cycle. Time and space: linear in the nodes and the edges.
     pub fn cyclic_nodes(&self, alloc: Global) -> Result<Vec<bool>, AllocError>
         ensures nodes { IfOk result (λ cyclic. vec_len cyclic ≡ length self.now.nodes) }
         ensures cyclic { IfOk result (λ cyclic. (n : ℕ) → IsTrue (slice_index_or cyclic.items n false) ↔ IsCyclic self.now n) }
@@ -29,8 +31,8 @@ impl Graph {
         }
     }
 
-    /// The same by the components: a node lies on a cycle where an edge leads from it to a node of its
-    /// own component.
+    /// For each node whether it lies on a cycle, by the components: it does where an edge leads
+    /// from it to a node of its own component.
     fn cyclic_by_components(
         &self,
         alloc: Global,
@@ -49,7 +51,8 @@ impl Graph {
         Ok(cyclic)
     }
 
-    /// The same by a search from each node.
+    /// For each node whether it lies on a cycle, by a search from each. Time: linear in the nodes
+    /// and the edges, for each node.
     fn cyclic_by_searches(&self, alloc: Global) -> Result<Vec<bool>, AllocError>
         ensures nodes { IfOk result (λ cyclic. vec_len cyclic ≡ length self.now.nodes) }
         ensures cyclic { IfOk result (λ cyclic. (n : ℕ) → IsTrue (slice_index_or cyclic.items n false) ↔ IsCyclic self.now n) }
@@ -63,7 +66,7 @@ impl Graph {
         Ok(cyclic)
     }
 
-    /// Whether one or more edges lead from the node back to it.
+    /// Whether one or more edges lead from the node back to it. The labels are 0 for each node.
     fn returns_to(&self, alloc: Global, labels: &[u32], n: u32) -> Result<bool, AllocError>
         requires node { n < length self.now.nodes }
         requires labels { labels.now ≡ replicate (length self.now.nodes) 0 }

@@ -1,3 +1,4 @@
+//! What a forwarding graph is, and what it tells of itself.
 ghost use Rattle.std.specs.Prelude.{◌≡◌, ℕ, ◌<◌, ◌≤◌, ◌↔◌, IsTrue, IfOk, Contains, length, vec_len};
 ghost use Rattle.std.specs.List.{All};
 ghost use Rattle.std.specs.List.Sorted.{IsSorted, IsPartitionPoint};
@@ -16,18 +17,23 @@ pub const MAX_NODES: usize = 10_000;
 pub const MAX_EDGES: usize = 100_000;
 
 /// How one class of traffic is forwarded: a directed graph of nodes that are numbered from 0, some
-/// of which are starts, and some of which are listed as those that deliver or drop the traffic.
-/// Contracts see it as a [`Topology`]: the lists of its nodes and edges, and a flag of each kind for
-/// each node.
+/// of which are starts, and some of which are listed as those that deliver or drop the traffic. It
+/// has at most [`MAX_NODES`] nodes and [`MAX_EDGES`] edges. Contracts see it as a [`Topology`]: the
+/// lists of its nodes and edges, and a flag of each kind for each node.
 #[derive(Debug, Drop)]
 pub struct Graph {
+    /// The nodes, in the order of their numbers.
     nodes: Vec<Node>,
-    /// Ascending by the first node and then by the second.
+    /// The edges, each once, in ascending order of the node that they come from and then of the one
+    /// that they lead to.
     edges: Vec<Link>,
     /// For each node, and for the number after the last, how many edges come from nodes before it.
     offsets: Vec<u32>,
+    /// For each node whether a walk may begin at it.
     starts: Vec<bool>,
+    /// For each node whether it is listed as one that delivers.
     delivered: Vec<bool>,
+    /// For each node whether it is listed as one that drops.
     dropped: Vec<bool>,
 }
 
@@ -45,7 +51,9 @@ impl Model for Graph {
 
 impl Graph {
     /// The graph of these nodes, edges, starts and lists of nodes that deliver and that drop.
-    /// Repetitions count once. Nodes are named by their place in the list.
+    /// Repetitions count once. Nodes are named by their place in the list. Time: n log n in the
+    /// edges, with a binary search among them for each node, and linear in the lists; space: linear
+    /// in the nodes and the edges.
     pub fn new(
         alloc: Global,
         nodes: Vec<Node>,
@@ -91,7 +99,8 @@ impl Graph {
         self.nodes.as_slice()
     }
 
-    /// Whether an edge leads from a to b.
+    /// Whether an edge leads from `a` to `b`; `false` where one of them is no node. Time: a binary
+    /// search.
     pub fn has_edge(&self, a: u32, b: u32) -> bool
         ensures edge { IsTrue result ↔ HasEdge self.now a b }
         ensures nodes { IsTrue result → (a < length self.now.nodes) × (b < length self.now.nodes) }
@@ -99,7 +108,7 @@ impl Graph {
         self.edges.binary_search(&Link { a, b }).is_ok()
     }
 
-    /// Whether a walk may begin at the node.
+    /// Whether a walk may begin at the node. `false` for a number that is no node's.
     pub fn is_start(&self, n: u32) -> bool
         ensures start { IsTrue result ↔ IsStart self.now n }
         ensures node { IsTrue result → n < length self.now.nodes }
@@ -107,7 +116,7 @@ impl Graph {
         self.starts.get(n as usize).copied().unwrap_or(false)
     }
 
-    /// Whether the node is listed as one that delivers.
+    /// Whether the node is listed as one that delivers. `false` for a number that is no node's.
     pub fn is_delivered(&self, n: u32) -> bool
         ensures delivered { IsTrue result ↔ IsDelivered self.now n }
         ensures node { IsTrue result → n < length self.now.nodes }
@@ -115,7 +124,7 @@ impl Graph {
         self.delivered.get(n as usize).copied().unwrap_or(false)
     }
 
-    /// Whether the node is listed as one that drops.
+    /// Whether the node is listed as one that drops. `false` for a number that is no node's.
     pub fn is_dropped(&self, n: u32) -> bool
         ensures dropped { IsTrue result ↔ IsDropped self.now n }
         ensures node { IsTrue result → n < length self.now.nodes }
@@ -145,7 +154,8 @@ impl Graph {
         self.dropped.as_slice()
     }
 
-    /// The edges, by the node that they come from and then by the node that they lead to.
+    /// The edges, in ascending order of the node that they come from and then of the one that they
+    /// lead to.
     pub(crate) fn edges(&self) -> &[Link]
         ensures edges { result.now ≡ self.now.edges }
         ensures topology { IsTopology self.now }
@@ -192,7 +202,7 @@ fn offsets_of(alloc: Global, edges: &[Link], count: usize) -> Result<Vec<u32>, A
     Ok(offsets)
 }
 
-/// How many edges come from nodes before n.
+/// How many edges come from nodes before `n`. Time: a binary search.
 fn edges_before(edges: &[Link], n: usize) -> usize
     requires { IsSorted link_cmp edges.now }
     ensures parted { IsPartitionPoint (λ link. link.a < n) (λ link. n ≤ link.a) edges.now result }

@@ -1,3 +1,4 @@
+//! The order in which a depth-first search leaves the nodes.
 ghost use Rattle.std.specs.Prelude.{◌≡◌, ◌<◌, ◌≤◌, IfOk, OnOk, ◌++◌, length, map};
 ghost use Rattle.std.specs.List.{All};
 ghost use Rattle.rela_graph.specs.Visit.{node_of, work_left};
@@ -7,7 +8,7 @@ use crate::node::Link;
 use crate::node_set::NodeSet;
 use std::alloc::{AllocError, Global};
 
-/// What a search by depth has yet to do.
+/// What a depth-first search has yet to do.
 #[derive(Clone, Copy)]
 enum Visit {
     /// To enter a node, unless it was entered before.
@@ -17,7 +18,9 @@ enum Visit {
 }
 
 impl Graph {
-    /// The nodes in the order in which a search by depth leaves them, the last first.
+    /// The nodes in the order in which a depth-first search leaves them, the last first: reverse
+    /// postorder. The search begins at each node in turn that wasn't entered before, from the last
+    /// on. Time and space: linear in the nodes and the edges.
     pub(crate) fn leaving_order(&self, alloc: Global) -> Result<Vec<u32>, AllocError>
         ensures { IfOk result (λ order. All (λ n. n < length self.now.nodes) order.items) }
     {

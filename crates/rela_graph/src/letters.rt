@@ -1,3 +1,4 @@
+//! The letters of a graph's automaton, and its edges by them.
 ghost use Rattle.std.specs.Prelude.{◌≡◌, ℕ, ◌+◌, ◌<◌, ◌≤◌, [], ◌++◌, IfOk, OnOk, length, map};
 ghost use Rattle.std.specs.List.{All};
 ghost use Rattle.rela_names.specs.Alphabet.{path_symbols};
@@ -13,18 +14,22 @@ use rela_names::{Alphabet, Level};
 use rela_nfa::Edge;
 use std::alloc::{AllocError, Global};
 
-/// The letters by which an automaton reads the walks of a graph: how many there are in all, the one
-/// of each node's location, and those of `drop` and `loop`.
+/// The letters by which an automaton reads the walks of a graph.
 #[derive(Drop)]
 pub(crate) struct Letters {
+    /// How many letters there are in all.
     pub(crate) count: u32,
+    /// The letter of each node's location.
     pub(crate) nodes: Vec<u32>,
+    /// The letter of `drop`.
     pub(crate) drop_letter: u32,
+    /// The letter of `loop`.
     pub(crate) loop_letter: u32,
 }
 
 impl Letters {
-    /// The letters are the blocks of the symbols.
+    /// The letters are the blocks of the symbols: those of the nodes at this level, and of `drop`
+    /// and `loop` in the alphabet. Time: a look-up in the partition for each node.
     pub(crate) fn new(
         alloc: Global,
         graph: &Graph,
@@ -53,7 +58,7 @@ impl Letters {
         })
     }
 
-    /// An edge by one letter.
+    /// An edge by one letter to this state of the automaton.
     fn edge_by<L: LabelSet>(
         &self,
         alloc: Global,
@@ -72,7 +77,7 @@ impl Letters {
         })
     }
 
-    /// Adds an edge by one letter, if it is wanted.
+    /// Adds an edge by one letter, if it is wanted, to this state of the automaton.
     pub(crate) fn add_if<L: LabelSet>(
         &self,
         alloc: Global,
@@ -91,8 +96,8 @@ impl Letters {
         Ok(())
     }
 
-    /// The edge for one of the graph's: silent where both its nodes have one letter, else by that of
-    /// the node to which it leads.
+    /// The automaton's edge for one of the graph's: silent where both its nodes have one letter,
+    /// and else by that of the node to which it leads.
     fn edge_along<L: LabelSet>(&self, alloc: Global, link: &Link) -> Result<Edge<L>, AllocError>
         requires fits { L.fits self.now.count }
         requires each { All (λ k. k < self.now.count) self.now.nodes.items }
@@ -107,7 +112,7 @@ impl Letters {
         self.edge_by(alloc, letter, to)
     }
 
-    /// Adds the edge for each of the graph's. There are none before.
+    /// Adds the automaton's edge for each of the graph's. There are none before.
     pub(crate) fn add_along<L: LabelSet>(
         &self,
         alloc: Global,

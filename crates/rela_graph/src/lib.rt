@@ -1,4 +1,5 @@
-//! Forwarding graphs: their walks, their cycles and the paths that they allow, and how they look at a level.
+//! Forwarding graphs: their walks, their cycles and the paths that they allow, and how they look at
+//! a level. An `AllocError` comes only where memory is refused.
 #![tactic(auto)]
 
 mod automaton;

@@ -1,3 +1,4 @@
+//! Sets of nodes, which are found one after the other.
 ghost use Rattle.std.specs.Prelude.{◌≡◌, ℕ, ◌<◌, ◌≤◌, ◌↔◌, [], IsTrue, IfOk, OnOk, OnErr, Contains, length};
 ghost use Rattle.std.specs.List.{All};
 ghost use Rattle.rela_graph.specs.NodeSet.{Inserts};
@@ -8,7 +9,9 @@ use std::marker::Model;
 /// A set of nodes of a graph: a flag for each node, and the members in the order in which they came.
 #[derive(Drop)]
 pub(crate) struct NodeSet {
+    /// For each node whether it is a member.
     flags: Vec<bool>,
+    /// The members, in the order in which they came.
     members: Vec<u32>,
 }
 
@@ -24,7 +27,7 @@ impl Model for NodeSet {
 }
 
 impl NodeSet {
-    /// The empty set of nodes below a number.
+    /// The empty set of nodes below a number. Time and space: linear in that number.
     pub(crate) fn new(alloc: Global, count: usize) -> Result<NodeSet, AllocError>
         ensures count { IfOk result (λ set. set.count ≡ count) }
         ensures empty { IfOk result (λ set. set.nodes ≡ []) }
@@ -59,7 +62,7 @@ impl NodeSet {
         self.members.len() == self.flags.len()
     }
 
-    /// Puts a node in.
+    /// Puts a node in, unless it is there. Time: constant.
     pub(crate) fn insert(&mut self, n: u32) -> Result<(), AllocError>
         requires { n < self.old.count }
         ensures count { self.new.count ≡ self.old.count }

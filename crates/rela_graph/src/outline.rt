@@ -13,12 +13,14 @@ use std::hash::{Hash, Hasher};
 use std::marker::Model;
 
 /// A graph as it looks at a level: the location of each node there, the edges, and which nodes are
-/// starts, deliver or drop. Two are equal where all of these are, whatever the other levels tell; to
-/// compare or to hash them takes a number of steps that is linear in the nodes and the edges.
-/// Contracts see it as an [`Outline`].
+/// starts, deliver or drop. Two are equal where all of these are, whatever the other levels tell.
+/// Time to compare or to hash them: linear in the nodes and the edges. Contracts see it as an
+/// [`Outline`].
 #[derive(Drop)]
 pub struct LevelGraph<'a> {
+    /// The graph.
     graph: &'a Graph,
+    /// The level at which it is looked at.
     level: Level,
 }
 
@@ -82,9 +84,9 @@ impl Graph {
             Paths self.now level names w ↔ Paths other.now level names w }
     {}
 
-    /// Graphs that look the same at a level have the same arrivals there: a word is the base word of walks
-    /// that end at the same nodes, and the same words are paths that end undelivered. The call does
-    /// nothing, and its contract is this law.
+    /// Graphs that look the same at a level have the same arrivals there: a word is the base word
+    /// of walks that end at the same nodes, and the same words are paths that end undelivered. The
+    /// call does nothing, and its contract is this law.
     pub fn same_outline_same_arrivals(&self, other: &Graph, level: Level)
         ensures arrives { outline_of level self.now ≡ outline_of level other.now
             → (n : ℕ) (w : List ℕ) → Arrives self.now (locations self.now level) n w
@@ -94,7 +96,8 @@ impl Graph {
             ↔ Undelivered other.now level names w }
     {}
 
-    /// Whether the graph looks at the level as the other one does at its level.
+    /// Whether the graph looks at the level as the other one does at its level. Time: linear in the
+    /// nodes and the edges.
     fn looks_like(&self, level: Level, other: &Graph, other_level: Level) -> bool
         ensures { result ≡ same_outline (outline_of level self.now) (outline_of other_level other.now) }
     {

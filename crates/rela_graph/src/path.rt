@@ -1,3 +1,4 @@
+//! Whether a word is a path of a graph.
 ghost use Rattle.std.specs.Prelude.{◌≡◌, ℕ, ◌<◌, ◌↔◌, IsTrue, IfOk, [], ◌∷◌, Contains, length, vec_len};
 ghost use Rattle.std.specs.List.{All, Any};
 ghost use Rattle.rela_graph.specs.Topology.{symbol_at, IsTopology, IsStart, IsDelivered, HasFlag};
@@ -13,9 +14,9 @@ use std::alloc::{AllocError, Global};
 
 impl Graph {
     /// Whether the word is one of the graph's paths at the level: a walk's locations, each run of
-    /// equal neighbours written once, where the walk's last node delivers; those and `drop`, where it
-    /// drops; those and `loop`, where it lies on a cycle. It takes a number of steps that is linear in
-    /// the nodes and the edges for each symbol of the word.
+    /// equal neighbours written once, where the walk's last node delivers; those and `drop`, where
+    /// it drops; those and `loop`, where it lies on a cycle. Time: linear in the nodes and the
+    /// edges for each symbol of the word; space: linear in the nodes and the edges.
     pub fn has_path(
         &self,
         alloc: Global,
@@ -43,12 +44,14 @@ impl Graph {
         }
     }
 
+    /// Whether one of the nodes is listed as one that delivers.
     fn any_delivers(&self, nodes: &[u32]) -> bool
         ensures { IsTrue result ↔ Any (IsDelivered self.now) nodes.now }
     {
         nodes.iter().any(|n| self.is_delivered(*n))
     }
 
+    /// Whether traffic is dropped at one of the nodes.
     fn any_drops(&self, nodes: &[u32]) -> bool
         requires { All (λ n. n < length self.now.nodes) nodes.now }
         ensures { IsTrue result ↔ Any (IsDropNode self.now) nodes.now }
@@ -81,7 +84,8 @@ impl Graph {
             .collect(alloc)
     }
 
-    /// The nodes at which walks with this base word end.
+    /// The nodes at which walks with this base word end: their locations, each run of equal
+    /// neighbours written once. There are none for the empty word.
     fn ends_of(
         &self,
         alloc: Global,
@@ -164,6 +168,7 @@ impl Graph {
     }
 }
 
+/// Whether the flag of one of the nodes is set.
 fn any_flagged(flags: &[bool], nodes: &[u32]) -> bool
     requires { All (λ n. n < length flags.now) nodes.now }
     ensures { IsTrue result ↔ Any (HasFlag flags.now) nodes.now }

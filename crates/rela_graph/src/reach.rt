@@ -1,3 +1,4 @@
+//! Which nodes are reached through nodes of one label.
 ghost use Rattle.std.specs.Prelude.{◌≡◌, ℕ, ◌<◌, ◌↔◌, OnOk, Contains, length};
 ghost use Rattle.rela_graph.specs.Spread.{Adds, Next, Spread};
 
@@ -6,7 +7,7 @@ use crate::node_set::NodeSet;
 use std::alloc::AllocError;
 
 impl Graph {
-    /// Adds the nodes with the label to which an edge leads from n.
+    /// Adds the nodes with the label to which an edge leads from `n`.
     pub(crate) fn add_next(
         &self,
         labels: &[u32],
@@ -28,7 +29,8 @@ impl Graph {
         Ok(())
     }
 
-    /// Adds the nodes that members reach by edges to nodes with the label.
+    /// Adds the nodes that members reach by edges to nodes with the label: a breadth-first search.
+    /// Time: linear in the edges that leave the members.
     pub(crate) fn spread(
         &self,
         labels: &[u32],

@@ -12,40 +12,47 @@ use rela_nfa::Nfa;
 use std::alloc::{AllocError, Global};
 use std::process::Abort;
 
-// Group core (0) has the devices r2 and r3, group edge (1) has r1 and r4. Each device has the interface
-// of its name with `:0`, and r4 has `r4:1` besides.
+/// Interface `r1:0`, of device r1 and group edge. Group core (symbol 0) has the devices r2 and r3,
+/// and group edge (symbol 1) has r1 and r4. Each device has the interface of its name with `:0`,
+/// and r4 has `r4:1` besides.
 const R1: Node = Node {
     interface: 0,
     device: 0,
     group: 1,
 };
 
+/// Interface `r2:0`, of device r2 and group core.
 const R2: Node = Node {
     interface: 1,
     device: 1,
     group: 0,
 };
 
+/// Interface `r3:0`, of device r3 and group core.
 const R3: Node = Node {
     interface: 2,
     device: 2,
     group: 0,
 };
 
+/// Interface `r4:0`, of device r4 and group edge.
 const R4: Node = Node {
     interface: 3,
     device: 3,
     group: 1,
 };
 
+/// Interface `r4:1`, of device r4 and group edge.
 const R4_OUT: Node = Node {
     interface: 4,
     device: 3,
     group: 1,
 };
 
+/// The symbol of `drop` in the alphabet of the devices.
 const DROP: Symbol = 4;
 
+/// The symbol of `loop` in the alphabet of the devices.
 const LOOP: Symbol = 5;
 
 /// The alphabet of the devices.
@@ -66,6 +73,7 @@ fn groups(alloc: Global) -> Result<Alphabet, NameError> {
 
 /// A graph that starts at its node 0.
 struct Drawing<'a> {
+    /// The nodes, in the order of their numbers.
     nodes: &'a [Node],
     /// The nodes that each edge joins.
     edges: &'a [(u32, u32)],
@@ -73,43 +81,49 @@ struct Drawing<'a> {
     delivered: u32,
 }
 
+/// A path from r1 by r2 to r4 and out, with one edge listed twice.
 const P2: &Drawing<'static> = &Drawing {
     nodes: &[R1, R2, R4, R4_OUT],
     edges: &[(0, 1), (1, 2), (2, 3), (0, 1)],
     delivered: 3,
 };
 
+/// Two nodes without an edge, of which the first drops.
 const X1: &Drawing<'static> = &Drawing {
     nodes: &[R1, R2],
     edges: &[],
     delivered: 1,
 };
 
+/// The path of `P2`, and an edge from r1 to a cycle of r3 and another node of r2.
 const C1: &Drawing<'static> = &Drawing {
     nodes: &[R1, R2, R4, R4_OUT, R3, R2],
     edges: &[(0, 1), (1, 2), (2, 3), (0, 4), (4, 5), (5, 4)],
     delivered: 3,
 };
 
+/// The path of `P2`, with an edge back from the node that delivers.
 const C2: &Drawing<'static> = &Drawing {
     nodes: &[R1, R2, R4, R4_OUT],
     edges: &[(0, 1), (1, 2), (2, 3), (3, 2)],
     delivered: 3,
 };
 
+/// A path by r2 and r3, with an edge back from r3 to r2.
 const Y1: &Drawing<'static> = &Drawing {
     nodes: &[R1, R2, R3, R4],
     edges: &[(0, 1), (1, 2), (2, 1), (2, 3)],
     delivered: 3,
 };
 
+/// A path by both devices of group core and both interfaces of r4.
 const G: &Drawing<'static> = &Drawing {
     nodes: &[R1, R2, R3, R4, R4_OUT],
     edges: &[(0, 1), (1, 2), (2, 3), (3, 4)],
     delivered: 4,
 };
 
-/// The edges whose ends are nodes, of which there are so many.
+/// The edges whose ends are nodes, of which there are `count`.
 fn links(alloc: Global, pairs: &[(u32, u32)], count: usize) -> Result<Vec<Link>, AllocError>
     ensures joins { IfOk result (λ links. All (JoinsNodes count) links.items) }
     ensures few { IfOk result (λ links. length links.items ≤ length pairs.now) }
@@ -136,11 +150,12 @@ fn graph(alloc: Global, drawing: &Drawing<'_>) -> Result<Graph, AllocError> {
 
 /// A question about a graph.
 trait Question {
+    /// Whether the answer to the question is yes.
     fn is_so(&self, alloc: Global, graph: &Graph) -> bool;
 }
 
-/// Asks it of the graph that is drawn, and is false where there is no memory for it. What owns a large
-/// value lends it at once: the proof of a function that does more with it is long.
+/// Asks the question of the graph that is drawn, and is false where there is no memory for it. What
+/// owns a large value lends it at once: the proof of a function that does more with it is long.
 fn is_so(alloc: Global, drawing: &Drawing<'_>, question: &impl Question) -> bool {
     match graph(alloc, drawing) {
         Ok(graph) => question.is_so(alloc, &graph),
@@ -170,7 +185,7 @@ fn is_placed(graph: &Graph, level: Level, alphabet: &Alphabet) -> bool
         .all(|node| symbol_at(node, level) < locations)
 }
 
-/// Says that all of these are so of the graph that is drawn.
+/// Says of each question that its answer is yes, of the graph that is drawn.
 fn hold<Q: Question>(rt: &impl Abort, alloc: Global, drawing: &Drawing<'_>, questions: &[Q]) {
     for place in 0..questions.len() {
         assert!(rt;
@@ -180,11 +195,12 @@ fn hold<Q: Question>(rt: &impl Abort, alloc: Global, drawing: &Drawing<'_>, ques
     }
 }
 
-/// Whether the word is a path at the level, where the alphabet has each node's symbol, or not.
+/// Whether the word is a path at the level, where the alphabet has each node's symbol, or not: the
+/// level, the word, and whether it is a path.
 struct Path<'a>(Level, &'a [Symbol], bool);
 
 impl Path<'_> {
-    /// Whether this is so under the alphabet of the level.
+    /// Whether the answer is yes under the alphabet of the level.
     fn is_so_under(&self, alloc: Global, graph: &Graph, alphabet: &Alphabet) -> bool {
         let Path(level, word, is_path) = self;
         if !is_placed(graph, *level, alphabet) {
@@ -211,7 +227,7 @@ impl Question for Path<'_> {
     }
 }
 
-/// Whether a cycle leads through the node, or none.
+/// Whether a cycle leads through the node, or none: the node, and whether one does.
 struct OnCycle(u32, bool);
 
 impl Question for OnCycle {
@@ -234,12 +250,15 @@ impl Question for EdgesAndFlags {
     }
 }
 
+/// Questions about the paths of `P2`.
 const OF_P2: &[Path<'static>] = &[
     Path(Level::Device, &[0, 1, 3], true),
     Path(Level::Device, &[0, 1, 3, 3], false),
     Path(Level::Device, &[], false),
 ];
 
+/// A path is told from words that repeat a location or are empty, and none of its nodes is on a
+/// cycle.
 #[test]
 fn a_path(rt: HostRuntime) {
     hold(&rt, rt.alloc(), P2, OF_P2);
@@ -247,16 +266,19 @@ fn a_path(rt: HostRuntime) {
     assert!(rt; is_so(rt.alloc(), P2, &EdgesAndFlags));
 }
 
+/// Questions about the paths of `X1`.
 const OF_X1: &[Path<'static>] = &[
     Path(Level::Device, &[0, DROP], true),
     Path(Level::Device, &[0], false),
 ];
 
+/// A node without an edge drops, unless it is listed as one that delivers.
 #[test]
 fn a_path_that_drops(rt: HostRuntime) {
     hold(&rt, rt.alloc(), X1, OF_X1);
 }
 
+/// Questions about the paths of `C1`.
 const OF_C1: &[Path<'static>] = &[
     Path(Level::Device, &[0, 1, 3], true),
     Path(Level::Device, &[0, 2, LOOP], true),
@@ -264,47 +286,56 @@ const OF_C1: &[Path<'static>] = &[
     Path(Level::Device, &[0, 1, LOOP], false),
 ];
 
+/// Walks onto a cycle are paths with `loop`, and others aren't.
 #[test]
 fn a_cycle_apart(rt: HostRuntime) {
     hold(&rt, rt.alloc(), C1, OF_C1);
 }
 
+/// Questions about the paths of `C2`.
 const OF_C2: &[Path<'static>] = &[
     Path(Level::Device, &[0, 1, 3], true),
     Path(Level::Device, &[0, 1, 3, LOOP], true),
 ];
 
+/// A walk that ends on a cycle where traffic is delivered is a path both ways.
 #[test]
 fn a_cycle_that_delivers(rt: HostRuntime) {
     hold(&rt, rt.alloc(), C2, OF_C2);
     hold(&rt, rt.alloc(), C2, &[OnCycle(3, true)]);
 }
 
+/// Questions about the paths of `Y1`.
 const OF_Y1: &[Path<'static>] = &[
     Path(Level::Device, &[0, 1, 2, 1, 2, 3], true),
     Path(Level::Device, &[0, 1, 2, 1, 2, 1, LOOP], true),
     Path(Level::Device, &[0, 1, 3], false),
 ];
 
+/// Questions about the nodes of `Y1` that are on its cycle.
 const CYCLES_OF_Y1: &[OnCycle] = &[OnCycle(1, true), OnCycle(2, true), OnCycle(3, false)];
 
+/// Walks may go round a cycle, and nothing is left out of their paths.
 #[test]
 fn a_way_round(rt: HostRuntime) {
     hold(&rt, rt.alloc(), Y1, OF_Y1);
     hold(&rt, rt.alloc(), Y1, CYCLES_OF_Y1);
 }
 
+/// Questions about the paths of `G`.
 const OF_G: &[Path<'static>] = &[
     Path(Level::Group, &[1, 0, 1], true),
     Path(Level::Group, &[1, 0, 0, 1], false),
 ];
 
+/// At the level of groups each run of equal neighbours is written once.
 #[test]
 fn a_path_of_groups(rt: HostRuntime) {
     hold(&rt, rt.alloc(), G, OF_G);
 }
 
-/// Whether the automaton accepts the word, where it was made.
+/// Whether the automaton accepts the word, where it was made, and `None` where it wasn't or there
+/// is no memory to tell.
 fn has(alloc: Global, made: Result<Nfa<WideSet>, AllocError>, word: &[Symbol]) -> Option<bool> {
     match made {
         Ok(nfa) => nfa.accepts(alloc, word).ok(),
@@ -313,6 +344,7 @@ fn has(alloc: Global, made: Result<Nfa<WideSet>, AllocError>, word: &[Symbol]) -
 }
 
 /// Whether the automaton of the graph's devices accepts the word, where each symbol is a letter.
+/// `None` where the alphabet lacks a node's symbol, or there is no memory to tell.
 fn reads(alloc: Global, graph: &Graph, alphabet: &Alphabet, word: &[Symbol]) -> Option<bool> {
     if !is_placed(graph, Level::Device, alphabet) {
         return None;
@@ -327,7 +359,7 @@ fn reads(alloc: Global, graph: &Graph, alphabet: &Alphabet, word: &[Symbol]) -> 
     }
 }
 
-/// Whether that automaton accepts the word, or not.
+/// Whether that automaton accepts the word, or not: the word, and whether it is accepted.
 struct Accepted<'a>(&'a [Symbol], bool);
 
 impl Question for Accepted<'_> {
@@ -339,24 +371,27 @@ impl Question for Accepted<'_> {
     }
 }
 
+/// Questions about the automaton of `P2`.
 const BY_P2: &[Accepted<'static>] = &[
     Accepted(&[0, 1, 3], true),
     Accepted(&[0, 1], false),
     Accepted(&[0, 1, 3, LOOP], false),
 ];
 
+/// Questions about the automaton of `C2`.
 const BY_C2: &[Accepted<'static>] = &[
     Accepted(&[0, 1, 3, LOOP], true),
     Accepted(&[0, 1, 3, DROP], false),
 ];
 
+/// The automaton of a graph accepts just its paths.
 #[test]
 fn automata(rt: HostRuntime) {
     hold(&rt, rt.alloc(), P2, BY_P2);
     hold(&rt, rt.alloc(), C2, BY_C2);
 }
 
-/// An edge from r1 to r4, which delivers, where no walk begins.
+/// The graph of an edge from r1 to r4, which delivers, where no walk begins.
 fn unentered(alloc: Global) -> Result<Graph, AllocError> {
     let nodes = Vec::from_slice(alloc, &[R1, R4])?;
     Graph::new(alloc, nodes, &[Link { a: 0, b: 1 }], &[], &[1], &[])
@@ -370,8 +405,10 @@ fn unentered_has_no_path(alloc: Global) -> bool {
     }
 }
 
+/// Questions about the automaton of `X1`.
 const BY_X1: &[Accepted<'static>] = &[Accepted(&[0, DROP], true)];
 
+/// The automaton of a graph accepts paths that drop, and none where no walk begins.
 #[test]
 fn automata_of_no_start_and_of_a_drop(rt: HostRuntime) {
     hold(&rt, rt.alloc(), X1, BY_X1);

@@ -6,7 +6,7 @@ use rela_labels::{BlockSet, LabelSet, Partition, Splitter, WideSet};
 use std::alloc::{AllocError, Global};
 use std::process::Abort;
 
-/// The set of these letters, of this size.
+/// The set of these letters, of this size. Numbers that are no letters are left out.
 fn set_of<L: LabelSet>(alloc: Global, size: u32, letters: &[u32]) -> Result<L, AllocError>
     requires { L.fits size }
     ensures { IfOk result (λ set. length (L.letters set) ≡ size) }
@@ -20,7 +20,7 @@ fn set_of<L: LabelSet>(alloc: Global, size: u32, letters: &[u32]) -> Result<L, A
     Ok(set)
 }
 
-/// A copy of that set.
+/// A copy of the set of these letters, of this size.
 fn copy_of<L: LabelSet>(alloc: Global, size: u32, letters: &[u32]) -> Result<L, AllocError>
     requires { L.fits size }
     ensures { IfOk result (λ set. length (L.letters set) ≡ size) }
@@ -84,7 +84,7 @@ fn give<L: LabelSet>(alloc: Global, size: u32, first: &L, second: &L, results: &
         && is_of(alloc, size, first.minus(alloc, second), results[2])
 }
 
-/// The same where the second has these letters.
+/// Whether the operations on the first set and that of the second letters have these results.
 fn give_beside<L: LabelSet>(
     alloc: Global,
     size: u32,
@@ -102,7 +102,7 @@ fn give_beside<L: LabelSet>(
     }
 }
 
-/// Whether this is so of the case.
+/// Whether the operations on the two sets of the case have its results.
 fn holds<L: LabelSet>(alloc: Global, size: u32, case: &Case<'_>) -> bool
     requires { L.fits size }
 {
@@ -134,6 +134,7 @@ fn is_copied<L: LabelSet>(alloc: Global, size: u32, added: &[u32], letters: &[u3
     is_of(alloc, size, copy, letters)
 }
 
+/// Cases with the first and the last letter of a word.
 const WITH_ENDS: &[Case<'static>] = &[
     (&[0, 63], &[63], [&[63], &[0, 63], &[0]]),
     (&[0, 63], &[1], [&[], &[0, 1, 63], &[0, 63]]),
@@ -141,12 +142,14 @@ const WITH_ENDS: &[Case<'static>] = &[
     (&[0], &[0], [&[0], &[0], &[]]),
 ];
 
+/// Sets in one word hold its first and its last letter.
 #[test]
 fn sets_of_blocks(rt: HostRuntime) {
     hold::<BlockSet<1>>(&rt, rt.alloc(), 64, WITH_ENDS);
     assert!(rt; is_copied::<BlockSet<1>>(rt.alloc(), 64, &[0, 63], &[0, 63]));
 }
 
+/// Sets in several words hold letters past the first.
 #[test]
 fn sets_of_more_words(rt: HostRuntime) {
     let alloc = rt.alloc();
@@ -155,18 +158,21 @@ fn sets_of_more_words(rt: HostRuntime) {
     assert!(rt; is_copied::<BlockSet<64>>(alloc, 4_096, &[4_095], &[4_095]));
 }
 
+/// Cases with the last of 5,000 letters.
 const WITH_LAST: &[Case<'static>] = &[
     (&[4_999], &[], [&[], &[4_999], &[4_999]]),
     (&[4_999], &[4_999], [&[4_999], &[4_999], &[]]),
 ];
 
+/// Wide sets hold the last of thousands of letters.
 #[test]
 fn wide_sets(rt: HostRuntime) {
     hold::<WideSet>(&rt, rt.alloc(), 5_000, WITH_LAST);
     assert!(rt; is_copied::<WideSet>(rt.alloc(), 5_000, &[4_999], &[4_999]));
 }
 
-// A set over few letters is one word, and one over more is several.
+/// Cases with the set of no letter. Where there are few letters a set is one word, and where there
+/// are more it is several.
 const WITH_NONE: &[Case<'static>] = &[
     (&[], &[], [&[], &[], &[]]),
     (&[], &[4], [&[], &[4], &[]]),
@@ -174,12 +180,14 @@ const WITH_NONE: &[Case<'static>] = &[
     (&[], &[3, 4], [&[], &[3, 4], &[]]),
 ];
 
+/// Wide sets without a letter, of one word and of several.
 #[test]
 fn wide_sets_of_none(rt: HostRuntime) {
     hold::<WideSet>(&rt, rt.alloc(), 9, WITH_NONE);
     hold::<WideSet>(&rt, rt.alloc(), 90, WITH_NONE);
 }
 
+/// Cases with sets of one letter.
 const WITH_ONE: &[Case<'static>] = &[
     (&[4], &[4], [&[4], &[4], &[]]),
     (&[4], &[2], [&[], &[2, 4], &[4]]),
@@ -187,6 +195,7 @@ const WITH_ONE: &[Case<'static>] = &[
     (&[3, 4], &[3], [&[3], &[3, 4], &[4]]),
 ];
 
+/// Wide sets of one letter, of one word and of several.
 #[test]
 fn wide_sets_of_one(rt: HostRuntime) {
     hold::<WideSet>(&rt, rt.alloc(), 9, WITH_ONE);
@@ -202,24 +211,29 @@ fn is_another(alloc: Global) -> bool {
     }
 }
 
+/// A case with a set that has one letter once the other is taken away.
 const WITH_TWO: &[Case<'static>] = &[(&[3, 4], &[3], [&[3], &[3, 4], &[4]])];
 
+/// A wide set that has one letter left is the same as one that never had more.
 #[test]
 fn wide_sets_of_one_letter_are_the_same(rt: HostRuntime) {
     hold::<WideSet>(&rt, rt.alloc(), 90, WITH_TWO);
     assert!(rt; is_another(rt.alloc()));
 }
 
+/// Cases with the first and the last letters of 64.
 const OF_64: &[Case<'static>] = &[
     (&[0, 63], &[1, 63], [&[63], &[0, 1, 63], &[0]]),
     (&[63, 62], &[63, 62], [&[62, 63], &[62, 63], &[]]),
 ];
 
+/// Cases with the letters of 3.
 const OF_3: &[Case<'static>] = &[
     (&[0, 2], &[1, 2], [&[2], &[0, 1, 2], &[0]]),
     (&[2, 1], &[2, 1], [&[1, 2], &[1, 2], &[]]),
 ];
 
+/// Wide sets in one word, full or not.
 #[test]
 fn wide_sets_of_a_word(rt: HostRuntime) {
     hold::<WideSet>(&rt, rt.alloc(), 64, OF_64);
@@ -228,11 +242,13 @@ fn wide_sets_of_a_word(rt: HostRuntime) {
     assert!(rt; is_copied::<WideSet>(rt.alloc(), 3, &[2, 1], &[1, 2]));
 }
 
+/// Cases with the first and the last letters of 65.
 const OF_65: &[Case<'static>] = &[
     (&[0, 64], &[1, 64], [&[64], &[0, 1, 64], &[0]]),
     (&[64, 63], &[64, 63], [&[63, 64], &[63, 64], &[]]),
 ];
 
+/// Wide sets of one letter more than a word has.
 #[test]
 fn wide_sets_of_more_than_a_word(rt: HostRuntime) {
     hold::<WideSet>(&rt, rt.alloc(), 65, OF_65);
@@ -276,7 +292,7 @@ fn is_refined(alloc: Global, mut partition: Partition) -> bool
     }
 }
 
-/// Whether this is so of the partition with the pair.
+/// Whether symbol 2 is alone once it is set apart from 1, in the partition with the pair.
 fn pair_is_refined(alloc: Global) -> bool {
     match pair_apart(alloc) {
         Ok(partition) => is_refined(alloc, partition),
@@ -300,6 +316,8 @@ fn is_finest(alloc: Global) -> bool {
     }
 }
 
+/// A refinement splits a block into members and others, and keeps the blocks in the order of their
+/// least symbols.
 #[test]
 fn refines(rt: HostRuntime) {
     assert_eq!(rt; blocks_of_all(rt.alloc()), Some(1));
@@ -319,7 +337,7 @@ fn is_apart(alloc: Global, partition: &Partition, apart: &[u32], blocks: &[u32])
     }
 }
 
-/// Whether they have them once those of one list after the other are.
+/// Whether the symbols have these blocks once those of one list after the other are set apart.
 fn is_apart_twice(
     alloc: Global,
     partition: &Partition,
@@ -338,7 +356,8 @@ fn is_apart_twice(
     }
 }
 
-/// Whether this is so of the partition with the pair.
+/// Whether the symbols of the partition with the pair have these blocks once those of one list
+/// after the other are set apart.
 fn has_apart(alloc: Global, first: &[u32], second: &[u32], blocks: &[u32]) -> bool
     requires first { All (λ s. s < 6) first.now }
     requires second { All (λ s. s < 6) second.now }
@@ -350,21 +369,25 @@ fn has_apart(alloc: Global, first: &[u32], second: &[u32], blocks: &[u32]) -> bo
     }
 }
 
+/// A symbol in the middle of its block is set apart.
 #[test]
 fn middle_apart(rt: HostRuntime) {
     assert!(rt; has_apart(rt.alloc(), &[3], &[], &[0, 1, 1, 2, 0, 0]));
 }
 
+/// The least symbol of its block is set apart, and the others have another number.
 #[test]
 fn least_apart(rt: HostRuntime) {
     assert!(rt; has_apart(rt.alloc(), &[0], &[], &[0, 1, 1, 2, 2, 2]));
 }
 
+/// Each symbol of a block is set apart, whatever the order and the repetitions.
 #[test]
 fn whole_block_apart(rt: HostRuntime) {
     assert!(rt; has_apart(rt.alloc(), &[2, 1, 2], &[], &[0, 1, 2, 0, 0, 0]));
 }
 
+/// Symbols are set apart from a partition that has some apart already.
 #[test]
 fn twice_apart(rt: HostRuntime) {
     assert!(rt; has_apart(rt.alloc(), &[0], &[3, 1], &[0, 1, 2, 3, 4, 4]));
@@ -389,7 +412,7 @@ fn split(alloc: Global) -> Result<Partition, AllocError>
     splitter.into_partition(alloc)
 }
 
-/// Whether they have three blocks.
+/// Whether they have three blocks, in the order of their least symbols.
 fn is_split(alloc: Global) -> bool {
     match split(alloc) {
         Ok(partition) => { partition.blocks() == 3 && has_blocks(&partition, &[0, 1, 2, 0, 0, 0]) }
@@ -397,6 +420,7 @@ fn is_split(alloc: Global) -> bool {
     }
 }
 
+/// Splits have the blocks that refinements have, once the blocks are numbered.
 #[test]
 fn splits(rt: HostRuntime) {
     assert!(rt; is_split(rt.alloc()));
@@ -413,7 +437,7 @@ fn split_often(alloc: Global) -> Result<Partition, AllocError>
     splitter.into_partition(alloc)
 }
 
-/// Whether they have two blocks.
+/// Whether they have two blocks, however often they were split.
 fn is_split_once(alloc: Global) -> bool {
     match split_often(alloc) {
         Ok(partition) => partition.blocks() == 2 && has_blocks(&partition, &[0, 1, 0]),
@@ -421,6 +445,8 @@ fn is_split_once(alloc: Global) -> bool {
     }
 }
 
+/// Splits that change nothing go on past the pass in which the keys become the numbers of the
+/// blocks again.
 #[test]
 fn splits_often(rt: HostRuntime) {
     assert!(rt; is_split_once(rt.alloc()));

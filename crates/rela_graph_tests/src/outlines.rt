@@ -8,27 +8,31 @@ use rela_names::Level;
 use std::alloc::{AllocError, Global};
 use std::collections::HashMap;
 
+/// The first node, at which the walk begins.
 const IN: Node = Node {
     interface: 0,
     device: 0,
     group: 0,
 };
 
+/// The second node.
 const OUT: Node = Node {
     interface: 1,
     device: 1,
     group: 1,
 };
 
-/// Another device of the same group.
+/// Another device of the second node's group.
 const OTHER_OUT: Node = Node {
     interface: 2,
     device: 2,
     group: 1,
 };
 
+/// The edge from the first node to the second.
 const FORTH: Link = Link { a: 0, b: 1 };
 
+/// The edge from the second node to the first.
 const BACK: Link = Link { a: 1, b: 0 };
 
 /// The graph of two nodes with one edge, one start, one node that delivers and one that drops.
@@ -49,7 +53,8 @@ fn two(
     Graph::new(alloc, nodes, &[edge], &[start], &[delivered], &[dropped])
 }
 
-/// Whether a map has for how the one looks what it was given for how the other does.
+/// Whether a map has for how the one graph looks at the level what it was given for how the other
+/// does, and `None` where there is no memory to tell.
 fn is_found(alloc: Global, graph: &Graph, moved: &Graph, level: Level) -> Option<bool> {
     let mut seen = HashMap::new(alloc);
     match seen.insert(graph.at(level), 7) {
@@ -67,7 +72,7 @@ fn look_the_same_as_groups(alloc: Global, graph: &Graph, moved: &Graph) -> bool 
         && is_found(alloc, graph, moved, Level::Device) == Some(false)
 }
 
-/// Whether this is so of the graph with its second node moved.
+/// Whether the graph looks the same with its second node moved, at the level of groups alone.
 fn looks_the_same_moved(alloc: Global, graph: &Graph) -> bool {
     match two(alloc, [IN, OTHER_OUT], FORTH, 0, 1, 0) {
         Ok(moved) => look_the_same_as_groups(alloc, graph, &moved),
@@ -101,7 +106,8 @@ fn looks_otherwise(
     }
 }
 
-/// Whether it looks otherwise with each of these changed.
+/// Whether the graph looks otherwise with its edge, its start, the node that delivers and the one
+/// that drops changed, each alone.
 fn looks_otherwise_changed(alloc: Global, graph: &Graph) -> bool {
     looks_otherwise(alloc, graph, BACK, 0, 1, 0)
         && looks_otherwise(alloc, graph, FORTH, 1, 1, 0)
@@ -109,14 +115,16 @@ fn looks_otherwise_changed(alloc: Global, graph: &Graph) -> bool {
         && looks_otherwise(alloc, graph, FORTH, 0, 1, 1)
 }
 
-/// What of the graph that leads from the first of two nodes to the second is asked.
+/// What is asked of the graph that leads from the first of two nodes to the second.
 #[derive(Clone, Copy)]
 enum Question {
+    /// Whether it looks the same at one level alone once its second node is moved.
     Levels,
+    /// Whether it looks otherwise with another edge, start, node that delivers or node that drops.
     EdgesAndFlags,
 }
 
-/// Asks it.
+/// Whether the answer to the question is yes. It is false where there is no memory to tell.
 fn is_so(alloc: Global, question: Question) -> bool {
     match two(alloc, [IN, OUT], FORTH, 0, 1, 0) {
         Ok(graph) => match question {
@@ -127,11 +135,13 @@ fn is_so(alloc: Global, question: Question) -> bool {
     }
 }
 
+/// Graphs with nodes of one group look the same at the level of groups alone.
 #[test]
 fn levels(rt: HostRuntime) {
     assert!(rt; is_so(rt.alloc(), Question::Levels));
 }
 
+/// Graphs with other edges or flags look otherwise.
 #[test]
 fn edges_and_flags(rt: HostRuntime) {
     assert!(rt; is_so(rt.alloc(), Question::EdgesAndFlags));

@@ -8,9 +8,10 @@ ghost use Rattle.rela_pairs.specs.declared.shape.Shape.{Shape};
 use rela_pairs::{BuildError, Explored, Pair, Shape, Successors, explore};
 use std::alloc::{AllocError, Global};
 
-/// A pair is followed by the one with its states exchanged, and by itself.
+/// Pairs of states of which each is followed by the one with its states exchanged, and by itself.
 #[derive(Drop)]
 struct Exchange {
+    /// The number of states on each side.
     states: usize,
 }
 
@@ -53,7 +54,7 @@ fn are_two(explored: &Explored) -> bool
     explored.pairs() == [START, turned].as_slice() && explored.targets(1) == [0, 1].as_slice()
 }
 
-/// Whether of so many states the pair leads to two.
+/// Whether the pair leads to two, where there are so many states on each side.
 fn finds_two(alloc: Global, states: usize) -> bool
     requires { 2 < states }
 {
@@ -63,7 +64,7 @@ fn finds_two(alloc: Global, states: usize) -> bool
     }
 }
 
-/// Whether a limit of one pair is too low.
+/// Whether a limit of one pair is too low, where there are so many states on each side.
 fn finds_more_than_one(alloc: Global, states: usize) -> bool
     requires { 2 < states }
 {
@@ -73,12 +74,14 @@ fn finds_more_than_one(alloc: Global, states: usize) -> bool
     }
 }
 
+/// Pairs that are looked up in a table are found, up to the limit.
 #[test]
 fn pairs_of_few_states(rt: HostRuntime) {
     assert!(rt; finds_two(rt.alloc(), 3));
     assert!(rt; finds_more_than_one(rt.alloc(), 3));
 }
 
+/// Pairs that are looked up by their hash are found, up to the limit.
 #[test]
 fn pairs_of_many_states(rt: HostRuntime) {
     assert!(rt; finds_two(rt.alloc(), 1_000_000));

@@ -8,19 +8,21 @@ use crate::ascending::{ascending_union, place_in, places_in};
 use rela_names::Symbol;
 use std::alloc::{AllocError, Global};
 
-/// A partition of symbols that does not change, for others to share.
+/// A partition of symbols that does not change, for others to share. It has a block and a link for
+/// each symbol, and a symbol for each block.
 #[derive(Debug, Drop)]
 pub(crate) struct Base {
-    // the number of each symbol's block
+    /// The number of each symbol's block.
     pub(crate) blocks: Vec<u32>,
-    // the least symbol of each block
+    /// The least symbol of each block.
     pub(crate) first: Vec<Symbol>,
-    // the next greater symbol of each symbol's block
+    /// For each symbol the next greater one of its block, and `None` for the greatest.
     pub(crate) next: Vec<Option<Symbol>>,
 }
 
 impl Base {
-    /// The partition with these blocks and their least symbols.
+    /// The partition with these blocks and their least symbols, each symbol linked to the next one
+    /// of its block. Time and space: linear in the symbols.
     pub(crate) fn new(
         alloc: Global,
         blocks: Vec<u32>,
@@ -39,8 +41,8 @@ impl Base {
         })
     }
 
-    /// The least symbol of the block that is not apart, if there is one. A step is taken for each of
-    /// the block's symbols that are apart before it.
+    /// The least symbol of the block that is not apart, and `None` where all of them are. Time: a
+    /// binary search among `apart` for it and for each lesser symbol of the block.
     fn least_left(&self, apart: &[Symbol], block: usize) -> Option<Symbol>
         requires shared { IsNumbered self.now.blocks.items self.now.first.items }
         requires linked { IsLinked self.now.blocks.items self.now.next.items }
@@ -58,8 +60,8 @@ impl Base {
         None
     }
 
-    /// For each block its least symbol that is not apart, or its least one where all are. It takes
-    /// the time of the blocks and of the symbols that are apart, times a search among these.
+    /// For each block its least symbol that is not apart, or its least one where all are. Time:
+    /// linear in the blocks and the symbols that are apart, times a binary search among these.
     pub(crate) fn leads(&self, alloc: Global, apart: &[Symbol]) -> Result<Vec<Symbol>, AllocError>
         requires shared { IsNumbered self.now.blocks.items self.now.first.items }
         requires linked { IsLinked self.now.blocks.items self.now.next.items }
@@ -90,8 +92,11 @@ impl Base {
     }
 }
 
-/// Numbers for the blocks where each symbol of the list is a block of its own: the number beside each of
-/// these, one for the other symbols of each block, and the least symbol of each numbered block.
+/// Numbers for the blocks of the base once each symbol of `apart` is a block of its own, in the
+/// order of their least symbols: the number of the block of each symbol of `apart`, that of the
+/// other symbols of each block of the base, and the least symbol of each block. Where all symbols
+/// of a block are apart, it has the number of its least one's block. Time: n log n in the blocks of
+/// the base and the symbols of `apart`.
 pub(crate) fn number_apart(
     alloc: Global,
     base: &Base,
@@ -111,7 +116,8 @@ pub(crate) fn number_apart(
     Ok((beside, numbers, least))
 }
 
-/// The next greater symbol of each symbol's block, in one pass from the greatest symbol down.
+/// For each symbol the next greater one of its block, and `None` for the greatest, in one pass from
+/// the greatest symbol down. There are `count` blocks.
 fn next_of_block(
     alloc: Global,
     blocks: &[u32],

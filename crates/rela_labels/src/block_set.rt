@@ -1,3 +1,4 @@
+//! A set of letters of a bounded size, which takes no memory on the heap.
 ghost use Rattle.std.specs.Prelude.{◌≡◌};
 
 use crate::label_set::LabelSet;
@@ -6,10 +7,14 @@ use std::alloc::{AllocError, Global};
 use std::marker::Model;
 
 /// A set of at most `64 * W` letters in `W` words, which lie in the set itself: no call takes
-/// memory. `W` is at most 64.
+/// memory, so none fails. `W` is at most 64. Time: at most a step for each word, and constant for
+/// `contains` and `add`, other than in copying the words of a result; space: `W` words.
 #[derive(Debug, Drop)]
 pub struct BlockSet<const W: usize> {
+    /// The number that all letters are below.
     size: u32,
+    /// Letter `k` is in the set where bit `k % 64` of word `k / 64` is 1. The bits from the size on
+    /// are 0.
     words: [u64; W],
 }
 
@@ -25,6 +30,7 @@ impl<const W: usize> Model for BlockSet<W> {
 }
 
 impl<const W: usize> BlockSet<W> {
+    /// The same set.
     fn copied(&self) -> BlockSet<W>
         ensures { result ≡ self.now }
     {

@@ -1,3 +1,4 @@
+//! What a set of letters is, whatever holds it.
 ghost use Rattle.std.specs.Prelude.{◌≡◌, ◌≢◌, ℕ, ◌<◌, ◌↔◌, ◌&&◌, ◌||◌, Bool, true, false, not, IsTrue, List, length, IfOk, IfErr, OnOk, IfNone, IfSome, IsOk};
 ghost use Rattle.rela_labels.specs.Letters.{has};
 
@@ -7,7 +8,8 @@ use std::alloc::{AllocError, Global};
 /// edge. Contracts see it as `letters`, a list with one boolean for each letter below the size,
 /// whether it is in the set. `has` reads it, and is false from the size on.
 ///
-/// Memory is the only error.
+/// Memory is the only error. What calls cost is said by the types that implement it: at most a step
+/// for each 64 letters of the size.
 pub trait LabelSet: Drop {
     // for each letter below the size, whether it is in the set
     ghost letters: { Self → List Bool };

@@ -9,16 +9,18 @@ use crate::word::{
 };
 use std::alloc::{AllocError, Global};
 
-/// The letters of a set. One whose size is at most 64 is always a word, in which letter `k` is bit
-/// `k`, and takes no memory; one of a greater size never is.
+/// The letters of a set. One whose size is at most 64 is always a word, and takes no memory on the
+/// heap; one of a greater size never is. The size is kept by the set.
 #[derive(Debug, Drop)]
 pub(crate) enum Letters {
+    /// The letters below 64: letter `k` is there where bit `k` is 1.
     Few(u64),
+    /// The letters of a set whose size is more than 64.
     Wide(Members),
 }
 
 impl Letters {
-    /// No letter.
+    /// No letter, for a set of this size.
     pub(crate) fn none(size: u32) -> Letters
         ensures sized { IsSized size result }
         ensures none { (k : ℕ) → has_letter result k ≡ false }
@@ -40,7 +42,7 @@ impl Letters {
         }
     }
 
-    /// The same letters.
+    /// The same letters, of a set of this size.
     pub(crate) fn copied(&self, alloc: Global, size: u32) -> Result<Letters, AllocError>
         requires { IsSized size self.now }
         ensures sized { IfOk result (IsSized size) }
@@ -69,7 +71,7 @@ impl Letters {
         }
     }
 
-    /// The letters that are in both.
+    /// The letters that are in both, which are of one size.
     pub(crate) fn meet(
         &self,
         alloc: Global,
@@ -92,7 +94,7 @@ impl Letters {
         }
     }
 
-    /// The letters that are in one or the other.
+    /// The letters that are in one or the other, which are of one size.
     pub(crate) fn join(
         &self,
         alloc: Global,
@@ -115,7 +117,7 @@ impl Letters {
         }
     }
 
-    /// The letters that are here and not in the other.
+    /// The letters that are here and not in the other, which are of one size.
     pub(crate) fn minus(
         &self,
         alloc: Global,
@@ -149,7 +151,7 @@ impl Letters {
         }
     }
 
-    /// The least letter.
+    /// The least letter, and `None` where there is none.
     pub(crate) fn least(&self) -> Option<u32>
         requires { HaveFewWords self.now }
         ensures none { IfNone result ((k : ℕ) → has_letter self.now k ≡ false) }
@@ -162,7 +164,7 @@ impl Letters {
         }
     }
 
-    /// Whether the letters are the same.
+    /// Whether the letters are the same, where both are of one size.
     pub(crate) fn same(&self, other: &Letters) -> bool
         requires first { HaveFewWords self.now }
         requires second { HaveFewWords other.now }

@@ -1,4 +1,5 @@
-//! Sets of letters, and partitions of symbols into blocks.
+//! Sets of letters, and partitions of symbols into blocks. An `AllocError` comes only where memory
+//! is refused.
 #![tactic(auto)]
 
 mod ascending;

@@ -44,7 +44,8 @@ pub(crate) fn split_keys(
 }
 
 /// The number of each key, counting the keys from 0 in the order in which they first come, and the
-/// first index of each.
+/// first index of each. Each key is below `bound`. Time and space: linear in the keys and the
+/// bound.
 pub(crate) fn number_keys(
     alloc: Global,
     keys: &[usize],
@@ -65,18 +66,19 @@ pub(crate) fn number_keys(
     Ok((numbering.blocks, numbering.firsts))
 }
 
-/// The numbering of the keys so far.
+/// The numbering of the keys that have come so far.
 #[derive(Debug, Drop)]
 struct Numbering {
-    // the number of each key that has come
+    /// The number of each key below the bound, and `None` until the key comes.
     numbers: Vec<Option<u32>>,
-    // the number of each place
+    /// The number of the key at each place.
     blocks: Vec<u32>,
-    // the place where each number's key came first
+    /// The place where each number's key came first.
     firsts: Vec<u32>,
 }
 
 impl Numbering {
+    /// No key has come yet. Those that come are below `bound`.
     fn new(alloc: Global, bound: usize) -> Result<Numbering, AllocError>
         ensures bound { IfOk result (λ numbering. length numbering.numbers.items ≡ bound) }
         ensures numbering { IfOk result (λ numbering. IsNumbering [] numbering.numbers.items numbering.blocks.items numbering.firsts.items) }
@@ -88,6 +90,8 @@ impl Numbering {
         })
     }
 
+    /// Numbers the key that comes next: by the number that it has, or by the next free one where it
+    /// comes for the first time.
     fn push(&mut self, key: usize) -> Result<(), AllocError>
         requires below { key < length self.old.numbers.items }
         requires few { length self.old.blocks.items < 2 ^ 32 }

@@ -1,3 +1,4 @@
+//! Partitions of symbols into blocks, which share what they have in common.
 ghost use Rattle.std.specs.Prelude.{◌≡◌, ℕ, ◌^◌, ◌<◌, ◌≤◌, ◌↔◌, IfOk, IfErr, All, Contains, length};
 ghost use Rattle.rela_labels.specs.Partition.{block_of, block_count, Together, IsPartition, IsLeastOf, IsNumbered};
 
@@ -12,18 +13,19 @@ use std::rc::Rc;
 /// The symbols below some number, put into blocks. The blocks are numbered from 0 in the order of
 /// their least symbols. Contracts see it as the list of each symbol's block.
 ///
-/// A partition may share the most of its blocks with others: it has a base, which it may share, and
+/// A partition may share most of its blocks with others: it has a base, which it may share, and
 /// symbols that are apart, each a block of its own.
 #[derive(Debug, Drop)]
 pub struct Partition {
+    /// The shared partition, whose blocks these are but for the symbols that are apart.
     base: Rc<Base>,
-    // the symbols that are apart, ascending
+    /// The symbols that are apart, in ascending order.
     apart: Vec<Symbol>,
-    // the number of the block of each symbol that is apart
+    /// The number of the block of each symbol that is apart, in their order.
     beside: Vec<u32>,
-    // for each block of the base the number of the block of its symbols that are not apart
+    /// For each block of the base the number of the block of its symbols that are not apart.
     numbers: Vec<u32>,
-    // the least symbol of each block
+    /// The least symbol of each block.
     least: Vec<Symbol>,
 }
 
@@ -41,7 +43,7 @@ impl Model for Partition {
 }
 
 impl Partition {
-    /// The partition of this many symbols into one block.
+    /// The partition of this many symbols into one block. Time and space: linear in the symbols.
     pub fn new(alloc: Global, symbols: u32) -> Result<Partition, AllocError>
         requires { 1 ≤ symbols }
         ensures symbols { IfOk result (λ partition. length partition ≡ symbols) }
@@ -54,7 +56,8 @@ impl Partition {
         Partition::fresh(alloc, blocks, least)
     }
 
-    /// The partition of this many symbols in which each is a block of its own.
+    /// The partition of this many symbols in which each is a block of its own. Time and space:
+    /// linear in the symbols.
     pub fn finest(alloc: Global, symbols: u32) -> Result<Partition, AllocError>
         requires { 1 ≤ symbols }
         ensures symbols { IfOk result (λ partition. length partition ≡ symbols) }
@@ -67,8 +70,10 @@ impl Partition {
         Partition::fresh(alloc, blocks, least)
     }
 
-    /// Splits each block into the members and the others, in one pass over the symbols. The members
-    /// may come in any order. An error leaves the partition as it was.
+    /// Splits each block into the members and the others. The members may come in any order, and
+    /// more than once. An error leaves the partition as it was. Time: linear in the symbols and the
+    /// members, with a binary search for each symbol among those that are apart; space: linear in
+    /// the symbols.
     pub fn refine(&mut self, alloc: Global, members: &[Symbol]) -> Result<(), AllocError>
         requires { All (λ s. s < length self.old) members.now }
         ensures symbols { IfOk result (λ _. length self.new ≡ length self.old) }
@@ -84,8 +89,8 @@ impl Partition {
         Ok(())
     }
 
-    /// The partition of as many symbols as there are keys: two share a block where they have the same
-    /// key.
+    /// The partition of as many symbols as there are keys: two share a block where they have the
+    /// same key. Each key is below `bound`. Time and space: linear in the symbols and the bound.
     pub(crate) fn of_keys(
         alloc: Global,
         keys: &[usize],
@@ -103,7 +108,7 @@ impl Partition {
         Partition::fresh(alloc, blocks, least)
     }
 
-    /// The partition with these blocks and their least symbols.
+    /// The partition with these blocks and their least symbols, on a base of its own.
     fn fresh(alloc: Global, blocks: Vec<u32>, least: Vec<Symbol>) -> Result<Partition, AllocError>
         requires { IsNumbered blocks.items least.items }
         ensures { IfOk result (λ partition. partition ≡ blocks.items) }
@@ -121,9 +126,9 @@ impl Partition {
         })
     }
 
-    /// The same blocks, but that each of these symbols is a block of its own. It takes the time of
-    /// the blocks and of these symbols, n log n, and not that of all symbols: the two partitions share
-    /// what they have in common.
+    /// The same blocks, but that each of these symbols is a block of its own. The two partitions
+    /// share their base. Time: n log n in the blocks of the base, these symbols and those that are
+    /// apart already, whatever the number of all symbols; space: linear in them.
     pub fn with_alone(&self, alloc: Global, symbols: &[Symbol]) -> Result<Partition, AllocError>
         requires { All (λ s. s < length self.now) symbols.now }
         ensures symbols { IfOk result (λ partition. length partition ≡ length self.now) }
@@ -143,7 +148,7 @@ impl Partition {
         })
     }
 
-    /// The number of each symbol's block.
+    /// The number of each symbol's block, as a [`Splitter`](crate::Splitter) begins with it.
     pub(crate) fn keys(&self, alloc: Global) -> Result<Vec<usize>, AllocError>
         ensures blocks { IfOk result (λ keys. keys.items ≡ self.now) }
         ensures few { length self.now < 2 ^ 32 }
@@ -152,7 +157,8 @@ impl Partition {
         blocks.iter().map(|block| *block as usize).collect(alloc)
     }
 
-    /// The number of each symbol's block.
+    /// The number of each symbol's block. Time: a binary search for each symbol among those that
+    /// are apart.
     fn block_numbers(&self, alloc: Global) -> Result<Vec<u32>, AllocError>
         ensures blocks { IfOk result (λ blocks. blocks.items ≡ self.now) }
         ensures few { length self.now < 2 ^ 32 }
@@ -172,8 +178,8 @@ impl Partition {
         self.base.blocks.len() as u32
     }
 
-    /// Two partitions of as many symbols are the same where their symbols share blocks alike. The
-    /// call does nothing, and its contract is this law.
+    /// Two partitions of as many symbols are the same where the same symbols share blocks in both.
+    /// The call does nothing, and its contract is this law.
     pub fn determined_by_blocks(&self, other: &Partition)
         ensures { length self.now ≡ length other.now
             → ((s t : ℕ) → s < length self.now → t < length self.now → Together self.now s t ↔ Together other.now s t)
@@ -183,7 +189,7 @@ impl Partition {
         let _ = &other.least;
     }
 
-    /// How many blocks there are: just the numbers below it are blocks.
+    /// The number of blocks: just the numbers below it are blocks.
     pub fn blocks(&self) -> u32
         ensures count { result ≡ block_count self.now }
         ensures partition { IsPartition self.now }
@@ -191,7 +197,7 @@ impl Partition {
         self.least.len() as u32
     }
 
-    /// The number of the symbol's block.
+    /// The number of the symbol's block. Time: a binary search among the symbols that are apart.
     pub fn block_of(&self, s: Symbol) -> u32
         requires { s < length self.now }
         ensures block { result ≡ block_of self.now s }

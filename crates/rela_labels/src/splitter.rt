@@ -13,9 +13,10 @@ use std::marker::Model;
 /// share a block. Keys are in no order.
 #[derive(Debug, Drop)]
 pub struct Splitter {
-    // the key of each symbol
+    /// The key of each symbol.
     keys: Vec<usize>,
-    // for each key that was given out, the key that members with it last moved to, or 0
+    /// For each key that was given out, the key that members with it last moved to, or 0 where none
+    /// did.
     moved: Vec<usize>,
 }
 
@@ -31,7 +32,8 @@ impl Model for Splitter {
 }
 
 impl Splitter {
-    /// The partition's blocks, to be split. The keys are the blocks' numbers.
+    /// The partition's blocks, to be split. The keys are the blocks' numbers. Time and space:
+    /// linear in the symbols, with a binary search for each among those that are apart.
     pub fn of(alloc: Global, partition: &Partition) -> Result<Splitter, AllocError>
         ensures { IfOk result (λ splitter. splitter ≡ partition.now) }
     {
@@ -40,10 +42,10 @@ impl Splitter {
         Ok(Splitter { keys, moved })
     }
 
-    /// Splits each block into the members and the others. The members may come in any order, and one
-    /// that comes twice counts once. A split takes the time of its members; only after as many blocks
-    /// were split as there are symbols does one of the splits pass over all symbols too. An error
-    /// leaves the blocks as they were.
+    /// Splits each block into the members and the others. The members may come in any order, and
+    /// one that comes twice counts once. An error leaves the blocks as they were. Time: linear in
+    /// the members; only after as many blocks were split as there are symbols does one of the
+    /// splits pass over all symbols too.
     pub fn split(&mut self, alloc: Global, members: &[Symbol]) -> Result<(), AllocError>
         requires { All (λ s. s < length self.old) members.now }
         ensures symbols { length self.new ≡ length self.old }
@@ -56,7 +58,8 @@ impl Splitter {
         self.separate(members)
     }
 
-    /// The blocks, numbered in the order of their least symbols.
+    /// The blocks, numbered in the order of their least symbols. Time and space: linear in the
+    /// symbols and in the keys that were given out.
     pub fn into_partition(self, alloc: Global) -> Result<Partition, AllocError>
         ensures symbols { IfOk result (λ partition. length partition ≡ length self) }
         ensures partition { IfOk result IsPartition }
@@ -92,7 +95,8 @@ impl Splitter {
         Ok(())
     }
 
-    /// Gives the members of each block a key of their own.
+    /// Gives the members of each block a key of their own. An error leaves the keys of all symbols
+    /// as they were.
     fn separate(&mut self, members: &[Symbol]) -> Result<(), AllocError>
         requires { All (λ s. s < length self.old) members.now }
         ensures symbols { length self.new ≡ length self.old }
@@ -107,7 +111,8 @@ impl Splitter {
     }
 }
 
-/// Finds a fresh key for each key of a member. No symbol's key changes yet, since this may fail.
+/// Finds a fresh key for each key of a member. No symbol's key changes yet, since this may fail for
+/// want of memory.
 fn give_keys(keys: &[usize], moved: &mut Vec<usize>, members: &[Symbol]) -> Result<(), AllocError>
     requires keyed { IsKeyed keys.now moved.old.items }
     requires within { All (λ s. s < length keys.now) members.now }

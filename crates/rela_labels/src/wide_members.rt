@@ -8,11 +8,15 @@ use crate::words::{
 };
 use std::alloc::{AllocError, Global};
 
-/// The letters of a set: none, one, or those whose bits are 1. Only the last takes heap memory.
+/// The letters of a set: none, one, or those whose bits are 1. Only the last takes memory on the
+/// heap, and it may have one letter or none as well.
 #[derive(Debug, Drop)]
 pub(crate) enum Members {
+    /// No letter.
     Nothing,
+    /// This letter alone.
     One(u32),
+    /// The letters whose bits are 1: letter `k` is bit `k % 64` of word `k / 64`.
     Many(Vec<u64>),
 }
 
@@ -41,7 +45,7 @@ impl Members {
         }
     }
 
-    /// The letters as bits.
+    /// The letters as the bits of words, of which there are as many as letters below the size need.
     fn words(&self, alloc: Global, size: u32) -> Result<Vec<u64>, AllocError>
         requires { IsHeld size self.now }
         ensures wide { IfOk result (λ words. IsWide size words.items) }
@@ -70,7 +74,7 @@ impl Members {
         Ok(())
     }
 
-    /// The letter and those that are there.
+    /// The letter and those that are there. The letters as bits where there are then two or more.
     fn with(&self, alloc: Global, size: u32, letter: u32) -> Result<Members, AllocError>
         requires held { IsHeld size self.now }
         requires below { letter < size }
@@ -170,7 +174,7 @@ impl Members {
         self.least().is_none()
     }
 
-    /// The least letter.
+    /// The least letter, and `None` where there is none.
     pub(crate) fn least(&self) -> Option<u32>
         requires { AreFew self.now }
         ensures none { IfNone result ((k : ℕ) → holds self.now k ≡ false) }
@@ -214,7 +218,7 @@ impl Members {
     }
 }
 
-/// This letter alone, if it is to be there.
+/// This letter alone where `is_there` says so, and else none.
 fn one_if(letter: u32, is_there: bool) -> Members
     ensures held { (size : ℕ) → letter < size → size < 2 ^ 32 → IsHeld size result }
     ensures each { (k : ℕ) → holds result k ≡ (is_there && letter == k) }
@@ -226,7 +230,7 @@ fn one_if(letter: u32, is_there: bool) -> Members
     }
 }
 
-/// Words for letters below the size, with no bit that is 1.
+/// Words for letters below the size, in which no bit is 1.
 fn no_bits(alloc: Global, size: u32) -> Result<Vec<u64>, AllocError>
     ensures wide { IfOk result (λ words. IsWide size words.items) }
     ensures none { IfOk result (λ words. (k : ℕ) → bit_of words.items k ≡ false) }
@@ -235,7 +239,7 @@ fn no_bits(alloc: Global, size: u32) -> Result<Vec<u64>, AllocError>
     Ok(words)
 }
 
-/// Words for letters below the size, in which the bit of one is 1.
+/// Words for letters below the size, in which the bit of `letter` alone is 1.
 fn one_bit(alloc: Global, size: u32, letter: u32) -> Result<Vec<u64>, AllocError>
     requires { letter < size }
     ensures wide { IfOk result (λ words. IsWide size words.items) }

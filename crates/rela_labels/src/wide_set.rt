@@ -1,3 +1,4 @@
+//! A set of letters of any size.
 ghost use Rattle.std.specs.Prelude.{◌≡◌, IfOk};
 
 use crate::label_set::LabelSet;
@@ -7,10 +8,13 @@ use std::marker::Model;
 
 /// A set of letters of any size. One whose size is at most 64 takes no memory on the heap; nor may
 /// one of a greater size that has one letter or none, and else it may take a bit there for each
-/// letter below its size.
+/// letter below its size. Time: constant for `contains`, and else at most a step for each word of
+/// 64 letters.
 #[derive(Debug, Drop)]
 pub struct WideSet {
+    /// The number that all letters are below.
     size: u32,
+    /// The letters, in the form that fits the size.
     letters: Letters,
 }
 

@@ -2,7 +2,7 @@
 ghost use Rattle.std.specs.Prelude.{◌≡◌, ℕ, ◌<◌, ◌↔◌, ◌==◌, ◌&&◌, ◌||◌, true, false, not, IsTrue, IfNone, IfSome};
 ghost use Rattle.rela_labels.specs.Words.{word_has};
 
-/// Whether the letter's bit is 1.
+/// Whether the letter's bit is 1, which that of no letter from 64 on is.
 pub(crate) fn is_in_word(word: u64, letter: u32) -> bool
     ensures { result ≡ word_has word letter }
 {
@@ -18,7 +18,7 @@ pub(crate) fn with_letter(word: u64, letter: u32) -> u64
     word | 1 << letter
 }
 
-/// The bits that are 1 in both.
+/// The word whose bits are 1 where those of both are.
 #[tactic(auto, using(crate::proofs::WordBits::meet_bits))]
 pub(crate) fn meet_word(word: u64, other: u64) -> u64
     ensures { (k : ℕ) → word_has result k ≡ (word_has word k && word_has other k) }
@@ -26,7 +26,7 @@ pub(crate) fn meet_word(word: u64, other: u64) -> u64
     word & other
 }
 
-/// The bits that are 1 in one or the other.
+/// The word whose bits are 1 where those of one or the other are.
 #[tactic(auto, using(crate::proofs::WordBits::join_bits))]
 pub(crate) fn join_word(word: u64, other: u64) -> u64
     ensures { (k : ℕ) → word_has result k ≡ (word_has word k || word_has other k) }
@@ -34,7 +34,7 @@ pub(crate) fn join_word(word: u64, other: u64) -> u64
     word | other
 }
 
-/// The bits that are 1 in the first and not in the other.
+/// The word whose bits are 1 where those of the first are and those of the other aren't.
 #[tactic(auto, using(crate::proofs::OneWord::minus_bits))]
 pub(crate) fn minus_word(word: u64, other: u64) -> u64
     ensures { (k : ℕ) → word_has result k ≡ (word_has word k && not (word_has other k)) }
@@ -42,7 +42,7 @@ pub(crate) fn minus_word(word: u64, other: u64) -> u64
     word & !other
 }
 
-/// The least letter whose bit is 1.
+/// The least letter whose bit is 1, and `None` where no bit is.
 pub(crate) fn least_of_word(word: u64) -> Option<u32>
     ensures none { IfNone result ((k : ℕ) → word_has word k ≡ false) }
     ensures member { IfSome result (λ least. word_has word least ≡ true) }

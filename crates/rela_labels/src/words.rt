@@ -3,7 +3,7 @@ ghost use Rattle.std.specs.Prelude.{◌≡◌, ◌≢◌, ℕ, ◌*◌, ◌^◌,
 ghost use Rattle.rela_labels.specs.Words.{bit_of};
 ghost use Rattle.std.specs.Int.{bit_at};
 
-/// Whether the letter's bit is 1.
+/// Whether the letter's bit is 1. The bits past the last word are 0.
 pub(crate) fn has_bit(words: &[u64], letter: u32) -> bool
     ensures { result ≡ bit_of words.now letter }
 {
@@ -22,7 +22,7 @@ pub(crate) fn set_bit(words: &mut [u64], letter: u32)
     words[letter as usize / 64] |= 1 << (letter % 64);
 }
 
-/// Keeps the bits that are 1 in both.
+/// Keeps the bits at 1 that are 1 in the other too, which has as many words.
 pub(crate) fn meet_words(words: &mut [u64], other: &[u64])
     requires { length words.old ≡ length other.now }
     ensures { (k : ℕ) → bit_of words.new k ≡ (bit_of words.old k && bit_of other.now k) }
@@ -32,7 +32,7 @@ pub(crate) fn meet_words(words: &mut [u64], other: &[u64])
     }
 }
 
-/// Sets the bits to 1 that are 1 in the other.
+/// Sets the bits to 1 that are 1 in the other, which has as many words.
 pub(crate) fn join_words(words: &mut [u64], other: &[u64])
     requires { length words.old ≡ length other.now }
     ensures { (k : ℕ) → bit_of words.new k ≡ (bit_of words.old k || bit_of other.now k) }
@@ -42,7 +42,7 @@ pub(crate) fn join_words(words: &mut [u64], other: &[u64])
     }
 }
 
-/// Sets the bits to 0 that are 1 in the other.
+/// Sets the bits to 0 that are 1 in the other, which has as many words.
 pub(crate) fn minus_words(words: &mut [u64], other: &[u64])
     requires { length words.old ≡ length other.now }
     ensures { (k : ℕ) → bit_of words.new k ≡ (bit_of words.old k && not (bit_of other.now k)) }
@@ -52,7 +52,7 @@ pub(crate) fn minus_words(words: &mut [u64], other: &[u64])
     }
 }
 
-/// The least letter whose bit is 1.
+/// The least letter whose bit is 1, and `None` where no bit is.
 pub(crate) fn least_bit(words: &[u64]) -> Option<u32>
     requires { length words.now ≤ 2 ^ 26 }
     ensures none { IfNone result ((k : ℕ) → bit_of words.now k ≡ false) }
@@ -67,7 +67,7 @@ pub(crate) fn least_bit(words: &[u64]) -> Option<u32>
     None
 }
 
-/// Whether the bits are the same.
+/// Whether the bits are the same, of as many words.
 pub(crate) fn same_words(words: &[u64], other: &[u64]) -> bool
     requires { length words.now ≡ length other.now }
     ensures { IsTrue result ↔ ((k : ℕ) → bit_of words.now k ≡ bit_of other.now k) }

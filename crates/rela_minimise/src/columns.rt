@@ -10,9 +10,9 @@ use rela_subset::Dfa;
 use std::alloc::{AllocError, Global};
 
 /// Where letters lead: one list for each kind of letters, of the state to which they lead from each
-/// state. Letters are of one kind where at each state they are in the label of the same edge, so many
-/// letters may be of few kinds. A kind costs one set operation for each state, and a look at each
-/// edge.
+/// state. Letters are of one kind where at each state they are in the label of the same edge, so
+/// many letters may be of few kinds. Time: for each kind a set operation for each state, and a look
+/// at each edge; space: a number for each kind and state.
 pub(crate) fn columns<L: LabelSet>(
     alloc: Global,
     dfa: &Dfa<L>,
@@ -58,7 +58,7 @@ fn alike<L: LabelSet>(alloc: Global, dfa: &Dfa<L>, rest: &L, letter: u32) -> Res
     Ok(block)
 }
 
-/// The letters of the block that are in the label of the same edge of the state as this one.
+/// The letters of the block that are in the label of the same edge of the state `q` as this one.
 fn narrowed<L: LabelSet>(
     alloc: Global,
     dfa: &Dfa<L>,

@@ -8,9 +8,11 @@ use crate::refinement::Refinement;
 use std::alloc::{AllocError, Global};
 
 impl Refinement {
-    /// Gives each new class that is more than half of the class of which it was a part the number of
-    /// that one: so a state gets a new number only with at most half of its class (J. Hopcroft, "An
-    /// n log n algorithm for minimizing states in a finite automaton", 1971).
+    /// Gives each new class that has more than half as many states as are listed for the class of
+    /// which it was a part the number of that one. So it is the smaller parts that get new numbers,
+    /// and the states before these that are looked at again (after J. Hopcroft, "An n log n
+    /// algorithm for minimizing states in a finite automaton", 1971). The new classes are those
+    /// from `first` on, and `origins` has for each of them the class of which it was a part.
     pub(crate) fn keep_largest(
         &mut self,
         alloc: Global,
@@ -29,7 +31,8 @@ impl Refinement {
         Ok(())
     }
 
-    /// The places of the origins of which more than half went to the new class of that place.
+    /// The places of the origins of whose listed states more than half went to the new class of
+    /// that place.
     fn largest(
         &self,
         alloc: Global,
@@ -49,7 +52,8 @@ impl Refinement {
         Ok(places)
     }
 
-    /// Swaps the numbers of the two classes.
+    /// Swaps the numbers of the two classes. Only states that are in them stay listed. Time: linear
+    /// in the states that are listed for both.
     fn swap(&mut self, alloc: Global, a: usize, b: usize) -> Result<(), AllocError>
         requires held { IsHeld (length self.old.classes.items) (stage_of self.old) }
         requires first { a < length self.old.members.items }
@@ -67,7 +71,8 @@ impl Refinement {
         Ok(())
     }
 
-    /// For each new class, the class of a state that goes there.
+    /// For each new class, of which there are `count`, the class of a state that goes there. Each
+    /// waiting state goes to its target.
     pub(crate) fn origins(
         &self,
         alloc: Global,
@@ -92,7 +97,7 @@ impl Refinement {
     }
 }
 
-/// The states of the list that are in the class.
+/// The states of the list that are in the class, in their order.
 fn own(
     alloc: Global,
     list: &[usize],
@@ -113,7 +118,7 @@ fn own(
     Ok(own)
 }
 
-/// Writes the class of each of the states.
+/// Writes the class for each of the states.
 fn write_all(classes: &mut Vec<usize>, states: &[usize], class: usize)
     requires { All (λ q. q < length classes.old.items) states.now }
     ensures each { length classes.new.items ≡ length classes.old.items }

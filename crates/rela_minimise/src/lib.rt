@@ -1,4 +1,5 @@
-//! The minimal automaton of a language, by the refinement of classes of states.
+//! The minimal automaton of a language, by the refinement of classes of states. An `AllocError`
+//! comes only where memory is refused.
 #![tactic(auto)]
 
 mod columns;

@@ -22,7 +22,8 @@ pub(crate) fn same(list: &[usize], other: &[usize]) -> bool
     list == other
 }
 
-/// Whether the list has a state of the class that is not stale. Others are taken off its end.
+/// Whether the list has a state of the class that is not stale. Those at its end that are no such
+/// state are taken off it.
 pub(crate) fn has_settled(
     list: &mut Vec<usize>,
     classes: &[usize],

@@ -6,7 +6,9 @@ ghost use Rattle.rela_minimise.specs.Stored.{lists_of};
 
 use std::alloc::AllocError;
 
-/// Marks the states from which an edge leads to a member of one of the classes from `first` on.
+/// Marks the states from which an edge leads to a member of one of the classes from `first` on: as
+/// stale, and as waiting to be looked at. Time: a step for each such member, and for each edge that
+/// leads to one.
 pub(crate) fn mark_before_new(
     stale: &mut [bool],
     waiting: &mut Vec<usize>,

@@ -10,9 +10,14 @@ use rela_subset::{BuildError, Dfa, determinise};
 use std::alloc::{AllocError, Global};
 
 /// The automaton over the same letters with the fewest states that accepts the same words. Each of
-/// its states is reached, no two of them accept the same words, and they are numbered as words first
-/// arrive at them, in shortlex order: so it is the same for all automata of one language. A word
-/// leads to a state that follows from its continuations alone (J. Myhill and A. Nerode, 1958).
+/// its states is reached, no two of them accept the same words, and they are numbered as words
+/// first arrive at them, in shortlex order: so it is the same for all automata of one language. A
+/// word leads to a state that follows from its continuations alone (J. Myhill and A. Nerode, 1958).
+///
+/// Time: classes of states are refined in rounds, at most as many as there are states (E. F. Moore,
+/// 1956); a round signs those states again from which a letter leads to a new class, by a step for
+/// each kind of letters, where letters that are in the same labels at every state are of one kind.
+/// Space: a number for each state and kind of letters, and for each edge.
 ///
 /// Memory is the only error.
 pub fn minimise<L: LabelSet>(alloc: Global, dfa: &Dfa<L>) -> Result<Dfa<L>, AllocError>
@@ -35,7 +40,7 @@ pub fn minimise<L: LabelSet>(alloc: Global, dfa: &Dfa<L>) -> Result<Dfa<L>, Allo
     }
 }
 
-/// Want of memory, where no limit was set.
+/// The error for want of memory, which is the only one where no limit was set.
 fn want_of_memory(error: BuildError) -> AllocError
     requires { error ≢ BuildError.Limit }
 {

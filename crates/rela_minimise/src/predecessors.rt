@@ -13,7 +13,8 @@ use rela_nfa::Edge;
 use rela_subset::Dfa;
 use std::alloc::{AllocError, Global};
 
-/// For each state, the states from which an edge leads to it, each once for each such edge.
+/// For each state, the states from which an edge leads to it, each once for each such edge. Time
+/// and space: linear in the states and the edges.
 pub(crate) fn predecessors<L: LabelSet>(
     alloc: Global,
     dfa: &Dfa<L>,
@@ -28,7 +29,7 @@ pub(crate) fn predecessors<L: LabelSet>(
     Ok(lists)
 }
 
-/// This many empty lists.
+/// As many empty lists as `count`.
 fn empty_lists(alloc: Global, count: usize) -> Result<Vec<Vec<usize>>, AllocError>
     ensures each { IfOk result (λ lists. length lists.items ≡ count) }
     ensures empty { IfOk result (λ lists. (i : ℕ) → slice_index_or (lists_of lists.items) i [] ≡ []) }

@@ -10,8 +10,9 @@ use rela_nfa::Edge;
 use rela_subset::Dfa;
 use std::alloc::{AllocError, Global};
 
-/// The automaton with one state for each class, where states are in one class that accept the same
-/// words.
+/// The automaton with one state for each class, of which there are `count`, where states are in one
+/// class that accept the same words. The edges of a class are those of one of its states. Time and
+/// space: linear in the states and in the edges that are copied.
 pub(crate) fn quotient<L: LabelSet>(
     alloc: Global,
     dfa: &Dfa<L>,
@@ -32,7 +33,7 @@ pub(crate) fn quotient<L: LabelSet>(
     Ok(made)
 }
 
-/// A state of each class.
+/// A state of each class: its last one.
 fn heads(alloc: Global, classes: &[usize], count: usize) -> Result<Vec<usize>, AllocError>
     requires counted { All (λ c. c < count) classes.now }
     requires met { (c : ℕ) → c < count → Contains classes.now c }
@@ -46,7 +47,7 @@ fn heads(alloc: Global, classes: &[usize], count: usize) -> Result<Vec<usize>, A
     Ok(heads)
 }
 
-/// Whether each of the states is final.
+/// For each of the states whether it is final.
 fn finals_of<L: LabelSet>(
     alloc: Global,
     dfa: &Dfa<L>,
@@ -62,7 +63,7 @@ fn finals_of<L: LabelSet>(
     Ok(finals)
 }
 
-/// The edges of each of the states, to classes.
+/// Copies of the edges of each of the states, which lead to classes instead of states.
 fn edges_of<L: LabelSet>(
     alloc: Global,
     dfa: &Dfa<L>,
@@ -81,7 +82,7 @@ fn edges_of<L: LabelSet>(
     Ok(edges)
 }
 
-/// The edges, to classes.
+/// Copies of the edges, which lead to classes instead of states.
 fn edges_onto<L: LabelSet>(
     alloc: Global,
     edges: &[Edge<L>],
@@ -97,7 +98,7 @@ fn edges_onto<L: LabelSet>(
     Ok(turned)
 }
 
-/// The edge, to a class.
+/// A copy of the edge, which leads to a class instead of a state.
 fn edge_onto<L: LabelSet>(
     alloc: Global,
     edge: &Edge<L>,

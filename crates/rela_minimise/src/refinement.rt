@@ -12,21 +12,25 @@ use rela_labels::LabelSet;
 use rela_subset::Dfa;
 use std::alloc::{AllocError, Global};
 
-/// Classes of states in the course of their refinement.
+/// The classes that states are put into so far, and what tells whether they are to be split
+/// further.
 #[derive(Drop)]
 pub(crate) struct Refinement {
-    // the number of each state's class
+    /// The number of each state's class.
     pub(crate) classes: Vec<usize>,
-    // for each class states of it, among which are all that are not stale; others may stand between them
+    /// For each class a list of states, in which all of its states that are not stale come, some of
+    /// them more than once; others may stand between them.
     pub(crate) members: Vec<Vec<usize>>,
-    // for each class the signature of its states that are not stale
+    /// For each class the signature of its states that are not stale.
     pub(crate) signatures: Vec<Vec<usize>>,
-    // for each state whether a letter may now lead to another class than when its signature was taken
+    /// For each state whether a letter may now lead to another class than when its signature was
+    /// taken.
     pub(crate) stale: Vec<bool>,
 }
 
 impl Refinement {
-    /// Gives the class of the state a state that is not stale, this one where it has no other.
+    /// Makes sure that the class of the state has a state that is not stale: where it has none, the
+    /// signature of this one becomes that of the class.
     fn settle<L: LabelSet>(
         &mut self,
         alloc: Global,
@@ -50,7 +54,7 @@ impl Refinement {
         Ok(())
     }
 
-    /// The same for each of the states.
+    /// Makes sure that the class of each of the states has a state that is not stale.
     fn settle_all<L: LabelSet>(
         &mut self,
         alloc: Global,
@@ -70,7 +74,8 @@ impl Refinement {
         Ok(())
     }
 
-    /// The class to which the state goes by its signature: its own, or a new one, behind the others.
+    /// The class to which the state goes by its signature: its own, or a new one, whose number is
+    /// behind those of all classes so far. New signatures are put with those that were found.
     fn target<L: LabelSet>(
         &self,
         alloc: Global,
@@ -94,7 +99,8 @@ impl Refinement {
         Ok(self.members.len() + number)
     }
 
-    /// The same for each of the states.
+    /// The class to which each of the states goes by its signature, as by
+    /// [`target`](Refinement::target).
     fn targets<L: LabelSet>(
         &self,
         alloc: Global,
@@ -118,7 +124,7 @@ impl Refinement {
         Ok(targets)
     }
 
-    /// Puts an empty class for each of the signatures behind the others.
+    /// Puts a class without members for each of the signatures behind the others.
     fn open(&mut self, alloc: Global, found: &Signatures) -> Result<(), AllocError>
         ensures { IfOk result (λ _. IsOpened (stage_of self.old) found.now (stage_of self.new)) }
     {
@@ -130,7 +136,7 @@ impl Refinement {
         Ok(())
     }
 
-    /// Puts the state into the class, by its signature.
+    /// Puts the state into the class, whose signature it has: it isn't stale any more.
     fn assign(&mut self, q: usize, class: usize) -> Result<(), AllocError>
         requires state { q < length self.old.classes.items }
         requires flagged { length self.old.stale.items ≡ length self.old.classes.items }
@@ -142,6 +148,7 @@ impl Refinement {
         put(&mut self.members, class, q)?;
         Ok(())
     }
+
     /// Puts each of the states into its class.
     fn assign_all(&mut self, waiting: &[usize], targets: &[usize]) -> Result<(), AllocError>
         requires states { All (λ q. q < length self.old.classes.items) waiting.now }
@@ -156,8 +163,11 @@ impl Refinement {
         Ok(())
     }
 
-    /// Splits each class that has stale states by the signatures: one part stays, and each other becomes
-    /// a new class. A part that is more than half of its class stays.
+    /// Splits each class that has waiting states by their signatures: those that have the signature
+    /// of the class stay, and those of each other signature become a new class. A part that is more
+    /// than half of what is listed for its class keeps the number. Time: a step for each waiting
+    /// state and kind of letters, and a look at the states that are listed for classes whose
+    /// numbers are swapped.
     pub(crate) fn split<L: LabelSet>(
         &mut self,
         alloc: Global,

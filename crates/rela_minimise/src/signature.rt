@@ -9,7 +9,8 @@ use rela_labels::LabelSet;
 use rela_subset::Dfa;
 use std::alloc::{AllocError, Global};
 
-/// Whether the state is final, and the class of the state to which each of the columns leads.
+/// What tells the state apart: 1 if it is final and else 0, and then for each of the columns the
+/// class of the state to which it leads.
 pub(crate) fn signature<L: LabelSet>(
     alloc: Global,
     dfa: &Dfa<L>,

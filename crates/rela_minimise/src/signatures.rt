@@ -1,3 +1,4 @@
+//! Signatures of states, and their numbers.
 ghost use Rattle.std.specs.Prelude.{◌≡◌, ◌⊎◌, ℕ, ◌+◌, ◌^◌, ◌<◌, List, [], ◌∷◌, ◌++◌, IfOk, length, slice_index_or};
 ghost use Rattle.rela_subset.specs.Sets.{AreDistinct};
 
@@ -5,9 +6,10 @@ use indexmap::IndexSet;
 use std::alloc::{AllocError, Global};
 use std::marker::Model;
 
-/// Signatures, numbered as they are found. Contracts see them as their list.
+/// Signatures, each once, numbered as they are found. Contracts see them as their list.
 #[derive(Drop)]
 pub(crate) struct Signatures {
+    /// The signatures in the order of their numbers, and a hash table of these.
     found: IndexSet<Vec<usize>>,
 }
 
@@ -49,7 +51,8 @@ impl Signatures {
         self.found.as_slice()[number].as_slice()
     }
 
-    /// The number of the signature, which is put behind the others where it isn't among them.
+    /// The number of the signature, which is put behind the others where it isn't among them. Time:
+    /// linear in the signature, in expectation.
     pub(crate) fn number(&mut self, signature: Vec<usize>) -> Result<usize, AllocError>
         ensures at { IfOk result (λ number. slice_index_or self.new number [] ≡ signature.items) }
         ensures within { IfOk result (λ number. number < length self.new) }

@@ -1,3 +1,4 @@
+//! Copies of automata within larger ones.
 ghost use Rattle.std.specs.Prelude.{◌≡◌, ℕ, ◌+◌, ◌<◌, ◌≤◌, ◌^◌, [], ◌∷◌, ◌++◌, IfOk, OnOk, map};
 ghost use Rattle.std.specs.List.{All};
 ghost use Rattle.rela_nfa.specs.Automaton.{states};
@@ -40,7 +41,7 @@ fn silent_edges<L: LabelSet>(alloc: Global, ends: &[usize]) -> Result<Vec<Edge<L
     Ok(edges)
 }
 
-/// The edges of a first state: a silent one to each of these.
+/// The lists of edges of a first state alone: a silent edge to each of these states.
 pub(crate) fn entry_edges<L: LabelSet>(
     alloc: Global,
     ends: &[usize],
@@ -53,7 +54,7 @@ pub(crate) fn entry_edges<L: LabelSet>(
     Ok(edges)
 }
 
-/// The set of one letter.
+/// The set, of this size, of one letter.
 pub(crate) fn one_letter<L: LabelSet>(
     alloc: Global,
     size: u32,

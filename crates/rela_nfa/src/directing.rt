@@ -1,3 +1,4 @@
+//! Edges to states that are numbered in the order in which the edges come.
 ghost use Rattle.std.specs.Prelude.{◌≡◌, [], ◌∷◌, OnOk, map};
 ghost use Rattle.std.specs.Option.{option_map};
 ghost use Rattle.rela_nfa.specs.Directing.{extended, silent_label, silent_labels};
@@ -7,8 +8,8 @@ use crate::edge::Edge;
 use rela_labels::LabelSet;
 use std::alloc::AllocError;
 
-/// Adds an edge by this label to the next of the targets: the one that has as many before it as there
-/// are edges. Where there is no more of them it adds none.
+/// Adds an edge by this label to the next of the targets: the one that has as many before it as
+/// there are edges. Where there is no more of them it adds none.
 pub fn add_directed<L: LabelSet>(
     edges: &mut Vec<Edge<L>>,
     label: Option<L>,
@@ -22,7 +23,7 @@ pub fn add_directed<L: LabelSet>(
     Ok(())
 }
 
-/// Adds a silent edge to the next of the targets where this one is silent.
+/// Adds a silent edge to the next of the targets where the source is silent.
 fn add_if_silent<L: LabelSet>(
     edges: &mut Vec<Edge<L>>,
     source: &Edge<L>,
@@ -36,7 +37,8 @@ fn add_if_silent<L: LabelSet>(
     Ok(())
 }
 
-/// Adds a silent edge to the next of the targets for each of these that is silent.
+/// Adds a silent edge to the next of the targets for each of these that is silent. Time: linear in
+/// these.
 pub fn add_silent<L: LabelSet>(
     edges: &mut Vec<Edge<L>>,
     sources: &[Edge<L>],

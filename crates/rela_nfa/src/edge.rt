@@ -1,3 +1,4 @@
+//! Edges of automata.
 ghost use Rattle.std.specs.Prelude.{◌≡◌, ◌+◌, ◌<◌, ◌^◌, IfOk};
 ghost use Rattle.rela_nfa.specs.Construction.{shifted};
 ghost use Rattle.rela_nfa.specs.Stored.{move_of};
@@ -5,11 +6,13 @@ ghost use Rattle.rela_nfa.specs.Stored.{move_of};
 use rela_labels::LabelSet;
 use std::alloc::{AllocError, Global};
 
-/// An edge out of a state: to another state, by any one letter of the label, or silently where it
-/// has none.
+/// An edge out of a state to another, which may be taken by any one letter of its label, or
+/// silently where it has none.
 #[derive(Debug, Drop)]
 pub struct Edge<L> {
+    /// The letters by which the edge may be taken, and `None` where it is silent.
     pub label: Option<L>,
+    /// The number of the state to which it leads.
     pub to: usize,
 }
 

@@ -1,3 +1,4 @@
+//! The edges of all states, one list behind the other.
 ghost use Rattle.std.specs.Prelude.{◌≡◌, ◌+◌, ◌<◌, [], ◌∷◌, ◌++◌, IfOk, OnOk, length, map, slice_index_or};
 ghost use Rattle.rela_nfa.specs.Stored.{move_of, moves_in};
 
@@ -7,11 +8,14 @@ use std::alloc::{AllocError, Global};
 use std::marker::Model;
 
 /// The edges that leave each state. They stand one behind the other in one vector, and another says
-/// where those of each state begin: they end where the next state's begin. Contracts see it as the
-/// list of the edges of each state.
+/// where those of each state begin: they end where the next state's begin. Contracts see them as
+/// the list of the edges of each state.
 #[derive(Drop)]
 pub struct EdgeLists<L: LabelSet> {
+    /// The edges of all states, those of one state behind those of the one before it.
     pub(crate) edges: Vec<Edge<L>>,
+    /// For each state the place where its edges begin. Where it has none, it is that of the next
+    /// state.
     pub(crate) starts: Vec<usize>,
 }
 
@@ -39,7 +43,7 @@ impl<L: LabelSet> EdgeLists<L> {
         }
     }
 
-    /// No state, with room for this many.
+    /// No state, with room for this many states, but for none of their edges.
     pub fn with_capacity(alloc: Global, states: usize) -> Result<EdgeLists<L>, AllocError>
         ensures { IfOk result (λ lists. lists ≡ []) }
     {
@@ -50,7 +54,8 @@ impl<L: LabelSet> EdgeLists<L> {
         })
     }
 
-    /// The lists of edges, one behind the other.
+    /// The lists of edges, one behind the other. The edges are moved. Time and space: linear in the
+    /// lists and the edges.
     pub(crate) fn from_lists(
         alloc: Global,
         lists: Vec<Vec<Edge<L>>>,
@@ -81,7 +86,8 @@ impl<L: LabelSet> EdgeLists<L> {
         &self.edges[from..to]
     }
 
-    /// Adds a state, which these edges leave, and takes them out of the vector.
+    /// Adds a state, which these edges leave, and takes them out of the vector. Time: linear in
+    /// them.
     pub fn push(&mut self, edges: &mut Vec<Edge<L>>) -> Result<(), AllocError>
         ensures list { OnOk result (self.new ≡ self.old ++ map (move_of L.letters) edges.old.items ∷ []) }
         ensures taken { OnOk result (edges.new.items ≡ []) }
@@ -92,7 +98,7 @@ impl<L: LabelSet> EdgeLists<L> {
     }
 }
 
-/// Where the edges of the state end, where those of the last end at `all`.
+/// Where the edges of the state end: where those of the next begin, and those of the last at `all`.
 fn end_of(starts: &[usize], q: usize, all: usize) -> usize
     requires { q < length starts.now }
     ensures { result ≡ slice_index_or starts.now (q + 1) all }

@@ -1,3 +1,4 @@
+//! The pairs of states to which two automata go together.
 ghost use Rattle.std.specs.Prelude.{◌≡◌, ◌<◌, ◌++◌, OnOk, map, length};
 ghost use Rattle.std.specs.List.{All};
 ghost use Rattle.std.specs.Option.{ForSome};
@@ -11,10 +12,13 @@ use rela_labels::LabelSet;
 use rela_pairs::{Pair, Shape, Successors};
 use std::alloc::{AllocError, Global};
 
-/// Two automata over the same letters, of which pairs of states follow pairs of states.
+/// Two automata over the same letters, which go on together: pairs of their states follow pairs of
+/// their states.
 #[derive(Drop)]
 pub(crate) struct Meeting<'a, L: LabelSet> {
+    /// The automaton of the left states.
     pub(crate) first: &'a Nfa<L>,
+    /// The automaton of the right states.
     pub(crate) second: &'a Nfa<L>,
 }
 
@@ -41,7 +45,8 @@ impl<'a, L: LabelSet> Successors for Meeting<'a, L> {
     }
 }
 
-/// Adds the pairs to which the two automata go together from a pair of their states.
+/// Adds the pairs to which the two automata go together from a pair of their states: first where
+/// the first goes silently, then where the second does, and then where both go by a letter.
 fn add_followers<L: LabelSet>(
     alloc: Global,
     followers: &mut Vec<Pair>,

@@ -1,4 +1,5 @@
-//! Finite automata with silent edges: the regular languages and their operations.
+//! Finite automata with silent edges: the regular languages and their operations. An `AllocError`
+//! comes only where memory is refused.
 #![tactic(auto)]
 
 mod copying;

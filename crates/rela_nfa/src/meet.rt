@@ -1,3 +1,4 @@
+//! The automaton of the words that two automata accept.
 ghost use Rattle.std.specs.Prelude.{◌≡◌, ◌≢◌, ℕ, ◌<◌, ◌≤◌, ◌↔◌, List, Some, IfOk, IfErr, Contains, map, length, slice_get};
 ghost use Rattle.std.specs.List.{All, range_with_len};
 ghost use Rattle.rela_nfa.specs.Automaton.{states};
@@ -65,7 +66,8 @@ fn product_edges<L: LabelSet>(
     Ok(edges)
 }
 
-/// The automaton whose states are the pairs, those that are reachable from the two starts.
+/// The automaton whose states are the pairs that were found, and whose edges are those that the two
+/// take together. It begins at pair 0.
 fn product<L: LabelSet>(
     alloc: Global,
     first: &Nfa<L>,
@@ -93,12 +95,16 @@ fn product<L: LabelSet>(
 }
 
 impl<L: LabelSet> Nfa<L> {
-    /// The words of both languages. Each state is a pair of states that some word leads both automata
-    /// to, and is reached by just the words that do.
+    /// The words of both languages, by the product construction (M. Rabin and D. Scott, *Finite
+    /// automata and their decision problems*, 1959). Each state is a pair of states that some word
+    /// leads both automata to, and is reached by just the words that do. Time: for each such pair
+    /// the product of the numbers of edges that leave its two states, each with a meet of two
+    /// labels; space: linear in the pairs and the edges of the result.
     ///
     /// # Errors
     ///
-    /// - `Limit` exactly where more than `limit` pairs are reached together; never for the greatest limit.
+    /// - `Limit` exactly where more than `limit` pairs are reached together; never for the greatest
+    ///   limit.
     /// - `Memory` where there isn't memory for them.
     pub fn meet(&self, alloc: Global, other: &Nfa<L>, limit: usize) -> Result<Nfa<L>, BuildError>
         requires letters { self.now.letters ≡ other.now.letters }

@@ -1,3 +1,4 @@
+//! The edges that two automata take together.
 ghost use Rattle.std.specs.Prelude.{◌≡◌, ◌<◌, [], OnOk, map, length};
 ghost use Rattle.std.specs.List.{All};
 ghost use Rattle.std.specs.Option.{ForSome};
@@ -52,8 +53,9 @@ fn add_with<L: LabelSet>(
     Ok(())
 }
 
-/// Adds the edges that two automata over the same letters take together from a pair of their states,
-/// to these numbers of the pairs to which they lead. There are none before.
+/// Adds the edges that two automata over the same letters take together from a pair of their
+/// states, to these numbers of the pairs to which they lead, in the order in which the pairs were
+/// found to follow. There are none before.
 pub(crate) fn add_joint<L: LabelSet>(
     alloc: Global,
     edges: &mut Vec<Edge<L>>,

@@ -1,3 +1,4 @@
+//! What an automaton is, and what it tells of itself.
 ghost use Rattle.std.specs.Prelude.{◌≡◌, ℕ, ◌<◌, ◌↔◌, List, [], IsTrue, IfOk, length, map, slice_index_or};
 ghost use Rattle.std.specs.List.{All};
 ghost use Rattle.std.specs.Option.{ForSome};
@@ -10,14 +11,18 @@ use rela_labels::LabelSet;
 use std::alloc::{AllocError, Global};
 use std::marker::Model;
 
-/// A finite automaton with silent edges. It reads letters, which are numbered from 0; its states
-/// are numbered from 0 too. Contracts see it as an `Automaton`, in which each label is the list of
-/// the letters, whether each is in it.
+/// A nondeterministic finite automaton with silent edges. It reads letters, which are numbered from
+/// 0; its states are numbered from 0 too. Contracts see it as an `Automaton`, in which each label
+/// is the list of the letters, whether each is in it.
 #[derive(Drop)]
 pub struct Nfa<L: LabelSet> {
+    /// The number of letters.
     pub(crate) letters: u32,
+    /// The state from which runs begin.
     pub(crate) start: usize,
+    /// For each state whether it is final.
     pub(crate) finals: Vec<bool>,
+    /// The edges that leave each state.
     pub(crate) edges: EdgeLists<L>,
 }
 
@@ -42,8 +47,9 @@ impl<L: LabelSet> Model for Nfa<L> {
 }
 
 impl<L: LabelSet> Nfa<L> {
-    /// The automaton with this number of letters, this start, and for each state whether it is final
-    /// and which edges leave it.
+    /// The automaton with this number of letters, this start, and for each state whether it is
+    /// final and which edges leave it. The edges are moved. Time and space: linear in the states
+    /// and the edges.
     pub fn from_parts(
         alloc: Global,
         letters: u32,
@@ -63,7 +69,8 @@ impl<L: LabelSet> Nfa<L> {
         Ok(Nfa::from_lists(letters, start, finals, edges))
     }
 
-    /// The same automaton of lists that already stand one behind the other. It takes no memory.
+    /// The same automaton of lists that already stand one behind the other. It takes no memory, and
+    /// constant time.
     pub fn from_lists(letters: u32, start: usize, finals: Vec<bool>, edges: EdgeLists<L>) -> Nfa<L>
         requires fits { L.fits letters }
         requires automaton { IsAutomaton (record { letters = letters; start = start; finals = finals.items; edges = edges }) }
@@ -106,7 +113,7 @@ impl<L: LabelSet> Nfa<L> {
         self.start
     }
 
-    /// Whether a word that leads to the state is accepted.
+    /// Whether the state is final: a word that leads to it is accepted.
     pub fn is_final(&self, q: usize) -> bool
         requires { q < states self.now }
         ensures { IsTrue result ↔ IsFinal self.now q }

@@ -1,3 +1,4 @@
+//! Unions, concatenations and iterations, after K. Thompson.
 ghost use Rattle.std.specs.Prelude.{◌≡◌, ℕ, ◌+◌, ◌^◌, ◌<◌, ◌↔◌, ◌⊎◌, List, [], IfOk};
 ghost use Rattle.rela_nfa.specs.Automaton.{states};
 ghost use Rattle.rela_nfa.specs.Construction.{united};
@@ -12,7 +13,10 @@ use std::alloc::{AllocError, Global};
 
 impl<L: LabelSet> Nfa<L> {
     /// The words of one language or the other. State 0 is a start of its own; the states of `self`
-    /// come after it, and then those of `other`.
+    /// come after it, and then those of `other`. As for [`concat`](Nfa::concat) and
+    /// [`star`](Nfa::star), silent edges join the parts (K. Thompson, *Regular expression search
+    /// algorithm*, 1968). Time and space: linear in the states and the edges of both, whose labels
+    /// are copied.
     pub fn union(&self, alloc: Global, other: &Nfa<L>) -> Result<Nfa<L>, AllocError>
         requires letters { self.now.letters ≡ other.now.letters }
         ensures letters { IfOk result (λ nfa. nfa.letters ≡ self.now.letters) }
@@ -47,8 +51,9 @@ impl<L: LabelSet> Nfa<L> {
         Ok(edges)
     }
 
-    /// A word of `self` followed by one of `other`. The states of `self` come first, and then those of
-    /// `other`.
+    /// A word of `self` followed by one of `other`. The states of `self` come first, and then those
+    /// of `other`. Time and space: linear in the states and the edges of both, whose labels are
+    /// copied.
     pub fn concat(&self, alloc: Global, other: &Nfa<L>) -> Result<Nfa<L>, AllocError>
         requires letters { self.now.letters ≡ other.now.letters }
         ensures letters { IfOk result (λ nfa. nfa.letters ≡ self.now.letters) }
@@ -71,8 +76,9 @@ impl<L: LabelSet> Nfa<L> {
         })
     }
 
-    /// Any number of words of `self`, one after the other. State 0 is a start of its own, to which no
-    /// edge leads; the states of `self` come after it.
+    /// Any number of words of `self`, one after the other (the Kleene star). State 0 is a start of
+    /// its own, to which no edge leads; the states of `self` come after it. Time and space: linear
+    /// in the states and the edges, whose labels are copied.
     pub fn star(&self, alloc: Global) -> Result<Nfa<L>, AllocError>
         ensures letters { IfOk result (λ nfa. nfa.letters ≡ self.now.letters) }
         ensures states { IfOk result (λ nfa. states nfa ≡ 1 + states self.now) }

@@ -1,3 +1,4 @@
+//! Whether an automaton accepts a word.
 ghost use Rattle.std.specs.Prelude.{◌≡◌, ℕ, ◌<◌, ◌≤◌, ◌↔◌, List, [], ◌∷◌, ◌++◌, IsTrue, IfOk, OnOk, Contains};
 ghost use Rattle.rela_nfa.specs.Automaton.{states, IsFinal};
 ghost use Rattle.rela_nfa.specs.Reading.{takes, AreReached, Closes};
@@ -12,7 +13,7 @@ use rela_labels::LabelSet;
 use std::alloc::{AllocError, Global};
 
 impl<L: LabelSet> Edge<L> {
-    /// Whether the edge may be taken by the letter, or silently where there is none.
+    /// Whether the edge may be taken by the letter, or is silent where there is none.
     fn takes(&self, letter: Option<u32>) -> bool
         ensures { result ≡ takes (move_of L.letters self.now).label letter }
     {
@@ -23,7 +24,8 @@ impl<L: LabelSet> Edge<L> {
         }
     }
 
-    /// Adds the state to which the edge leads by the letter, or silently.
+    /// Adds the state to which the edge leads, if it may be taken by the letter, or is silent where
+    /// there is none.
     fn follow(&self, letter: Option<u32>, set: &mut StateSet) -> Result<(), AllocError>
         requires { self.now.to < set.old.count }
         ensures count { set.new.count ≡ set.old.count }
@@ -37,8 +39,9 @@ impl<L: LabelSet> Edge<L> {
 }
 
 impl<L: LabelSet> Nfa<L> {
-    /// Whether the word is in the language: each edge out of the states that are reached is looked at
-    /// once for each letter.
+    /// Whether the word is in the language. Time: for each letter of the word a step for each
+    /// state, and a look at each edge out of the states that are reached, once for the letter and
+    /// once to follow silent edges; space: linear in the states.
     pub fn accepts(&self, alloc: Global, word: &[u32]) -> Result<bool, AllocError>
         ensures { IfOk result (λ accepted. IsTrue accepted ↔ Accepts self.now word.now) }
     {
@@ -89,7 +92,7 @@ impl<L: LabelSet> Nfa<L> {
         Ok(set)
     }
 
-    /// Adds the states to which edges lead from q by the letter, or silently.
+    /// Adds the states to which edges lead from `q` by the letter, or silently where there is none.
     fn follow_all(
         &self,
         q: usize,
@@ -107,7 +110,7 @@ impl<L: LabelSet> Nfa<L> {
         Ok(())
     }
 
-    /// Adds the states that members reach by silent edges.
+    /// Adds the states that members reach by silent edges: a breadth-first search.
     fn close(&self, set: &mut StateSet) -> Result<(), AllocError>
         requires { set.old.count ≡ states self.now }
         ensures count { set.new.count ≡ set.old.count }

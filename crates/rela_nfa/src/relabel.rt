@@ -1,3 +1,4 @@
+//! Automata over a finer partition of the symbols.
 ghost use Rattle.std.specs.Prelude.{◌≡◌, ◌≢◌, false, ℕ, ◌<◌, ◌^◌, ◌↔◌, List, IfOk, OnOk, length, map, slice_index, vec_len};
 ghost use Rattle.std.specs.List.{All};
 ghost use Rattle.rela_labels.specs.Letters.{has};
@@ -13,7 +14,8 @@ use crate::nfa::Nfa;
 use rela_labels::{LabelSet, Partition};
 use std::alloc::{AllocError, Global};
 
-/// For each block of the fine partition the block of the coarse one in which it lies.
+/// For each block of the fine partition the block of the coarse one in which it lies. Time: linear
+/// in the blocks of the fine partition, with a look-up in the coarse one for each.
 pub fn parents_of(
     alloc: Global,
     coarse: &Partition,
@@ -30,7 +32,8 @@ pub fn parents_of(
     Ok(parents)
 }
 
-/// The letters that lie in the set.
+/// The blocks of a fine partition that lie in the set of blocks of a coarse one, where `parents`
+/// gives for each block the one in which it lies. Time: linear in the fine partition's blocks.
 pub fn relabelled_set<L: LabelSet, M: LabelSet>(
     alloc: Global,
     set: &L,
@@ -47,7 +50,7 @@ pub fn relabelled_set<L: LabelSet, M: LabelSet>(
     Ok(new)
 }
 
-/// Puts a letter that is lacking into the set, if it is to be in it.
+/// Puts a letter into the set where `is_in` says so. It isn't in it before.
 fn put<M: LabelSet>(alloc: Global, set: &mut M, letter: u32, is_in: bool) -> Result<(), AllocError>
     requires below { letter < length (M.letters set.old) }
     requires lacking { has (M.letters set.old) letter ≡ false }
@@ -61,7 +64,7 @@ fn put<M: LabelSet>(alloc: Global, set: &mut M, letter: u32, is_in: bool) -> Res
     Ok(())
 }
 
-/// The edge by the letters that lie in its label.
+/// The edge by the fine letters that lie in its label.
 fn relabelled_edge<L: LabelSet, M: LabelSet>(
     alloc: Global,
     edge: &Edge<L>,
@@ -83,7 +86,7 @@ fn relabelled_edge<L: LabelSet, M: LabelSet>(
     }
 }
 
-/// Each of the edges by the letters that lie in its label.
+/// Each of the edges by the fine letters that lie in its label.
 fn relabelled_edges<L: LabelSet, M: LabelSet>(
     alloc: Global,
     edges: &[Edge<L>],
@@ -100,7 +103,7 @@ fn relabelled_edges<L: LabelSet, M: LabelSet>(
     Ok(new)
 }
 
-/// The edges of each state by the letters that lie in their labels.
+/// The edges of each state by the fine letters that lie in their labels.
 fn relabelled_lists<L: LabelSet, M: LabelSet>(
     alloc: Global,
     lists: &EdgeLists<L>,
@@ -118,7 +121,8 @@ fn relabelled_lists<L: LabelSet, M: LabelSet>(
 impl<L: LabelSet> Nfa<L> {
     /// The same words of symbols over a finer partition: the automaton reads the blocks of `from`,
     /// and the result those of `to`. The states are the same, and each is reached by the same words
-    /// of symbols.
+    /// of symbols. Time: for each edge with a label a look at each block of `to`, and a step for
+    /// each state; space: linear in the states and the edges, with their labels.
     pub fn relabel<M: LabelSet>(
         &self,
         alloc: Global,

@@ -1,3 +1,4 @@
+//! Automata without silent detours.
 ghost use Rattle.std.specs.Prelude.{◌≡◌, ℕ, ◌<◌, ◌↔◌, ◌++◌, false, List, None, IfOk, OnOk, Contains, length, map, slice_index};
 ghost use Rattle.std.specs.List.{All, range_with_len};
 ghost use Rattle.rela_nfa.specs.Automaton.{IsAutomaton, Move, moves_of, states};
@@ -30,7 +31,8 @@ fn is_step<L: LabelSet>(nfa: &Nfa<L>, q: usize) -> bool
     !nfa.is_final(q) && only_labelled(nfa.edges(q))
 }
 
-/// The edge itself; where it is silent and the state is a step, the edge of that step.
+/// The edge itself; where it is silent and `end`, the end of its detours, is a step, the edge of
+/// that step.
 fn pulled<'a, L: LabelSet>(nfa: &'a Nfa<L>, end: usize, edge: &'a Edge<L>) -> &'a Edge<L>
     requires state { end < states nfa.now }
     requires lead { edge.now.to < states nfa.now }
@@ -44,7 +46,7 @@ fn pulled<'a, L: LabelSet>(nfa: &'a Nfa<L>, end: usize, edge: &'a Edge<L>) -> &'
     }
 }
 
-/// A copy of the edge, its end moved on to the one that stands for it.
+/// A copy of the edge that leads on at once to the end of the detours that it led to.
 fn redirected<L: LabelSet>(
     alloc: Global,
     ends: &[usize],
@@ -63,7 +65,7 @@ fn redirected<L: LabelSet>(
     }
 }
 
-/// Adds the edges of the state, each of which leads on at once.
+/// Adds the edges of the state, each of which leads on past detours at once.
 fn add_direct<L: LabelSet>(
     alloc: Global,
     direct: &mut Vec<Edge<L>>,
@@ -84,7 +86,7 @@ fn add_direct<L: LabelSet>(
     Ok(())
 }
 
-/// The edges of each state, each of which leads on at once.
+/// The edges of each state, each of which leads on past detours at once.
 fn direct_lists<L: LabelSet>(
     alloc: Global,
     nfa: &Nfa<L>,
@@ -103,7 +105,7 @@ fn direct_lists<L: LabelSet>(
     Ok(edges)
 }
 
-/// The automaton, of which the start and each edge lead on at once.
+/// The automaton, of which the start and each edge lead on past detours at once.
 fn direct<L: LabelSet>(alloc: Global, nfa: &Nfa<L>, ends: &[usize]) -> Result<Nfa<L>, AllocError>
     requires count { length ends.now ≡ states nfa.now }
     requires ends { All (λ end. end < states nfa.now) ends.now }
@@ -121,14 +123,15 @@ fn direct<L: LabelSet>(alloc: Global, nfa: &Nfa<L>, ends: &[usize]) -> Result<Nf
 }
 
 impl<L: LabelSet> Nfa<L> {
-    /// The same language, without silent detours. A state is a detour if it is not final and its only
-    /// edge is silent, and a step if it is not final and its only edge has a label. Each edge, and the
-    /// start, leads to the end of the chain of detours that it led to; where silent edges lead in a
-    /// circle, to some state of it. Then each silent edge to a step gives way to a copy of the edge of
-    /// that step. The states keep their numbers, and each has as many edges as before. It is the removal
-    /// of silent edges (M. Mohri, *Generic epsilon-removal and input epsilon-normalization algorithms for
-    /// weighted transducers*, 2002) where it adds no edge. It costs a step for each state, and a copy for
-    /// each edge, however long the chains. Want of memory is the only error.
+    /// The same language, without silent detours. A state is a detour if it is not final and its
+    /// only edge is silent, and a step if it is not final and its only edge has a label. Each edge,
+    /// and the start, leads to the end of the chain of detours that it led to; where silent edges
+    /// lead in a circle, to some state of it. Then each silent edge to a step gives way to a copy
+    /// of the edge of that step. The states keep their numbers, and each has as many edges as
+    /// before. It is the removal of silent edges (M. Mohri, *Generic epsilon-removal and input
+    /// epsilon-normalization algorithms for weighted transducers*, 2002) where it adds no edge.
+    /// Time and space: linear in the states and the edges, however long the chains; the label of
+    /// each edge is copied.
     pub fn shortened(&self, alloc: Global) -> Result<Nfa<L>, AllocError>
         ensures letters { IfOk result (λ nfa. nfa.letters ≡ self.now.letters) }
         ensures states { IfOk result (λ nfa. states nfa ≡ states self.now) }

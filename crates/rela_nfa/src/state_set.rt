@@ -1,3 +1,4 @@
+//! Sets of states, which are found one after the other.
 ghost use Rattle.std.specs.Prelude.{◌≡◌, ℕ, ◌<◌, ◌≤◌, [], IfOk, OnOk, length};
 ghost use Rattle.std.specs.List.{All};
 ghost use Rattle.rela_nfa.specs.StateSet.{Inserts};
@@ -8,7 +9,9 @@ use std::marker::Model;
 /// A set of states: a flag for each state, and the members in the order in which they came.
 #[derive(Drop)]
 pub(crate) struct StateSet {
+    /// For each state whether it is a member.
     flags: Vec<bool>,
+    /// The members, in the order in which they came.
     members: Vec<usize>,
 }
 
@@ -44,7 +47,7 @@ impl StateSet {
         self.members.as_slice()
     }
 
-    /// Puts a state in.
+    /// Puts a state in, unless it is there. Time: constant.
     pub(crate) fn insert(&mut self, n: usize) -> Result<(), AllocError>
         requires { n < self.old.count }
         ensures count { self.new.count ≡ self.old.count }

@@ -1,3 +1,4 @@
+//! The automata of no word, of the empty word, of words of one letter, and of one word.
 ghost use Rattle.std.specs.Prelude.{◌≡◌, ℕ, ◌+◌, ◌^◌, ◌<◌, ◌≤◌, ◌↔◌, true, List, [], ◌∷◌, ◌++◌, IfOk, OnOk, length, map, take};
 ghost use Rattle.std.specs.List.{All};
 ghost use Rattle.rela_nfa.specs.Automaton.{states};
@@ -13,7 +14,7 @@ use rela_labels::LabelSet;
 use std::alloc::{AllocError, Global};
 
 impl<L: LabelSet> Nfa<L> {
-    /// No word at all.
+    /// The automaton of no word at all: one state, which isn't final, and no edge.
     pub fn none(alloc: Global, letters: u32) -> Result<Nfa<L>, AllocError>
         requires { L.fits letters }
         ensures letters { IfOk result (λ nfa. nfa.letters ≡ letters) }
@@ -24,7 +25,7 @@ impl<L: LabelSet> Nfa<L> {
         one_state(alloc, letters, false)
     }
 
-    /// The empty word alone.
+    /// The automaton of the empty word alone: one state, which is final, and no edge.
     pub fn empty_word(alloc: Global, letters: u32) -> Result<Nfa<L>, AllocError>
         requires { L.fits letters }
         ensures letters { IfOk result (λ nfa. nfa.letters ≡ letters) }
@@ -35,7 +36,8 @@ impl<L: LabelSet> Nfa<L> {
         one_state(alloc, letters, true)
     }
 
-    /// Each word of one letter that is in the set.
+    /// Each word of one letter that is in the set. State 0 is the start, and state 1 the end. The
+    /// set is copied.
     pub fn class(alloc: Global, letters: u32, set: &L) -> Result<Nfa<L>, AllocError>
         requires fits { L.fits letters }
         requires sized { length (L.letters set.now) ≡ letters }
@@ -55,7 +57,8 @@ impl<L: LabelSet> Nfa<L> {
         })
     }
 
-    /// This word alone. State `i` is reached by its first `i` letters.
+    /// This word alone. State `i` is reached by its first `i` letters. Time and space: linear in
+    /// the word, with a label of one letter for each.
     pub fn word(alloc: Global, letters: u32, word: &[u32]) -> Result<Nfa<L>, AllocError>
         requires fits { L.fits letters }
         requires letters { All (λ k. k < letters) word.now }
@@ -76,7 +79,8 @@ impl<L: LabelSet> Nfa<L> {
     }
 }
 
-/// An edge to the next state by a letter of the set, and no edge from there.
+/// The edges of two states: one from the first to the second by a letter of the set, and none from
+/// the second.
 fn edges_of_letter<L: LabelSet>(alloc: Global, set: L) -> Result<EdgeLists<L>, AllocError>
     ensures { IfOk result (λ edges. edges ≡ links (L.letters set ∷ [])) }
 {
@@ -92,7 +96,8 @@ fn edges_of_letter<L: LabelSet>(alloc: Global, set: L) -> Result<EdgeLists<L>, A
     Ok(edges)
 }
 
-/// For each letter an edge to the next state, and no edge from the last state.
+/// The edges of a state for each letter, one to the next state by that letter alone, and of a last
+/// state that none leaves.
 fn edges_of_word<L: LabelSet>(
     alloc: Global,
     letters: u32,
@@ -149,7 +154,7 @@ fn one_state<L: LabelSet>(alloc: Global, letters: u32, is_final: bool) -> Result
     })
 }
 
-/// A state that no edge leaves.
+/// The lists of edges of one state that none leaves.
 fn no_edges<L: LabelSet>(alloc: Global) -> Result<EdgeLists<L>, AllocError>
     ensures { IfOk result (λ edges. edges ≡ [] ∷ []) }
 {

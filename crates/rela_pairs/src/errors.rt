@@ -1,3 +1,4 @@
+//! Why a machine wasn't built.
 ghost use Rattle.std.specs.Prelude.{◌≡◌};
 ghost use Rattle.rela_pairs.specs.declared.errors.BuildError.{BuildError};
 

@@ -1,3 +1,4 @@
+//! What an exploration has found.
 ghost use Rattle.std.specs.Prelude.{◌≡◌, ◌<◌, [], length, slice_index_or};
 
 use crate::found::Found;
@@ -9,7 +10,9 @@ use std::marker::Model;
 /// each the numbers of the pairs that follow it.
 #[derive(Drop)]
 pub struct Explored {
+    /// The pairs, by their numbers.
     pub(crate) found: Found,
+    /// For each pair the numbers of those that follow it.
     pub(crate) targets: Lists,
 }
 
@@ -31,7 +34,8 @@ impl Explored {
         self.found.pairs()
     }
 
-    /// The numbers of the pairs that follow the one of this number, in their order.
+    /// The numbers of the pairs that follow the one of this number, in their order; one may come
+    /// more than once.
     pub fn targets(&self, number: usize) -> &[usize]
         requires { number < length self.now.targets }
         ensures { result.now ≡ slice_index_or self.now.targets number [] }

@@ -1,3 +1,4 @@
+//! The search for the pairs that are reachable.
 ghost use Rattle.std.specs.Prelude.{◌≡◌, ◌≢◌, ℕ, ◌≤◌, ◌↔◌, Some, Contains, IfOk, IfErr, length, slice_get};
 ghost use Rattle.rela_pairs.specs.Exploration.{NumbersNext, FoundEarlier};
 ghost use Rattle.rela_pairs.specs.Reachable.{Reachable, AreDistinct, MoreThan};
@@ -11,7 +12,10 @@ use crate::pair::Pair;
 use crate::successors::Successors;
 use std::alloc::Global;
 
-/// The pairs that are reachable from the start, if they are at most `limit`. Each is looked at once.
+/// The pairs that are reachable from the start, if they are at most `limit`, in the order of a
+/// breadth-first search: the start is number 0. Each is looked at once. Time: linear in the pairs
+/// and in what follows each, in expectation where they are looked up by hash; space: likewise.
+/// Where they are looked up in a table, one step and one place more for each pair of states.
 ///
 /// # Errors
 ///

@@ -1,3 +1,4 @@
+//! The pairs that were found, and their numbers.
 ghost use Rattle.std.specs.Prelude.{◌≡◌, ◌<◌, ◌≤◌, ◌^◌, [], ◌∷◌, Some, IfOk, IfErr, OnOk, length, slice_get};
 ghost use Rattle.std.specs.List.{All};
 ghost use Rattle.rela_pairs.specs.Finding.{Finds, GrowsBy, AreNumbers, Passes};
@@ -13,11 +14,13 @@ use crate::shape::Shape;
 use crate::table::Table;
 use std::alloc::{AllocError, Global};
 
-/// The pairs that were found, each once, numbered in the order in which they came. They are looked up
-/// in a table where there can't be many, and else by their hash.
+/// The pairs that were found, each once, numbered in the order in which they came. They are looked
+/// up in a table where the machines have few pairs of states, and else by their hash.
 #[derive(Drop)]
 pub(crate) enum Found {
+    /// In a table with a place for each pair.
     Tabled(Table),
+    /// By their hash.
     Hashed(Hashed),
 }
 
@@ -58,8 +61,8 @@ impl Found {
         }
     }
 
-    /// The number of a pair, which is put in unless it is there. Limit where there is then one more
-    /// than the limit.
+    /// The number of a pair, which is put in unless it is there. `Limit` where there are then more
+    /// pairs than `limit`, and `Memory` where there isn't memory for it.
     pub(crate) fn number(&mut self, pair: Pair, limit: usize) -> Result<usize, BuildError>
         requires few { length (pairs_of self.old) ≤ limit }
         requires takes { Takes self.old pair }
@@ -76,7 +79,8 @@ impl Found {
         Ok(number)
     }
 
-    /// Puts the numbers of the pairs in place of those that are there.
+    /// Puts the numbers of the pairs in place of those that are there, as by
+    /// [`number`](Found::number) and with its errors.
     pub(crate) fn number_all(
         &mut self,
         pairs: &[Pair],

@@ -1,3 +1,4 @@
+//! Pairs that are looked up by their hash.
 ghost use Rattle.std.specs.Prelude.{◌≡◌, ◌<◌, ◌^◌, [], Some, IfOk, length, slice_get};
 ghost use Rattle.rela_pairs.specs.Finding.{Finds};
 ghost use Rattle.rela_pairs.specs.Reachable.{AreDistinct};
@@ -7,10 +8,11 @@ use indexmap::IndexSet;
 use std::alloc::{AllocError, Global};
 use std::marker::Model;
 
-/// The pairs that were found, each once, in the order in which they came, and looked up by their hash.
-/// Contracts see it as the list of them.
+/// The pairs that were found, each once, in the order in which they came, and looked up by their
+/// hash. Contracts see them as a list.
 #[derive(Drop)]
 pub(crate) struct Hashed {
+    /// The pairs in the order of their numbers, and a hash table of their numbers.
     found: IndexSet<Pair>,
 }
 
@@ -46,7 +48,7 @@ impl Hashed {
         self.found.as_slice()
     }
 
-    /// The number of a pair, which is put in unless it is there.
+    /// The number of a pair, which is put in unless it is there. Time: constant in expectation.
     pub(crate) fn number(&mut self, pair: Pair) -> Result<usize, AllocError>
         ensures numbered { IfOk result (λ number. slice_get self.new number ≡ Some pair) }
         ensures finds { IfOk result (λ _. Finds self.old self.new pair) }

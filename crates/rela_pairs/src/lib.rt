@@ -1,4 +1,5 @@
-//! The pairs of states that are reachable together, found once and numbered, up to a limit.
+//! The pairs of states that are reachable together, found once and numbered, up to a limit. A want
+//! of memory is told as `AllocError` or as `BuildError::Memory`.
 #![tactic(auto)]
 
 mod errors;

@@ -1,13 +1,17 @@
+//! Lists of numbers, one behind the other in one vector.
 ghost use Rattle.std.specs.Prelude.{◌≡◌, ℕ, ◌+◌, ◌<◌, [], ◌∷◌, ◌++◌, OnOk, length, slice_index_or};
 
 use std::alloc::{AllocError, Global};
 use std::marker::Model;
 
 /// Lists of numbers. They stand one behind the other in one vector, and another says where each
-/// begins: it ends where the next one begins. Contracts see it as the list of them.
+/// begins: it ends where the next one begins. Contracts see them as the list of these lists.
 #[derive(Drop)]
 pub(crate) struct Lists {
+    /// The numbers of all lists, one list behind the other.
     numbers: Vec<usize>,
+    /// For each list the place where it begins among the numbers. It may be empty, and then begins
+    /// where the next one does.
     starts: Vec<usize>,
 }
 
@@ -50,7 +54,7 @@ impl Lists {
         &self.numbers[from..to]
     }
 
-    /// Puts a copy of the list behind the others.
+    /// Puts a copy of the list behind the others. Time: linear in it.
     pub(crate) fn push(&mut self, list: &[usize]) -> Result<(), AllocError>
         ensures { OnOk result (self.new ≡ self.old ++ list.now ∷ []) }
     {
@@ -60,7 +64,7 @@ impl Lists {
     }
 }
 
-/// Where the list of this number ends, where the last ends at `all`.
+/// Where the list of this number ends: where the next begins, and the last one at `all`.
 fn end_of(starts: &[usize], number: usize, all: usize) -> usize
     requires { number < length starts.now }
     ensures { result ≡ slice_index_or starts.now (number + 1) all }

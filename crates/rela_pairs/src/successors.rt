@@ -1,3 +1,4 @@
+//! What follows a pair of states.
 ghost use Rattle.std.specs.Prelude.{◌≡◌, ◌++◌, List, OnOk};
 ghost use Rattle.std.specs.List.{All};
 ghost use Rattle.rela_pairs.specs.Places.{Fits};
@@ -16,11 +17,11 @@ pub trait Successors {
     // the pairs that follow, in order
     ghost next: { Self → Pair → List Pair };
 
-    /// How many states there are on each side, at least one more than the greatest in a pair.
+    /// How many states there are on each side: each state of a pair is below it.
     fn shape(&self) -> Shape
         ensures fits { (x : Pair) → is_pair self.now x → Fits result x };
 
-    /// Puts the pairs that follow behind those that are there, in order; a pair may come more than
+    /// Puts the pairs that follow behind those in `followers`, in order; a pair may come more than
     /// once.
     fn add_next(
         &self,

@@ -1,3 +1,4 @@
+//! Pairs that are looked up in a table of them all.
 ghost use Rattle.std.specs.Prelude.{◌≡◌, ◌*◌, ◌<◌, ◌≤◌, ◌^◌, [], Some, IfOk, length, slice_get};
 ghost use Rattle.rela_pairs.specs.Finding.{Finds};
 ghost use Rattle.rela_pairs.specs.Places.{Fits};
@@ -12,9 +13,12 @@ use std::marker::Model;
 /// that has a place for each pair of the shape: one row behind the other, a row for each left state.
 #[derive(Drop)]
 pub(crate) struct Table {
+    /// How many states there are on each side.
     shape: Shape,
+    /// The pairs, in the order of their numbers.
     found: Vec<Pair>,
-    /// For each place, the number of its pair once it was found.
+    /// For each place the number of its pair, and `None` until it is found. The place of a pair is
+    /// `left * rights + right`.
     numbers: Vec<Option<u32>>,
 }
 
@@ -29,7 +33,7 @@ impl Model for Table {
 }
 
 impl Table {
-    /// No pair, of a shape that has this many places.
+    /// No pair, of a shape that has this many places. Time and space: linear in the places.
     pub(crate) fn new(alloc: Global, shape: Shape, places: usize) -> Result<Table, AllocError>
         requires places { places ≡ shape.lefts * shape.rights }
         requires few { places ≤ 2 ^ 20 }
@@ -52,7 +56,7 @@ impl Table {
         self.found.as_slice()
     }
 
-    /// The number of a pair, which is put in unless it is there.
+    /// The number of a pair, which is put in unless it is there. Time: constant.
     pub(crate) fn number(&mut self, pair: Pair) -> Result<usize, AllocError>
         requires { Fits self.old.shape pair }
         ensures numbered { IfOk result (λ number. slice_get self.new.pairs number ≡ Some pair) }

@@ -11,15 +11,19 @@ use crate::flags::flag;
 use crate::numbered::Numbered;
 use std::alloc::{AllocError, Global};
 
-/// For each state the labelled arrows of the states to which silent ones lead from it, itself among them, and
-/// whether one of these states is final.
+/// What each state can do once silent arrows have led it on, or at once.
 #[derive(Drop)]
 pub(crate) struct Closed {
+    /// For each state the labelled arrows of the states to which silent ones lead from it, itself
+    /// among them.
     pub(crate) steps: Vec<Vec<Step>>,
+    /// For each state whether one of these states is final.
     pub(crate) finals: Vec<bool>,
 }
 
-/// The steps of each state; `None` where there are more than `most` in all.
+/// The steps of each state; `None` where there are more than `most` in all. Time: for each state a
+/// step for each other, and a look at each arrow of those to which silent ones lead from it; space:
+/// linear in the states and the steps.
 pub(crate) fn closed_steps(
     alloc: Global,
     whole: &Numbered,
@@ -44,7 +48,8 @@ pub(crate) fn closed_steps(
     Ok(Some(Closed { steps, finals }))
 }
 
-/// The states to which silent arrows lead from the state, which is the first of them.
+/// The states to which silent arrows lead from the state, which is the first of them: a
+/// breadth-first search.
 fn silent_ends(alloc: Global, whole: &Numbered, p: usize) -> Result<Vec<usize>, AllocError>
     requires plain { IsPlain (plain whole.now) }
     requires state { p < length whole.now.finals.items }
@@ -65,7 +70,8 @@ fn silent_ends(alloc: Global, whole: &Numbered, p: usize) -> Result<Vec<usize>, 
     Ok(ends)
 }
 
-/// Puts the ends of silent ones among the arrows behind the others, unless their flags are set.
+/// Puts the ends of the silent arrows behind the others, unless their flags are set, and sets
+/// these.
 fn insert_silent(
     arrows: &[Arrow],
     flags: &mut [bool],
@@ -84,7 +90,7 @@ fn insert_silent(
     Ok(())
 }
 
-/// The labelled arrows of the states.
+/// The labelled arrows of the states, as steps.
 fn steps_of(alloc: Global, whole: &Numbered, states: &[usize]) -> Result<Vec<Step>, AllocError>
     requires plain { IsPlain (plain whole.now) }
     requires states { All (λ q. q < length whole.now.finals.items) states.now }
@@ -98,7 +104,7 @@ fn steps_of(alloc: Global, whole: &Numbered, states: &[usize]) -> Result<Vec<Ste
     Ok(steps)
 }
 
-/// Puts those of the arrows that have a label behind the others.
+/// Puts the labelled ones of the arrows behind the others, as steps.
 fn add_steps(arrows: &[Arrow], steps: &mut Vec<Step>) -> Result<(), AllocError>
     ensures { IfOk result (λ _. (step : StepOf) → Contains steps.new.items step
         → Contains steps.old.items step ⊎ Contains arrows.now (record { label = Some step.label; to = step.to })) }

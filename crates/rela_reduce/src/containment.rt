@@ -7,7 +7,8 @@ use crate::labels::Labels;
 use rela_labels::LabelSet;
 use std::alloc::{AllocError, Global};
 
-/// For each label a flag for each label, whether each letter of the one is in the other.
+/// For each label a flag for each label, whether each letter of the one is in the other. Time: a
+/// set operation for each pair of labels; space: a flag for each pair.
 pub(crate) fn containments<L: LabelSet>(
     alloc: Global,
     labels: &Labels<'_, L>,

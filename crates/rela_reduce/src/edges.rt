@@ -12,7 +12,7 @@ use rela_labels::LabelSet;
 use rela_nfa::{Edge, EdgeLists};
 use std::alloc::{AllocError, Global};
 
-/// The edges of the arrows of each state.
+/// The edges of the arrows of each state, each with a copy of its label.
 pub(crate) fn edge_lists<L: LabelSet>(
     alloc: Global,
     lists: &[Vec<Arrow>],

@@ -7,11 +7,13 @@ use std::alloc::{AllocError, Global};
 use std::collections::HashMap;
 use std::marker::Model;
 
-/// Labels, numbered as they are found. Contracts see them as the list of their letters.
+/// Labels, numbered as they are found. Two numbers may, if rarely, have labels of the same letters.
+/// Contracts see them as the list of their letters.
 #[derive(Drop)]
 pub(crate) struct Labels<'a, L: LabelSet> {
+    /// The labels, in the order of their numbers.
     found: Vec<&'a L>,
-    // the number of the first label with a fingerprint
+    /// For each fingerprint the number of the last label that was found with it.
     numbers: HashMap<u64, usize>,
 }
 
@@ -49,8 +51,10 @@ impl<'a, L: LabelSet> Labels<'a, L> {
         self.found[number]
     }
 
-    /// The number of the label, which is put behind the others unless one with its letters is found. Where
-    /// another label has its fingerprint, it isn't looked for among the rest, and may get a second number.
+    /// The number of the label, which is put behind the others unless one with its letters is
+    /// found. Where another label has its fingerprint, it isn't looked for among the rest, and may
+    /// get a second number. Time: a look at each letter below the label's size, and constant in
+    /// expectation beside.
     pub(crate) fn number(&mut self, label: &'a L) -> Result<usize, AllocError>
         ensures within { IfOk result (λ number. number < length self.new) }
         ensures at { IfOk result (λ number. slice_index_or self.new number [] ≡ L.letters label.now) }
@@ -68,7 +72,8 @@ impl<'a, L: LabelSet> Labels<'a, L> {
         Ok(number)
     }
 
-    /// Whether each letter of the label `k` is in the label `l`.
+    /// Whether each letter of the label `k` is in the label `l`. None is where the two are of
+    /// different sizes.
     pub(crate) fn is_within(&self, alloc: Global, k: usize, l: usize) -> Result<bool, AllocError>
         requires first { k < length self.now }
         requires second { l < length self.now }
@@ -95,13 +100,15 @@ impl<'a, L: LabelSet> Labels<'a, L> {
     }
 }
 
-/// The number from which fingerprints begin, and the one by which they are multiplied (G. Fowler,
-/// L. C. Noll and K.-P. Vo's hash of 64 bits).
+/// The number from which fingerprints begin (G. Fowler, L. C. Noll and K.-P. Vo's FNV-1a hash of 64
+/// bits: its offset basis).
 const START: u64 = 0xcbf2_9ce4_8422_2325;
 
+/// The number by which fingerprints are multiplied at each letter (the prime of that hash).
 const FACTOR: u64 = 0x0100_0000_01b3;
 
-/// A number that two labels rarely share unless they have the same letters. Each letter is looked at.
+/// A number that two labels rarely share unless they have the same letters. Time: a look at each
+/// letter below the label's size.
 fn fingerprint<L: LabelSet>(label: &L) -> u64 {
     let mut hash = START;
     for letter in 0..label.size() {

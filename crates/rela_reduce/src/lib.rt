@@ -1,4 +1,5 @@
 //! Automata whose words reach fewer sets of states, by silent edges to states that others simulate.
+//! An `AllocError` comes only where memory is refused.
 #![tactic(auto)]
 
 mod arrow;

@@ -13,17 +13,21 @@ use rela_labels::LabelSet;
 use rela_nfa::{Edge, Nfa};
 use std::alloc::{AllocError, Global};
 
-/// An automaton whose labels are numbered: how many labels there are, the start, and for each state
-/// whether it is final and which arrows leave it.
+/// An automaton whose labels are numbered.
 #[derive(Drop)]
 pub(crate) struct Numbered {
+    /// The number of labels.
     pub(crate) labels: usize,
+    /// The state from which runs begin.
     pub(crate) start: usize,
+    /// For each state whether it is final.
     pub(crate) finals: Vec<bool>,
+    /// The arrows that leave each state.
     pub(crate) arrows: Vec<Vec<Arrow>>,
 }
 
-/// The automaton with arrows for its edges, and their labels put with the others.
+/// The automaton with arrows for its edges, and their labels put with the others. Time: linear in
+/// the states and the edges, with a look at each letter for each label.
 pub(crate) fn with_numbers<'a, L: LabelSet>(
     alloc: Global,
     a: &'a Nfa<L>,
@@ -43,7 +47,7 @@ pub(crate) fn with_numbers<'a, L: LabelSet>(
     })
 }
 
-/// Whether each state is final.
+/// For each state whether it is final.
 fn finals_of<L: LabelSet>(alloc: Global, a: &Nfa<L>) -> Result<Vec<bool>, AllocError>
     ensures { IfOk result (λ finals. finals.items ≡ a.now.finals) }
 {

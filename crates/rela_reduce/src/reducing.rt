@@ -18,20 +18,25 @@ use rela_labels::LabelSet;
 use rela_nfa::Nfa;
 use std::alloc::{AllocError, Global};
 
-/// The most states, labels and steps of an automaton whose states are compared.
+/// The most states of an automaton whose states are compared.
 const MOST_STATES: usize = 2_048;
 
+/// The most labels of an automaton whose states are compared.
 const MOST_LABELS: usize = 256;
 
+/// The most steps, in all its states, of an automaton whose states are compared.
 const MOST_STEPS: usize = 4_096;
 
 /// The automaton with the same states and edges, and a silent edge from each state to each that it
-/// simulates, which adds no word to the language. A word so reaches, with a state, all that are less: of
-/// sets that differ in these alone, which there may be by the thousand, one is left. No two words are told
-/// apart that were not.
+/// simulates (R. Milner, "An algebraic definition of simulation between programs", 1971), which
+/// adds no word to the language. A word so reaches, with a state, all that it simulates: of sets
+/// that differ in these alone, which there may be by the thousand, one is left. Words that reached
+/// the same states still do, and a state tells no two words apart that none told apart before.
 ///
-/// States are compared where the automaton is small, and else none is said to simulate another. It costs a
-/// look at each pair of states for each of a few rounds, and at pairs of edges.
+/// States are compared where the automaton is small, and else none is said to simulate another.
+/// Time: for each of a few rounds a look at each pair of states, with pairs of their edges, and a
+/// copy of each edge; space: a flag for each pair of states, and the edges. An automaton that isn't
+/// small costs the copy alone, with a look at each letter for each label.
 pub fn reduce<L: LabelSet>(alloc: Global, a: &Nfa<L>) -> Result<Nfa<L>, AllocError>
     ensures letters { IfOk result (λ nfa. nfa.letters ≡ a.now.letters) }
     ensures states { IfOk result (λ nfa. states nfa ≡ states a.now) }
@@ -54,7 +59,8 @@ pub fn reduce<L: LabelSet>(alloc: Global, a: &Nfa<L>) -> Result<Nfa<L>, AllocErr
     Ok(Nfa::from_lists(a.letters(), start, finals, edges))
 }
 
-/// For each state a flag for each that it simulates; no flag is set where the automaton isn't small.
+/// For each state a flag for each that it simulates; no row of flags where the automaton isn't
+/// small, which says that no state simulates another.
 fn relation_of<L: LabelSet>(
     alloc: Global,
     whole: &Numbered,

@@ -10,15 +10,18 @@ use crate::flags::{clear, flag, is_set, square};
 use crate::numbered::Numbered;
 use std::alloc::{AllocError, Global};
 
-/// How often all pairs of states are looked at before no state is said to simulate another. Where states
-/// are numbered from the start on, and the last come first, few rounds are needed.
+/// How often all pairs of states are looked at before no state is said to simulate another. Where
+/// states are numbered from the start on, few rounds are needed, since the last come first.
 const ROUNDS: usize = 32;
 
-/// For each state a flag for each state, whether it simulates that one: it can go along with each arrow
-/// of it to a state that simulates the arrow's end, by a label with all its letters, where silent arrows
-/// may lead on first; and it comes so to a final state where that one is final (R. Milner, "An algebraic
-/// definition of simulation between programs", 1971). At first each state is said to simulate each, and
-/// then flags are cleared until none is wrong.
+/// For each state a flag for each state, whether it simulates that one: it can go along with each
+/// arrow of it to a state that simulates the arrow's end, by a label with all its letters, where
+/// silent arrows may lead on first; and it comes so to a final state where that one is final (R.
+/// Milner, "An algebraic definition of simulation between programs", 1971). This is the greatest
+/// such relation, found from above: at first each state is said to simulate each, and then flags
+/// are cleared until none is wrong. Where that takes more than [`ROUNDS`] rounds, no flag is set.
+/// Time: for each round a look at each pair of states that is left, and for each at pairs of their
+/// arrows and steps; space: a flag for each pair of states.
 pub(crate) fn simulation(
     alloc: Global,
     whole: &Numbered,
@@ -38,8 +41,8 @@ pub(crate) fn simulation(
     square(alloc, whole.finals.len(), false)
 }
 
-/// Clears the flags of states with which a state can't go along, the last states first. Whether there
-/// was one.
+/// Clears the flags of states with which a state can't go along, the last states first. Whether a
+/// flag was cleared.
 fn prune(
     whole: &Numbered,
     closed: &Closed,
@@ -61,7 +64,8 @@ fn prune(
     cleared
 }
 
-/// The same for one state.
+/// Clears, in the row of `p`, the flags of states with which `p` can't go along. Whether a flag was
+/// cleared.
 fn prune_row(
     whole: &Numbered,
     closed: &Closed,
@@ -84,7 +88,7 @@ fn prune_row(
     cleared
 }
 
-/// Whether p can go along with q, where the flags of the relation are right.
+/// Whether `p` can go along with `q`, where the flags of the relation are right.
 fn goes_along(
     whole: &Numbered,
     closed: &Closed,
@@ -109,7 +113,7 @@ fn goes_along(
     true
 }
 
-/// The steps of the state.
+/// The steps of the state, and none past the last one.
 fn steps_at(closed: &Closed, p: usize) -> &[Step]
     ensures { result.now ≡ slice_index_or (lists_of closed.now.steps.items) p [] }
 {
@@ -119,7 +123,7 @@ fn steps_at(closed: &Closed, p: usize) -> &[Step]
     }
 }
 
-/// Whether p, which has these steps, can go along with the arrow.
+/// Whether `p`, which has these steps, can go along with the arrow.
 fn is_answered(
     steps: &[Step],
     within: &[Vec<bool>],
@@ -135,7 +139,7 @@ fn is_answered(
     }
 }
 
-/// Whether one of the steps is by each letter of the label k, to a state that simulates t.
+/// Whether one of the steps is by each letter of the label `k`, to a state that simulates `t`.
 fn has_answer(
     steps: &[Step],
     within: &[Vec<bool>],

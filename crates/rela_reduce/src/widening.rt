@@ -28,7 +28,7 @@ pub(crate) fn widened(
     Ok(lists)
 }
 
-/// The arrows of p, and silent ones to the other states that it simulates.
+/// The arrows of `p`, and silent ones to the other states that it simulates.
 fn with_lower(
     alloc: Global,
     arrows: &[Arrow],

@@ -11,9 +11,9 @@ use rela_labels::LabelSet;
 use rela_nfa::Edge;
 use std::alloc::{AllocError, Global};
 
-/// The letters of the rest that are in one label with this letter, the first of the edges' that has it;
-/// all of the rest where none has it. Most labels have few letters, and what the other edges take from
-/// few letters costs little.
+/// The letters of the rest that are in one label with this letter, the first of the edges' that has
+/// it; all of the rest where none has it. Most labels have few letters, and to narrow few letters
+/// down by the other edges costs little.
 pub(crate) fn near<L: LabelSet>(
     alloc: Global,
     edges: &[&Edge<L>],
@@ -32,7 +32,7 @@ pub(crate) fn near<L: LabelSet>(
     }
 }
 
-/// The first label of the edges that has the letter.
+/// The first label of the edges that has the letter, and `None` where none has.
 fn label_with<'a, L: LabelSet>(edges: &[&'a Edge<L>], letter: u32) -> Option<&'a L>
     ensures sized { IfSome result (λ label. (n : ℕ) → All (λ edge. ForSome edge.now.label (λ set. length (L.letters set) ≡ n)) edges.now
         → length (L.letters label.now) ≡ n) }
@@ -47,7 +47,7 @@ fn label_with<'a, L: LabelSet>(edges: &[&'a Edge<L>], letter: u32) -> Option<&'a
     None
 }
 
-/// The label of the edge, if it has the letter.
+/// The label of the edge, if it has the letter, and else `None`.
 fn label_if<L: LabelSet>(edge: &Edge<L>, letter: u32) -> Option<&L>
     ensures label { IfSome result (λ label. edge.now.label ≡ Some label.now) }
     ensures has { IfSome result (λ label. has (L.letters label.now) letter ≡ true) }
@@ -64,7 +64,8 @@ fn label_if<L: LabelSet>(edge: &Edge<L>, letter: u32) -> Option<&L>
     }
 }
 
-/// The letters of the block by which the same edges may be taken as by this letter.
+/// The letters of the block by which the same edges may be taken as by this letter. Time: a set
+/// operation for each edge.
 pub(crate) fn narrowed<L: LabelSet>(
     alloc: Global,
     block: L,
@@ -83,7 +84,8 @@ pub(crate) fn narrowed<L: LabelSet>(
     Ok(narrow)
 }
 
-/// The letters of the block by which the edge may be taken, or may not be, as by this letter.
+/// The letters of the block by which the edge may be taken if it may be taken by this letter, and
+/// else those by which it may not; all of them where it is silent.
 fn cut<L: LabelSet>(alloc: Global, block: L, edge: &Edge<L>, letter: u32) -> Result<L, AllocError>
     requires { ForSome edge.now.label (λ set. length (L.letters set) ≡ length (L.letters block)) }
     ensures size { IfOk result (λ part. length (L.letters part) ≡ length (L.letters block)) }

@@ -21,23 +21,26 @@ use std::marker::Model;
 pub(crate) struct Block<L: LabelSet> {
     /// The least of the letters.
     pub(crate) letter: u32,
+    /// All of the letters.
     pub(crate) letters: L,
 }
 
-/// The letters of a set that are left, to be taken in blocks. Those that edges have by themselves come
-/// from the list of these edges, and are no work for the others. Contracts see the edges as they are
-/// sorted out, and the letters that are left.
+/// The letters of a set that are left, to be taken in blocks. Those that edges have by themselves
+/// come from the list of these edges, and cost nothing for the other edges. Contracts see the two
+/// lists of edges, and the letters that are left.
 #[derive(Drop)]
 pub(crate) struct Blocks<'a, L: LabelSet> {
-    // the letters at first
+    /// The letters at first.
     over: &'a L,
-    // the edges by one letter, in ascending order of it, and those of them that have not been passed
+    /// The edges by one letter, in ascending order of it.
     singles: &'a [LetterEdge],
+    /// Those of them that have not been passed: a tail of the list.
     coming: &'a [LetterEdge],
+    /// The edges whose labels have more letters than one, or none at all.
     others: &'a [&'a Edge<L>],
-    // the letters that are left and that no edge has by itself
+    /// The letters that are left and that no edge has by itself.
     rest: L,
-    // the least of these
+    /// The least of these, and `None` where there is none.
     least: Option<u32>,
 }
 
@@ -62,7 +65,8 @@ impl<'a, L: LabelSet> Model for Blocks<'a, L> {
 }
 
 impl<'a, L: LabelSet> Blocks<'a, L> {
-    /// All letters of the set are left.
+    /// All letters of the set are left. Time: a step for each edge by one letter, and a set
+    /// operation.
     pub(crate) fn new(
         alloc: Global,
         over: &'a L,
@@ -88,9 +92,9 @@ impl<'a, L: LabelSet> Blocks<'a, L> {
         })
     }
 
-    /// Takes the next block, that of the least letter that is left: those that are left by which the
-    /// same edges may be taken as by it. `None` where no letter is left. A letter that edges have by
-    /// themselves costs a step for each of these; any other, a set operation for each other edge.
+    /// Takes the next block: the least letter that is left, with those that are left by which the
+    /// same edges may be taken. `None` where no letter is left. Time: for a letter that edges have
+    /// by themselves a step for each of these; for any other a set operation for each other edge.
     pub(crate) fn next(&mut self, alloc: Global) -> Result<Option<Block<L>>, AllocError>
         ensures singles { self.new.singles ≡ self.old.singles }
         ensures others { self.new.others ≡ self.old.others }
@@ -112,7 +116,8 @@ impl<'a, L: LabelSet> Blocks<'a, L> {
         Ok(Some(Block { letter, letters }))
     }
 
-    /// Takes the least letter that is left, if edges have it by themselves.
+    /// Takes the least letter that is left, if edges have it by themselves. `None` where another
+    /// comes before it, or where no letter is left.
     fn next_single(&mut self) -> Option<u32>
         ensures singles { self.new.singles ≡ self.old.singles }
         ensures others { self.new.others ≡ self.old.others }
@@ -138,6 +143,7 @@ impl<'a, L: LabelSet> Blocks<'a, L> {
     }
 
     /// Takes the block of the least letter that no edge has by itself, before which none is left.
+    /// `None` where no letter is left.
     fn next_of_rest(&mut self, alloc: Global) -> Result<Option<Block<L>>, AllocError>
         requires { (k : ℕ) → has self.old.left k ≡ true → (j : ℕ) × (j ≤ k) × (has self.old.rest j ≡ true) }
         ensures singles { self.new.singles ≡ self.old.singles }
@@ -176,7 +182,7 @@ fn comes_before(letter: u32, other: Option<u32>) -> bool
     }
 }
 
-/// The letters of the set that none of the edges has.
+/// The letters of the set that none of the edges, each by one letter, has.
 fn without<L: LabelSet>(alloc: Global, set: &L, edges: &[LetterEdge]) -> Result<L, AllocError>
     requires { All (λ edge. edge.letter < length (L.letters set.now)) edges.now }
     ensures size { IfOk result (λ rest. length (L.letters rest) ≡ length (L.letters set.now)) }

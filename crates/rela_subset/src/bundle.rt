@@ -1,3 +1,4 @@
+//! Edges of which one leads to each end.
 ghost use Rattle.std.specs.Prelude.{◌≡◌, ℕ, ◌||◌, List, [], IfOk, length, map};
 ghost use Rattle.std.specs.List.{All};
 ghost use Rattle.std.specs.Option.{ForSome};
@@ -16,8 +17,9 @@ use std::marker::Model;
 /// edges.
 #[derive(Drop)]
 pub(crate) struct Bundle<L: LabelSet> {
+    /// The edges, in the order in which their ends came.
     edges: Vec<Edge<L>>,
-    // the place of the edge that leads to an end
+    /// For each end the place of the edge that leads to it.
     places: HashMap<usize, usize>,
 }
 
@@ -45,8 +47,8 @@ impl<L: LabelSet> Bundle<L> {
         }
     }
 
-    /// Puts an edge with this label to this end among the others: where one leads there, its label is
-    /// joined to that one's.
+    /// Puts an edge with this label to this end among the others: where one leads there, its label
+    /// is joined to that one's. Time: constant in expectation, and a set operation.
     pub(crate) fn put(&mut self, alloc: Global, label: L, to: usize) -> Result<(), AllocError>
         requires { All (λ move. ForSome move.label (λ set. length set ≡ length (L.letters label))) self.old }
         ensures { IfOk result (λ _. IsPutIn (L.letters label) to self.old self.new) }
@@ -68,7 +70,7 @@ impl<L: LabelSet> Bundle<L> {
         Ok(())
     }
 
-    /// The edges, without room for more: an automaton keeps them for each of its states.
+    /// The edges, in a vector without room for more: an automaton keeps one for each of its states.
     pub(crate) fn into_edges(self) -> Vec<Edge<L>>
         ensures { map (move_of L.letters) result.items ≡ self }
     {

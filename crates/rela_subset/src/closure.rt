@@ -14,8 +14,8 @@ use rela_nfa::{Edge, Nfa};
 use std::alloc::{AllocError, Global};
 
 /// The states that silent edges lead to from the starts, which are among them, in ascending order.
-/// The walk, in `visited`, looks once at each edge out of these states, and takes memory for the
-/// result alone.
+/// The walk, in `visited`, looks once at each edge out of these states, and the states are then
+/// sorted. Space: the result alone, once `visited` has room.
 pub(crate) fn closure<L: LabelSet>(
     alloc: Global,
     a: &Nfa<L>,
@@ -36,7 +36,7 @@ pub(crate) fn closure<L: LabelSet>(
     visited.sorted(alloc)
 }
 
-/// Puts those states behind the others that silent edges lead to from them.
+/// Puts those states behind the others that silent edges lead to from them: a breadth-first search.
 pub(crate) fn close<L: LabelSet>(a: &Nfa<L>, visited: &mut Visited) -> Result<(), AllocError>
     requires automaton { IsAutomaton a.now }
     requires count { visited.old.count ≡ states a.now }
@@ -53,7 +53,7 @@ pub(crate) fn close<L: LabelSet>(a: &Nfa<L>, visited: &mut Visited) -> Result<()
     Ok(())
 }
 
-/// Puts the ends of the silent edges with the others.
+/// Puts the ends of the silent edges behind the other states, unless they are among them.
 fn insert_silent_ends<L: LabelSet>(
     visited: &mut Visited,
     edges: &[Edge<L>],
@@ -68,8 +68,8 @@ fn insert_silent_ends<L: LabelSet>(
     Ok(())
 }
 
-/// Puts the end of the edge with the others, if it may be taken by the letter, or is silent where there is
-/// none.
+/// Puts the end of the edge behind the other states, unless it is among them, if the edge may be
+/// taken by the letter, or is silent where there is none.
 pub(crate) fn insert_end<L: LabelSet>(
     visited: &mut Visited,
     edge: &Edge<L>,

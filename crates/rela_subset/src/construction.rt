@@ -19,13 +19,20 @@ use rela_nfa::{BuildError, Edge, Nfa};
 use std::alloc::{AllocError, Global};
 
 /// The automaton over these letters whose states are the sets of states that words over the letters
-/// reach, the empty set among them if it is reached. It accepts the words over the letters that the
-/// given one accepts, and its states are numbered as words first arrive at them, in shortlex order.
+/// reach, the empty set among them if it is reached: the subset or powerset construction (M. Rabin
+/// and D. Scott, *Finite automata and their decision problems*, 1959). It accepts the words over
+/// the letters that the given one accepts, and its states are numbered as words first arrive at
+/// them, in shortlex order.
 ///
-/// `Limit` where there are more than `limit` such sets, so that `usize::MAX` is no limit. For each
-/// set found, the edges out of its states are sorted once, and the letters are split by their labels: a
-/// block costs a few set operations, one more for each of these edges that has more than one letter,
-/// and a walk through the states that follow.
+/// Time: for each set found, the edges out of its states are sorted once, and the letters are split
+/// by their labels: a block costs a few set operations, one more for each of these edges that has
+/// more than one letter, and a walk through the states that follow. Space: linear in the sets found
+/// and the edges between them. There may be exponentially many sets.
+///
+/// # Errors
+///
+/// - `Limit` exactly where there are more than `limit` such sets, so that `usize::MAX` is no limit.
+/// - `Memory` where there isn't memory for them.
 pub fn determinise<L: LabelSet>(
     alloc: Global,
     a: &Nfa<L>,
@@ -55,8 +62,8 @@ pub fn determinise<L: LabelSet>(
     Ok(dfa)
 }
 
-/// The edges out of each set of states that words over the letters reach. There are no sets before, and
-/// each is put behind the others as it is found.
+/// The edges out of each set of states that words over the letters reach. There are no sets before,
+/// and each is put behind the others as it is found. `Limit` where there are more than `limit`.
 fn explore_from_start<L: LabelSet>(
     alloc: Global,
     a: &Nfa<L>,
@@ -83,7 +90,8 @@ fn explore_from_start<L: LabelSet>(
     explore(alloc, a, over, sets, limit, &mut visited)
 }
 
-/// The edges out of each set, those among them that are found on the way.
+/// The edges out of each set, those among them that are found on the way, in the order of their
+/// numbers. `Limit` where there are more than `limit`.
 fn explore<L: LabelSet>(
     alloc: Global,
     a: &Nfa<L>,

@@ -1,3 +1,4 @@
+//! Copies of edges.
 ghost use Rattle.std.specs.Prelude.{◌≡◌, ◌+◌, IfOk, map};
 ghost use Rattle.rela_nfa.specs.Stored.{move_of, moves_in};
 
@@ -5,7 +6,7 @@ use rela_labels::LabelSet;
 use rela_nfa::Edge;
 use std::alloc::{AllocError, Global};
 
-/// The same edge.
+/// A copy of the edge.
 pub(crate) fn copy_edge<L: LabelSet>(alloc: Global, edge: &Edge<L>) -> Result<Edge<L>, AllocError>
     ensures { IfOk result (λ copy. move_of L.letters copy ≡ move_of L.letters edge.now) }
 {
@@ -19,7 +20,7 @@ pub(crate) fn copy_edge<L: LabelSet>(alloc: Global, edge: &Edge<L>) -> Result<Ed
     }
 }
 
-/// The same edges.
+/// Copies of the edges.
 pub(crate) fn copy_edges<L: LabelSet>(
     alloc: Global,
     edges: &[Edge<L>],
@@ -33,7 +34,7 @@ pub(crate) fn copy_edges<L: LabelSet>(
     Ok(copies)
 }
 
-/// The same edges of each state.
+/// Copies of the edges of each state.
 pub(crate) fn copy_all<L: LabelSet>(
     alloc: Global,
     edges: &[Vec<Edge<L>>],

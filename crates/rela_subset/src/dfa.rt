@@ -1,3 +1,4 @@
+//! What a deterministic automaton is, and what it tells of itself.
 ghost use Rattle.std.specs.Prelude.{◌≡◌, ℕ, ◌<◌, ◌↔◌, List, Bool, true, false, IsTrue, IfOk, Option, Some, length, map, not};
 ghost use Rattle.rela_labels.specs.Letters.{has};
 ghost use Rattle.rela_nfa.specs.Runs.{Reach, Accepts};
@@ -17,9 +18,13 @@ use std::marker::Model;
 /// each is in it.
 #[derive(Drop)]
 pub struct Dfa<L: LabelSet> {
+    /// The letters that are read.
     pub(crate) over: L,
+    /// The state from which words are read.
     pub(crate) start: usize,
+    /// For each state whether it is final.
     pub(crate) finals: Vec<bool>,
+    /// The edges that leave each state. Each has a label.
     pub(crate) edges: Vec<Vec<Edge<L>>>,
 }
 
@@ -36,7 +41,7 @@ impl<L: LabelSet> Model for Dfa<L> {
 }
 
 impl<L: LabelSet> Dfa<L> {
-    // the automaton of these parts
+    /// The automaton of these parts.
     pub(crate) fn new(over: L, start: usize, finals: Vec<bool>, edges: Vec<Vec<Edge<L>>>) -> Dfa<L>
         requires { IsDeterministic (deterministic L.letters (L.letters over) start finals.items edges.items) }
         ensures { result ≡ deterministic L.letters (L.letters over) start finals.items edges.items }
@@ -50,7 +55,7 @@ impl<L: LabelSet> Dfa<L> {
     }
 
     /// The automaton over these letters, with this start, and for each state whether it is final
-    /// and which edges leave it.
+    /// and which edges leave it. The edges are moved. Time and space: linear in the states.
     pub fn from_parts(
         alloc: Global,
         over: &L,
@@ -100,7 +105,7 @@ impl<L: LabelSet> Dfa<L> {
         self.start
     }
 
-    /// Whether a word that leads to the state is accepted.
+    /// Whether the state is final: a word that leads to it is accepted.
     pub fn is_final(&self, q: usize) -> bool
         requires { q < states self.now }
         ensures { IsTrue result ↔ IsFinal self.now q }
@@ -116,8 +121,8 @@ impl<L: LabelSet> Dfa<L> {
         self.edges[q].as_slice()
     }
 
-    /// The state to which the letter leads from the state, in the time of a look at each of its
-    /// edges.
+    /// The state to which the letter, one of `over`, leads from the state. Time: a look at each of
+    /// its edges.
     pub fn next(&self, q: usize, letter: u32) -> usize
         requires state { q < states self.now }
         requires letter { has self.now.over letter ≡ true }
@@ -127,7 +132,8 @@ impl<L: LabelSet> Dfa<L> {
         target_of(&self.edges[q], letter).unwrap()
     }
 
-    /// A copy of the automaton.
+    /// A copy of the automaton. Time and space: linear in the states and the edges, whose labels
+    /// are copied.
     pub(crate) fn copy(&self, alloc: Global) -> Result<Dfa<L>, AllocError>
         ensures { IfOk result (λ dfa. dfa ≡ self.now) }
     {
@@ -137,7 +143,8 @@ impl<L: LabelSet> Dfa<L> {
         Ok(Dfa::new(over, self.start, finals, edges))
     }
 
-    /// The same automaton, as one that need not be deterministic.
+    /// The same automaton, as one that need not be deterministic. Time and space: linear in the
+    /// states and the edges, whose labels are copied.
     pub fn to_nfa(&self, alloc: Global) -> Result<Nfa<L>, AllocError>
         ensures automaton { IfOk result (λ nfa. nfa ≡ automaton_of self.now) }
         ensures reach { IfOk result (λ nfa. (q : ℕ) (word : List ℕ) → Reach nfa q word ↔ LeadsTo self.now q word) }
@@ -147,8 +154,8 @@ impl<L: LabelSet> Dfa<L> {
         copy.into_nfa(alloc)
     }
 
-    /// The same automaton, as one that need not be deterministic. It takes the edges as they are, and
-    /// copies none.
+    /// The same automaton, as one that need not be deterministic. Its edges are moved. Time and
+    /// space: linear in the states and the edges.
     pub fn into_nfa(self, alloc: Global) -> Result<Nfa<L>, AllocError>
         ensures automaton { IfOk result (λ nfa. nfa ≡ automaton_of self) }
         ensures reach { IfOk result (λ nfa. (q : ℕ) (word : List ℕ) → Reach nfa q word ↔ LeadsTo self q word) }
@@ -166,7 +173,7 @@ impl<L: LabelSet> Dfa<L> {
     }
 }
 
-/// Where the first edge leads whose label has the letter.
+/// Where the first edge leads whose label has the letter, and `None` where none has it.
 fn target_of<L: LabelSet>(edges: &[Edge<L>], letter: u32) -> Option<usize>
     ensures { result ≡ target (map (move_of L.letters) edges.now) letter }
 {

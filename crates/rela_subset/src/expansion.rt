@@ -15,9 +15,10 @@ use rela_nfa::{BuildError, Edge, Nfa};
 use std::alloc::Global;
 
 /// The edges out of the set of this number, one for each set that follows it by a letter of `over`.
-/// Those sets are numbered. The letters are split by the labels of the edges out of the states of the
-/// set, and taken in blocks, that of the least letter first: a block of more letters costs a set
-/// operation for each of these edges that has more than one letter.
+/// Those sets are numbered: `Limit` where there are then more than `limit`. The letters are split
+/// by the labels of the edges out of the states of the set, and taken in blocks, that of the least
+/// letter first: a block of more letters costs a set operation for each of these edges that has
+/// more than one letter.
 pub(crate) fn expand<L: LabelSet>(
     alloc: Global,
     a: &Nfa<L>,

@@ -9,14 +9,16 @@ ghost use Rattle.rela_subset.specs.Splitting.{letters_left};
 use rela_labels::LabelSet;
 use std::alloc::{AllocError, Global};
 
-/// An edge by one letter alone: the letter, and the state to which it leads.
+/// An edge by one letter alone.
 #[derive(Clone, Copy, Debug)]
 pub(crate) struct LetterEdge {
+    /// The letter.
     pub(crate) letter: u32,
+    /// The state to which it leads.
     pub(crate) to: usize,
 }
 
-/// The edges in ascending order of their letters.
+/// The edges in ascending order of their letters. Time: that of a sort.
 pub(crate) fn sorted_by_letter(edges: Vec<LetterEdge>) -> Vec<LetterEdge>
     ensures same { IsPermutation edges.items result.items }
     ensures rising { IsNonDecreasingBy (λ edge. edge.letter) result.items }
@@ -26,7 +28,7 @@ pub(crate) fn sorted_by_letter(edges: Vec<LetterEdge>) -> Vec<LetterEdge>
     sorted
 }
 
-/// The letters of the edges.
+/// The set of the letters of the edges, all below `size`. Time: linear in the edges.
 pub(crate) fn letters_of<L: LabelSet>(
     alloc: Global,
     size: u32,
@@ -63,7 +65,7 @@ fn place_of(edges: &[LetterEdge], letter: u32) -> usize
     edges.partition_point(|edge| edge.letter < letter)
 }
 
-/// How many of the edges have a lesser letter or this one.
+/// How many of the edges have this letter or a lesser one.
 fn place_after(edges: &[LetterEdge], letter: u32) -> usize
     requires { IsNonDecreasingBy (λ edge. edge.letter) edges.now }
     ensures parted { IsPartitionPoint (λ edge. edge.letter ≤ letter) (λ edge. letter < edge.letter) edges.now result }
@@ -72,7 +74,8 @@ fn place_after(edges: &[LetterEdge], letter: u32) -> usize
     edges.partition_point(|edge| edge.letter <= letter)
 }
 
-/// The edges from the first on whose letter is in the set.
+/// The edges from the first one on whose letter is in the set. Time: a step for each edge before
+/// it.
 pub(crate) fn from_letter_in<'a, L: LabelSet>(edges: &'a [LetterEdge], set: &L) -> &'a [LetterEdge]
     requires { IsNonDecreasingBy (λ edge. edge.letter) edges.now }
     ensures rising { IsNonDecreasingBy (λ edge. edge.letter) result.now }
@@ -90,7 +93,7 @@ pub(crate) fn from_letter_in<'a, L: LabelSet>(edges: &'a [LetterEdge], set: &L) 
     coming
 }
 
-/// The edges behind those by this letter, which come first.
+/// The edges behind those by this letter, which come first. Time: a step for each of these.
 pub(crate) fn past_letter(edges: &[LetterEdge], letter: u32) -> &[LetterEdge]
     requires rising { IsNonDecreasingBy (λ edge. edge.letter) edges.now }
     requires first { All (λ edge. letter ≤ edge.letter) edges.now }
@@ -109,7 +112,7 @@ pub(crate) fn past_letter(edges: &[LetterEdge], letter: u32) -> &[LetterEdge]
     coming
 }
 
-/// The set of this letter alone.
+/// The set, of this size, of this letter alone.
 pub(crate) fn alone<L: LabelSet>(alloc: Global, size: u32, letter: u32) -> Result<L, AllocError>
     requires fits { L.fits size }
     requires below { letter < size }
@@ -121,7 +124,7 @@ pub(crate) fn alone<L: LabelSet>(alloc: Global, size: u32, letter: u32) -> Resul
     Ok(set)
 }
 
-/// The letter of the label, if it has just one.
+/// The letter of the label, if it has just one, and else `None`.
 pub(crate) fn only_letter<L: LabelSet>(alloc: Global, label: &L) -> Result<Option<u32>, AllocError>
     ensures only { IfOk result (λ only. IfSome only (λ letter. IsAlone (L.letters label.now) letter)) }
     ensures below { IfOk result (λ only. IfSome only (λ letter. letter < length (L.letters label.now))) }

@@ -1,5 +1,5 @@
-//! Deterministic automata: the sets of states that an automaton reaches, the first word that reaches
-//! a wanted one, and the complement.
+//! Deterministic automata: the sets of states that an automaton reaches, the first word that
+//! reaches a wanted one, and the complement. An `AllocError` comes only where memory is refused.
 #![tactic(auto)]
 
 mod alike;

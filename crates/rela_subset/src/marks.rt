@@ -1,15 +1,16 @@
+//! Marks that are all cleared at once.
 ghost use Rattle.std.specs.Prelude.{◌≡◌, ℕ, ◌<◌, true, false, IfOk, length, replicate, slice_index_or, slice_set};
 
 use std::alloc::{AllocError, Global};
 use std::marker::Model;
 
-/// A mark on each number below a bound, or none; all are cleared at once. Contracts see them as the
-/// list of flags, whether each number is marked.
+/// For each number below a bound whether it is marked; all marks are cleared at once. Contracts see
+/// them as the list of flags, whether each number is marked.
 #[derive(Drop)]
 pub(crate) struct Marks {
-    // for each number the stamp with which it was marked last, or 0
+    /// For each number the stamp with which it was marked last, or 0 where it never was.
     stamps: Vec<u32>,
-    // the stamp of the marks since the last clearing: those before it had lower ones
+    /// The stamp of the marks since the last clearing: those before it had lower ones.
     stamp: u32,
 }
 
@@ -25,7 +26,7 @@ impl Model for Marks {
 }
 
 impl Marks {
-    /// No number below the bound is marked.
+    /// No number below the bound is marked. Time and space: linear in the bound.
     pub(crate) fn new(alloc: Global, bound: usize) -> Result<Marks, AllocError>
         ensures { IfOk result (λ marks. marks ≡ replicate bound false) }
     {
@@ -33,7 +34,8 @@ impl Marks {
         Ok(Marks { stamps, stamp: 1 })
     }
 
-    /// Takes all marks away: a step, but for one of 2^32 calls, which goes over all numbers.
+    /// Takes all marks away. Time: constant, but for one of 2^32 calls, which goes over all
+    /// numbers.
     pub(crate) fn clear(&mut self)
         ensures { self.new ≡ replicate (length self.old) false }
     {

@@ -1,3 +1,4 @@
+//! Complements.
 ghost use Rattle.std.specs.Prelude.{◌≡◌, ℕ, ◌↔◌, IfOk, List, map, not};
 ghost use Rattle.rela_subset.specs.Deterministic.{IsAccepted, IsOver, state_after};
 
@@ -6,7 +7,8 @@ use rela_labels::LabelSet;
 use std::alloc::{AllocError, Global};
 
 /// The automaton with the same states and edges that accepts the words over the same letters which
-/// the given one doesn't accept.
+/// the given one doesn't accept. Time and space: linear in the states and the edges, whose labels
+/// are copied.
 pub fn complement<L: LabelSet>(alloc: Global, dfa: &Dfa<L>) -> Result<Dfa<L>, AllocError>
     ensures over { IfOk result (λ other. other.over ≡ dfa.now.over) }
     ensures start { IfOk result (λ other. other.start ≡ dfa.now.start) }
@@ -20,8 +22,9 @@ pub fn complement<L: LabelSet>(alloc: Global, dfa: &Dfa<L>) -> Result<Dfa<L>, Al
 }
 
 impl<L: LabelSet> Dfa<L> {
-    /// The automaton with the same states and edges that accepts the words over the same letters which
-    /// this one doesn't accept, as by [`complement`]. It takes the edges as they are, and copies none.
+    /// The automaton with the same states and edges that accepts the words over the same letters
+    /// which this one doesn't accept, as by [`complement`]. Its edges are moved. Time and space:
+    /// linear in the states.
     pub fn into_complement(self, alloc: Global) -> Result<Dfa<L>, AllocError>
         ensures over { IfOk result (λ other. other.over ≡ self.over) }
         ensures start { IfOk result (λ other. other.start ≡ self.start) }
@@ -41,7 +44,7 @@ impl<L: LabelSet> Dfa<L> {
     }
 }
 
-/// The opposite of each.
+/// The opposite of each flag.
 fn others(alloc: Global, flags: &[bool]) -> Result<Vec<bool>, AllocError>
     ensures { IfOk result (λ others. others.items ≡ map not flags.now) }
 {

@@ -17,14 +17,16 @@ use rela_nfa::{Edge, Nfa};
 use std::alloc::{AllocError, Global};
 use std::marker::Model;
 
-/// The edges of an automaton out of a set of its states, but for the silent ones. Those by one letter
-/// alone are most, and stand apart: they are no work for another letter. Contracts see the automaton,
-/// and the two lists of edges.
+/// The edges of an automaton out of a set of its states, but for the silent ones. Those by one
+/// letter alone are most, and stand apart, since they don't matter to any other letter. Contracts
+/// see the automaton, and the two lists of edges.
 #[derive(Drop)]
 pub(crate) struct Outgoing<'a, L: LabelSet> {
+    /// The automaton.
     a: &'a Nfa<L>,
-    // the edges by one letter, in ascending order of it
+    /// The edges by one letter, in ascending order of it.
     singles: Vec<LetterEdge>,
+    /// The edges whose labels have more letters than one, or none at all.
     others: Vec<&'a Edge<L>>,
 }
 
@@ -45,7 +47,7 @@ impl<'a, L: LabelSet> Model for Outgoing<'a, L> {
 }
 
 impl<'a, L: LabelSet> Outgoing<'a, L> {
-    /// The edges out of the states of the set. It takes the time of a sort.
+    /// The edges out of the states of the set. Time: n log n in the edges.
     pub(crate) fn new(
         alloc: Global,
         a: &'a Nfa<L>,
@@ -79,8 +81,9 @@ impl<'a, L: LabelSet> Outgoing<'a, L> {
         Blocks::new(alloc, over, &self.singles, &self.others)
     }
 
-    /// The states that follow by the letter, with those that silent edges then lead to, in ascending
-    /// order. It looks at the edges by this letter, and at each edge by more than one.
+    /// The states that follow by the letter, with those that silent edges then lead to, in
+    /// ascending order. Time: two binary searches, a look at each edge by this letter alone, at
+    /// each by more than one and at each silent edge on the way, and a sort of the states.
     pub(crate) fn following(
         &self,
         alloc: Global,
@@ -100,7 +103,7 @@ impl<'a, L: LabelSet> Outgoing<'a, L> {
     }
 }
 
-/// Puts the edges, but for the silent ones, behind those by one letter and behind the others.
+/// Puts the edges, but for the silent ones, behind those by one letter or behind the others.
 fn sort_out<'a, L: LabelSet>(
     alloc: Global,
     edges: &'a [Edge<L>],
@@ -116,7 +119,7 @@ fn sort_out<'a, L: LabelSet>(
     Ok(())
 }
 
-/// The same for one edge.
+/// Puts the edge, unless it is silent, behind those by one letter or behind the others.
 fn sort_out_one<'a, L: LabelSet>(
     alloc: Global,
     edge: &'a Edge<L>,
@@ -139,7 +142,7 @@ fn sort_out_one<'a, L: LabelSet>(
     Ok(())
 }
 
-/// Puts the ends of the edges with the others.
+/// Puts the ends of the edges behind the other states, unless they are among them.
 fn insert_singles(visited: &mut Visited, edges: &[LetterEdge]) -> Result<(), AllocError>
     requires { All (λ edge. edge.to < visited.old.count) edges.now }
     ensures adds { IfOk result (λ _. Adds (λ q. (k : ℕ) × HasEnd edges.now k q) visited.old.states visited.new.states) }
@@ -151,7 +154,8 @@ fn insert_singles(visited: &mut Visited, edges: &[LetterEdge]) -> Result<(), All
     Ok(())
 }
 
-/// Puts the ends of those edges that may be taken by the letter with the others.
+/// Puts the ends of those edges that may be taken by the letter behind the other states, unless
+/// they are among them.
 fn insert_others<L: LabelSet>(
     visited: &mut Visited,
     edges: &[&Edge<L>],

@@ -20,8 +20,8 @@ use std::alloc::{AllocError, Global};
 
 /// The first word over these letters, in shortlex order, for which the set of the states that it
 /// reaches is wanted, and `None` where there is no such word. Sets are found as by
-/// [`determinise`](crate::determinise), and looked at as they are found: the search ends at the
-/// first that is wanted.
+/// [`determinise`](crate::determinise), at the same cost for each, and looked at as they are found:
+/// the search ends at the first that is wanted.
 ///
 /// # Errors
 ///
@@ -53,8 +53,9 @@ pub fn first_word<L: LabelSet, W: Wanted>(
     }
 }
 
-/// The number of the first wanted set. There are no sets before, and each is put behind the others as
-/// it is found, and how it was found behind the arrivals.
+/// The number of the first wanted set, and `None` where there is none. There are no sets before,
+/// and each is put behind the others as it is found, and how it was found behind the arrivals.
+/// `Limit` where there are more than `limit` before a wanted one.
 fn search_from_start<L: LabelSet, W: Wanted>(
     alloc: Global,
     a: &Nfa<L>,
@@ -83,8 +84,9 @@ fn search_from_start<L: LabelSet, W: Wanted>(
     search(alloc, a, over, wanted, sets, arrivals, limit, &mut visited)
 }
 
-/// The number of the first wanted set. The sets found on the way are put behind the others, and how
-/// they were found behind the arrivals.
+/// The number of the first wanted set, and `None` where there is none. The sets found on the way
+/// are put behind the others, and how they were found behind the arrivals. `Limit` where there are
+/// more than `limit` before a wanted one.
 fn search<L: LabelSet, W: Wanted>(
     alloc: Global,
     a: &Nfa<L>,
@@ -126,7 +128,7 @@ fn search<L: LabelSet, W: Wanted>(
     Ok(None)
 }
 
-/// The number of the first wanted set from this number on.
+/// The number of the first wanted set from this number on, and `None` where there is none.
 fn first_wanted<W: Wanted>(wanted: &W, sets: &StateSets, from: usize) -> Option<usize>
     requires { from ≤ length sets.now }
     ensures none { IfNone result ((i : ℕ) → from ≤ i → i < length sets.now → ¬ W.wants wanted.now (slice_index_or sets.now i [])) }
@@ -143,6 +145,7 @@ fn first_wanted<W: Wanted>(wanted: &W, sets: &StateSets, from: usize) -> Option<
 }
 
 /// The word by which the set of this number was found, read back from the last letter to the first.
+/// Time: linear in the word.
 fn word_of(alloc: Global, arrivals: &[Arrival], number: usize) -> Result<Word, AllocError>
     requires number { number ≤ length arrivals.now }
     requires earlier { (i : ℕ) (e : Arrival) → i < length arrivals.now → (slice_index_or arrivals.now i e).from ≤ i }

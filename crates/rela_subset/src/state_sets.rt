@@ -1,3 +1,4 @@
+//! Sets of states, and their numbers.
 ghost use Rattle.std.specs.Prelude.{◌≡◌, ◌⊎◌, ℕ, ◌+◌, ◌^◌, ◌<◌, ◌≤◌, List, [], ◌∷◌, ◌++◌, IfOk, IfErr, length, slice_index_or};
 ghost use Rattle.rela_subset.specs.Sets.{AreDistinct};
 
@@ -10,6 +11,7 @@ use std::marker::Model;
 /// as the list of these lists.
 #[derive(Drop)]
 pub(crate) struct StateSets {
+    /// The lists, in the order of their numbers, and a hash table of these.
     sets: IndexSet<Vec<usize>>,
 }
 
@@ -51,8 +53,9 @@ impl StateSets {
         self.sets.as_slice()[number].as_slice()
     }
 
-    /// The number of the set, which is put behind the others where it isn't among them. `Limit` where
-    /// there are then more than `limit`.
+    /// The number of the set, which is put behind the others where it isn't among them. `Limit`
+    /// where there are then more than `limit`, and `Memory` where there isn't memory for it. Time:
+    /// linear in the set, in expectation.
     pub(crate) fn number(&mut self, set: Vec<usize>, limit: usize) -> Result<usize, BuildError>
         requires { length self.old ≤ limit }
         ensures at { IfOk result (λ number. slice_index_or self.new number [] ≡ set.items) }

@@ -1,3 +1,4 @@
+//! Properties of sets of states.
 ghost use Rattle.std.specs.Prelude.{ℕ, ◌↔◌, List, IsTrue};
 
 /// A property of sets of states. Contracts see a set as the list of its states in ascending order.

@@ -1,3 +1,4 @@
+//! The composition of two transducers.
 ghost use Rattle.std.specs.Prelude.{◌≡◌, ◌≢◌, ℕ, ◌<◌, ◌≤◌, ◌↔◌, List, IfOk, IfErr, map, length, vec_len};
 ghost use Rattle.std.specs.List.{All, range_with_len};
 ghost use Rattle.rela_pairs.specs.Exploration.{NumbersNext};
@@ -39,7 +40,7 @@ fn joint_moves<L: LabelSet>(
     Ok(joint)
 }
 
-/// The moves with the numbers of the pairs to which they lead.
+/// The moves with the numbers of the pairs to which they lead, in their order.
 fn numbered_moves<L: LabelSet>(
     alloc: Global,
     mut joint: Vec<JointMove<L>>,
@@ -59,10 +60,13 @@ fn numbered_moves<L: LabelSet>(
     Ok(moves)
 }
 
-/// Two transducers over the same letters, of which pairs of states follow pairs of states.
+/// Two transducers over the same letters, the second of which reads what the first writes: pairs of
+/// their states follow pairs of their states.
 #[derive(Drop)]
 struct Composing<'a, L: LabelSet> {
+    /// The transducer of the left states, which writes the words in the middle.
     first: &'a Transducer<L>,
+    /// The transducer of the right states, which reads them.
     second: &'a Transducer<L>,
 }
 
@@ -144,12 +148,15 @@ fn product_moves<L: LabelSet>(
 impl<L: LabelSet> Transducer<L> {
     /// The pairs of an input of `self` and an output of `other` that some word in the middle joins:
     /// `self` writes it, and `other` reads it. Each state is a pair of states that some word in the
-    /// middle leads to, and is reached by just the pairs of words that have one.
+    /// middle leads to, and is reached by just the pairs of words that have one (J. Berstel,
+    /// *Transductions and Context-Free Languages*, 1979). Time: for each such pair the product of
+    /// the numbers of moves that leave its two states, each with a meet of two sets; space: linear
+    /// in the pairs and the moves of the result.
     ///
     /// # Errors
     ///
-    /// - `Limit` exactly where more than `limit` pairs are reached by one word in the middle; never for
-    ///   the greatest limit.
+    /// - `Limit` exactly where more than `limit` pairs are reached by one word in the middle; never
+    ///   for the greatest limit.
     /// - `Memory` where there isn't memory for them.
     pub fn compose(
         &self,

@@ -1,3 +1,4 @@
+//! Copies of transducers within larger ones.
 ghost use Rattle.std.specs.Prelude.{◌≡◌, ◌+◌, ◌<◌, ◌≤◌, ◌^◌, ◌++◌, IfOk, OnOk, map};
 ghost use Rattle.std.specs.List.{All};
 ghost use Rattle.rela_trans.specs.Machine.{machine_states};

@@ -11,7 +11,7 @@ use crate::transducer::Transducer;
 use rela_labels::LabelSet;
 use std::alloc::{AllocError, Global};
 
-/// Where the only move leads, if it is silent.
+/// Where the only move leads, if it is silent, and else `None`.
 fn only_silent<L: LabelSet>(moves: &[Move<L>]) -> Option<usize>
     ensures { (r : ℕ) → result ≡ Some r ↔ map (move_of L.letters) moves.now ≡ silent r ∷ [] }
 {
@@ -33,8 +33,8 @@ fn next<L: LabelSet>(transducer: &Transducer<L>, q: usize) -> usize
     only_silent(transducer.moves(q)).unwrap_or(q)
 }
 
-/// Goes on by detours from the state to one that has been passed. Each state on the way is flagged, and
-/// put into the path.
+/// Goes on by detours from the state to one that has been passed, and gives that one. Each state on
+/// the way is flagged, and put into the path.
 fn walk<L: LabelSet>(
     transducer: &Transducer<L>,
     q: usize,
@@ -56,7 +56,7 @@ fn walk<L: LabelSet>(
     Ok(end)
 }
 
-/// Writes the end at the place of each state of the path.
+/// Writes the end for each state of the path.
 fn settle(ends: &mut [usize], path: &[usize], end: usize)
     requires { All (λ p. p < length ends.old) path.now }
     ensures settled { (p : ℕ) → Contains path.now p → slice_index ends.new p ≡ end }
@@ -67,7 +67,7 @@ fn settle(ends: &mut [usize], path: &[usize], end: usize)
     }
 }
 
-/// Each of so many numbers.
+/// The numbers below `count`, in order.
 fn numbers(alloc: Global, count: usize) -> Result<Vec<usize>, AllocError>
     ensures count { IfOk result (λ numbers. length numbers.items ≡ count) }
     ensures each { IfOk result (λ numbers. (q : ℕ) → q < count → slice_index numbers.items q ≡ q) }
@@ -79,8 +79,8 @@ fn numbers(alloc: Global, count: usize) -> Result<Vec<usize>, AllocError>
     Ok(numbers)
 }
 
-/// For each state the end of the detours that lead from it. Each state is passed once, whatever the
-/// length of the chains.
+/// For each state the end of the detours that lead from it; itself where it is no detour. Each
+/// state is passed once, whatever the length of the chains. Time and space: linear in the states.
 pub(crate) fn detour_ends<L: LabelSet>(
     alloc: Global,
     transducer: &Transducer<L>,

@@ -1,3 +1,4 @@
+//! The automaton of what a transducer writes for the words of an automaton.
 ghost use Rattle.std.specs.Prelude.{◌≡◌, ◌<◌, [], IfOk, OnOk, map, length};
 ghost use Rattle.std.specs.List.{All, range_with_len};
 ghost use Rattle.std.specs.Option.{ForSome, option_map};
@@ -18,7 +19,7 @@ use rela_nfa::{Edge, EdgeLists, Nfa, add_directed, add_silent};
 use rela_pairs::{Explored, Pair};
 use std::alloc::{AllocError, Global};
 
-/// The label by what a move of this kind writes.
+/// What a move of this kind writes, as a label: `None` where it writes nothing.
 fn written_label<L: LabelSet>(kind: MoveKind<L>) -> Option<L>
     ensures { option_map L.letters result ≡ written_label (kind_of L.letters kind) }
 {
@@ -30,7 +31,8 @@ fn written_label<L: LabelSet>(kind: MoveKind<L>) -> Option<L>
     }
 }
 
-/// Adds an edge by what a move of this kind writes, where there is one, to the next of the targets.
+/// Adds an edge by what a move of this kind writes, where there is a kind, to the next of the
+/// targets.
 fn add_written<L: LabelSet>(
     edges: &mut Vec<Edge<L>>,
     kind: Option<MoveKind<L>>,
@@ -44,7 +46,7 @@ fn add_written<L: LabelSet>(
     Ok(())
 }
 
-/// Adds what the transducer writes alone by these moves.
+/// Adds what the transducer does by these moves while the automaton stays: they read nothing.
 fn add_alone<L: LabelSet>(
     alloc: Global,
     edges: &mut Vec<Edge<L>>,
@@ -60,7 +62,8 @@ fn add_alone<L: LabelSet>(
     Ok(())
 }
 
-/// Adds what is written by a letter of the edge that the move reads, where there is one.
+/// Adds an edge by what the move writes where it reads a letter of the automaton's edge, if it
+/// reads one, to the next of the targets.
 fn add_if_read<L: LabelSet>(
     alloc: Global,
     edges: &mut Vec<Edge<L>>,
@@ -79,7 +82,8 @@ fn add_if_read<L: LabelSet>(
     Ok(())
 }
 
-/// Adds what is written by letters of the edge that the moves read.
+/// Adds an edge for each of the moves that reads a letter of the automaton's edge, by what it
+/// writes then, to the next of the targets.
 fn add_read<L: LabelSet>(
     alloc: Global,
     edges: &mut Vec<Edge<L>>,
@@ -97,8 +101,8 @@ fn add_read<L: LabelSet>(
     Ok(())
 }
 
-/// Adds the edges by what is written from a pair of states on, to these numbers of the pairs to which
-/// they lead. There are none before.
+/// Adds the edges by what is written from a pair of states on, to these numbers of the pairs to
+/// which they lead, in the order in which the pairs were found to follow. There are none before.
 fn add_edges_from<L: LabelSet>(
     alloc: Global,
     edges: &mut Vec<Edge<L>>,

@@ -1,3 +1,4 @@
+//! The pairs of states to which an automaton and a transducer that reads its words go together.
 ghost use Rattle.std.specs.Prelude.{◌≡◌, ◌<◌, ◌++◌, OnOk, map, length};
 ghost use Rattle.std.specs.List.{All};
 ghost use Rattle.std.specs.Option.{ForSome, option_map};
@@ -21,7 +22,9 @@ use std::alloc::{AllocError, Global};
 /// follow pairs of their states.
 #[derive(Drop)]
 pub(crate) struct ReadingSources<'a, L: LabelSet> {
+    /// The automaton of the left states, whose words are read.
     pub(crate) source: &'a Nfa<L>,
+    /// The transducer of the right states.
     pub(crate) transducer: &'a Transducer<L>,
 }
 
@@ -48,7 +51,9 @@ impl<'a, L: LabelSet> Successors for ReadingSources<'a, L> {
     }
 }
 
-/// Adds the pairs to which the two go together from a pair of their states.
+/// Adds the pairs to which the two go together from a pair of their states: first where the
+/// automaton goes silently, then where the transducer goes alone, and then where it reads a letter
+/// of an edge.
 fn add_followers<L: LabelSet>(
     alloc: Global,
     followers: &mut Vec<Pair>,
@@ -104,7 +109,7 @@ fn add_silent<L: LabelSet>(
     Ok(())
 }
 
-/// Adds the pair where a move of some kind leads there.
+/// Adds the pair where there is a kind of move that leads there.
 fn add_made<L: LabelSet>(
     followers: &mut Vec<Pair>,
     kind: &Option<MoveKind<L>>,
@@ -118,7 +123,7 @@ fn add_made<L: LabelSet>(
     Ok(())
 }
 
-/// Adds the pairs to which the transducer goes alone.
+/// Adds the pairs to which the transducer goes alone, reading nothing.
 fn add_alone<L: LabelSet>(
     alloc: Global,
     followers: &mut Vec<Pair>,

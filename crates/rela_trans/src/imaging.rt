@@ -1,3 +1,4 @@
+//! Images of automata under transducers, and whether a pair of words is related.
 ghost use Rattle.std.specs.Prelude.{◌≡◌, ◌≢◌, ℕ, ◌<◌, ◌≤◌, ◌↔◌, List, IsTrue, IfOk, IfErr, map};
 ghost use Rattle.std.specs.List.{All};
 ghost use Rattle.rela_nfa.specs.Automaton.{states};
@@ -16,14 +17,16 @@ use rela_nfa::Nfa;
 use rela_pairs::{BuildError, Pair, explore};
 use std::alloc::{AllocError, Global};
 
-/// The words that the transducer writes where it reads a word of the automaton, the source. Each state
-/// is a pair of states that some source leads to, and is reached by just the words that are written
-/// from such a source.
+/// The words that the transducer writes where it reads a word of the automaton, the source. Each
+/// state is a pair of states that some source leads to, and is reached by just the words that are
+/// written from such a source. Time: for each such pair the product of the numbers of edges and
+/// moves that leave its two states, each with a meet of two sets; space: linear in the pairs and
+/// the edges of the result.
 ///
 /// # Errors
 ///
-/// - `Limit` exactly where more than `limit` pairs are reached by one source; never for the greatest
-///   limit.
+/// - `Limit` exactly where more than `limit` pairs are reached by one source; never for the
+///   greatest limit.
 /// - `Memory` where there isn't memory for them.
 pub fn image<L: LabelSet>(
     alloc: Global,
@@ -58,7 +61,7 @@ pub fn image<L: LabelSet>(
     Ok(Nfa::from_lists(a.letters(), 0, finals, edges))
 }
 
-/// Whether each number of the word is a letter.
+/// Whether each number of the word is a letter. Time: linear in the word.
 pub fn are_letters(word: &[u32], letters: u32) -> bool
     ensures { IsTrue result ↔ All (λ k. k < letters) word.now }
 {
@@ -66,7 +69,10 @@ pub fn are_letters(word: &[u32], letters: u32) -> bool
 }
 
 impl<L: LabelSet> Transducer<L> {
-    /// Whether the pair of words of letters is related. None is with a number that is no letter.
+    /// Whether the pair of words of letters is related: `u` is read, and `v` is written. None is
+    /// with a number that is no letter. Time: that of the [`image`] of the word `u` and of
+    /// accepting `v` by it, so at most linear in the product of the words' lengths and the size of
+    /// the transducer, in set operations; space: that of the image.
     pub fn relates(&self, alloc: Global, u: &[u32], v: &[u32]) -> Result<bool, AllocError>
         ensures { IfOk result (λ related. IsTrue related ↔ Relates (λ k. k) self.now u.now v.now) }
     {

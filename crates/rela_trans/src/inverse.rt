@@ -1,3 +1,4 @@
+//! The inverse of a transducer.
 ghost use Rattle.std.specs.Prelude.{◌≡◌, ℕ, ◌↔◌, List, IfOk, map};
 ghost use Rattle.rela_trans.specs.Construction.{turned_move};
 ghost use Rattle.rela_trans.specs.Machine.{machine_states};
@@ -9,7 +10,7 @@ use crate::transducer::Transducer;
 use rela_labels::LabelSet;
 use std::alloc::{AllocError, Global};
 
-/// Each of the moves with what it reads and what it writes exchanged.
+/// Copies of the moves, with what they read and what they write exchanged.
 fn turned_moves<L: LabelSet>(alloc: Global, moves: &[Move<L>]) -> Result<Vec<Move<L>>, AllocError>
     ensures { IfOk result (λ new. map (move_of L.letters) new.items ≡ map turned_move (map (move_of L.letters) moves.now)) }
 {
@@ -20,7 +21,7 @@ fn turned_moves<L: LabelSet>(alloc: Global, moves: &[Move<L>]) -> Result<Vec<Mov
     Ok(new)
 }
 
-/// The moves of each state with what they read and what they write exchanged.
+/// Copies of the moves of each state, with what they read and what they write exchanged.
 fn turned_lists<L: LabelSet>(
     alloc: Global,
     lists: &[Vec<Move<L>>],
@@ -35,7 +36,8 @@ fn turned_lists<L: LabelSet>(
 }
 
 impl<L: LabelSet> Transducer<L> {
-    /// The pairs of `self` turned round. The states are the same.
+    /// The pairs of `self` turned round. The states are the same. Time and space: linear in the
+    /// states and the moves, whose sets are copied.
     pub fn inverse(&self, alloc: Global) -> Result<Transducer<L>, AllocError>
         ensures letters { IfOk result (λ t. t.letters ≡ self.now.letters) }
         ensures states { IfOk result (λ t. machine_states t ≡ machine_states self.now) }

@@ -1,3 +1,4 @@
+//! The moves that two transducers make together, of which the second reads what the first writes.
 ghost use Rattle.std.specs.Prelude.{◌≡◌, ℕ, ◌<◌, ◌++◌, IfOk, OnOk, map, length};
 ghost use Rattle.std.specs.List.{All};
 ghost use Rattle.std.specs.Option.{option_map};
@@ -14,18 +15,20 @@ use std::alloc::{AllocError, Global};
 /// A move of two transducers, of which the second reads what the first writes.
 #[derive(Drop)]
 pub(crate) struct JointMove<L> {
+    /// What the first reads, and the second writes.
     pub(crate) kind: MoveKind<L>,
+    /// The pair of states to which it leads.
     pub(crate) to: Pair,
 }
 
-/// The letters of the set, unless there are none.
+/// The set, and `None` where it is empty.
 fn unless_empty<L: LabelSet>(set: L) -> Option<L>
     ensures { option_map L.letters result ≡ unless_empty (L.letters set) }
 {
     if set.is_empty() { None } else { Some(set) }
 }
 
-/// The letters that are in both sets, unless there are none.
+/// The letters that are in both sets, and `None` where there are none.
 fn common_letters<L: LabelSet>(
     alloc: Global,
     first: &L,
@@ -37,7 +40,8 @@ fn common_letters<L: LabelSet>(
     Ok(unless_empty(first.meet(alloc, second)?))
 }
 
-/// What the first transducer does alone by a move of this kind: it writes nothing.
+/// What the first transducer does alone by a move of this kind, and `None` where it writes
+/// something, which the second would have to read, or where its set is empty.
 fn first_alone<L: LabelSet>(
     alloc: Global,
     kind: &MoveKind<L>,
@@ -52,7 +56,8 @@ fn first_alone<L: LabelSet>(
     }
 }
 
-/// What the second transducer does alone by a move of this kind: it reads nothing.
+/// What the second transducer does alone by a move of this kind, and `None` where it reads
+/// something, which the first would have to write, or where its set is empty.
 pub(crate) fn second_alone<L: LabelSet>(
     alloc: Global,
     kind: &MoveKind<L>,
@@ -67,7 +72,8 @@ pub(crate) fn second_alone<L: LabelSet>(
     }
 }
 
-/// What both do where the first reads nothing and writes a letter, which the second reads.
+/// What both do where the first reads nothing and writes a letter of `written`, and the second
+/// reads it by a move of this kind: `None` where it reads no such letter.
 fn after_out<L: LabelSet>(
     alloc: Global,
     written: &L,
@@ -84,7 +90,8 @@ fn after_out<L: LabelSet>(
     }
 }
 
-/// What both do where the first writes the letter that it reads.
+/// What both do where the first reads a letter of `written` and writes it again, and the second
+/// reads it by a move of this kind: `None` where it reads no such letter.
 pub(crate) fn after_same<L: LabelSet>(
     alloc: Global,
     written: &L,
@@ -101,7 +108,8 @@ pub(crate) fn after_same<L: LabelSet>(
     }
 }
 
-/// What both do by a letter that the first writes and the second reads, where there is one.
+/// What both do by a letter that the first writes and the second reads, and `None` where there is
+/// none.
 fn both_by_letter<L: LabelSet>(
     alloc: Global,
     first: &MoveKind<L>,
@@ -118,7 +126,7 @@ fn both_by_letter<L: LabelSet>(
     }
 }
 
-/// Adds a move of this kind, where there is one.
+/// Adds a move of this kind to the pair, where there is a kind.
 fn add_made<L: LabelSet>(
     joint: &mut Vec<JointMove<L>>,
     kind: Option<MoveKind<L>>,

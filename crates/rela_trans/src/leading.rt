@@ -1,4 +1,4 @@
-//! The states from which moves lead on to a final one.
+//! The states from which moves lead on to a final one, which the literature calls coaccessible.
 ghost use Rattle.std.specs.Prelude.{◌≡◌, ◌⊎◌, ℕ, ◌<◌, ◌↔◌, List, [], false, IsTrue, IfOk, length, map, slice_index_or};
 ghost use Rattle.std.specs.List.{All, Contains};
 ghost use Rattle.rela_nfa.specs.StateSet.{AreFlagged, Inserts, Adds};
@@ -12,7 +12,7 @@ use crate::transducer::Transducer;
 use rela_labels::LabelSet;
 use std::alloc::{AllocError, Global};
 
-/// This many empty lists.
+/// As many empty lists as `count`.
 fn empty_lists(alloc: Global, count: usize) -> Result<Vec<Vec<usize>>, AllocError>
     ensures each { IfOk result (λ lists. length lists.items ≡ count) }
     ensures empty { IfOk result (λ lists. (q : ℕ) → list_at (lists_of lists.items) q ≡ []) }
@@ -102,7 +102,7 @@ fn insert_finals<L: LabelSet>(
     Ok(())
 }
 
-/// Puts behind the states all those to which the lists lead on from them.
+/// Puts behind the states all those to which the lists lead on from them: a breadth-first search.
 fn close(
     flags: &mut [bool],
     states: &mut Vec<usize>,
@@ -124,7 +124,8 @@ fn close(
     Ok(())
 }
 
-/// For each state whether moves lead on from it to a final one.
+/// For each state whether moves lead on from it to a final one, found backwards from the final
+/// states. Time and space: linear in the states and the moves.
 pub(crate) fn leading_on<L: LabelSet>(
     alloc: Global,
     transducer: &Transducer<L>,

@@ -1,4 +1,5 @@
-//! Finite transducers with silent moves: the regular relations between words and their operations.
+//! Finite transducers with silent moves: the rational relations between words and their operations.
+//! An `AllocError` comes only where memory is refused.
 #![tactic(auto)]
 
 mod compose;

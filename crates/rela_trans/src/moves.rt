@@ -1,3 +1,4 @@
+//! The moves of transducers.
 ghost use Rattle.std.specs.Prelude.{◌≡◌, ◌+◌, ◌<◌, ◌^◌, IfOk};
 ghost use Rattle.rela_trans.specs.Construction.{shifted, turned, turned_move};
 ghost use Rattle.rela_trans.specs.Stored.{kind_of, move_of};
@@ -5,20 +6,25 @@ ghost use Rattle.rela_trans.specs.Stored.{kind_of, move_of};
 use rela_labels::LabelSet;
 use std::alloc::{AllocError, Global};
 
-/// What a move reads and writes: nothing; it reads a letter of the set; it writes one; or it reads
-/// and writes one and the same letter of the set.
+/// What a move reads and writes.
 #[derive(Debug, Drop)]
 pub enum MoveKind<L> {
+    /// It reads and writes nothing.
     Silent,
+    /// It reads a letter of the set, and writes nothing.
     In(L),
+    /// It reads nothing, and writes a letter of the set.
     Out(L),
+    /// It reads a letter of the set, and writes the same letter.
     Same(L),
 }
 
 /// A move out of a state to another.
 #[derive(Debug, Drop)]
 pub struct Move<L> {
+    /// What it reads and writes.
     pub kind: MoveKind<L>,
+    /// The number of the state to which it leads.
     pub to: usize,
 }
 

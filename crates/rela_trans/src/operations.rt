@@ -1,3 +1,4 @@
+//! Unions, concatenations and iterations.
 ghost use Rattle.std.specs.Prelude.{◌≡◌, ℕ, ◌+◌, ◌<◌, ◌↔◌, ◌⊎◌, List, [], IfOk};
 ghost use Rattle.rela_trans.specs.Machine.{machine_states};
 ghost use Rattle.rela_trans.specs.Relations.{PairJoins, PairRepeats};
@@ -10,7 +11,8 @@ use std::alloc::{AllocError, Global};
 
 impl<L: LabelSet> Transducer<L> {
     /// The pairs of one relation or the other. State 0 is a start of its own; the states of `self`
-    /// come after it, and then those of `other`.
+    /// come after it, and then those of `other`. Time and space: linear in the states and the moves
+    /// of both, whose sets are copied.
     pub fn union(&self, alloc: Global, other: &Transducer<L>) -> Result<Transducer<L>, AllocError>
         requires letters { self.now.letters ≡ other.now.letters }
         ensures letters { IfOk result (λ t. t.letters ≡ self.now.letters) }
@@ -40,8 +42,9 @@ impl<L: LabelSet> Transducer<L> {
         })
     }
 
-    /// A pair of `self` followed by one of `other`. The states of `self` come first, and then those of
-    /// `other`.
+    /// A pair of `self` followed by one of `other`. The states of `self` come first, and then those
+    /// of `other`. Time and space: linear in the states and the moves of both, whose sets are
+    /// copied.
     pub fn concat(&self, alloc: Global, other: &Transducer<L>) -> Result<Transducer<L>, AllocError>
         requires letters { self.now.letters ≡ other.now.letters }
         ensures letters { IfOk result (λ t. t.letters ≡ self.now.letters) }
@@ -67,8 +70,9 @@ impl<L: LabelSet> Transducer<L> {
         })
     }
 
-    /// Any number of pairs of `self`, one after the other. State 0 is a start of its own, to which no
-    /// move leads; the states of `self` come after it.
+    /// Any number of pairs of `self`, one after the other. State 0 is a start of its own, to which
+    /// no move leads; the states of `self` come after it. Time and space: linear in the states and
+    /// the moves, whose sets are copied.
     pub fn star(&self, alloc: Global) -> Result<Transducer<L>, AllocError>
         ensures letters { IfOk result (λ t. t.letters ≡ self.now.letters) }
         ensures states { IfOk result (λ t. machine_states t ≡ 1 + machine_states self.now) }

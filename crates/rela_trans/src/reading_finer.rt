@@ -1,3 +1,4 @@
+//! The pairs of states to which an automaton and a transducer over coarser letters may go together.
 ghost use Rattle.std.specs.Prelude.{◌≡◌, ◌<◌, ◌++◌, IfOk, OnOk, map, length, slice_index};
 ghost use Rattle.std.specs.List.{All};
 ghost use Rattle.std.specs.Option.{ForSome};
@@ -20,8 +21,11 @@ use std::alloc::{AllocError, Global};
 /// pairs of their states. No set is copied, and each is asked for one letter at most.
 #[derive(Drop)]
 pub(crate) struct ReadingFiner<'a, L: LabelSet, M: LabelSet> {
+    /// The automaton of the left states, whose words are read.
     pub(crate) sources: &'a Nfa<M>,
+    /// The transducer of the right states.
     pub(crate) transducer: &'a Transducer<L>,
+    /// For each letter of the automaton that of the transducer in which it lies.
     pub(crate) parents: &'a [u32],
 }
 
@@ -79,7 +83,7 @@ fn add_followers<L: LabelSet, M: LabelSet>(
     Ok(())
 }
 
-/// Adds the pair, if it is to be taken.
+/// Adds the pair where `is_taken` says so.
 fn add_if(followers: &mut Vec<Pair>, is_taken: bool, to: Pair) -> Result<(), AllocError>
     ensures { OnOk result (followers.new.items ≡ followers.old.items ++ pair_if is_taken to) }
 {
@@ -99,7 +103,7 @@ fn reads_nothing<L: LabelSet>(kind: &MoveKind<L>) -> bool
     }
 }
 
-/// Whether the set has the letter; where none is known, it may.
+/// Whether the set has the letter; where it isn't known, `None`, it may.
 fn may_have<L: LabelSet>(letter: Option<u32>, set: &L) -> bool
     ensures { result ≡ may_have letter (L.letters set.now) }
 {
@@ -109,7 +113,7 @@ fn may_have<L: LabelSet>(letter: Option<u32>, set: &L) -> bool
     }
 }
 
-/// Whether a move of this kind may read the letter.
+/// Whether a move of this kind may read the letter. It may read any where it isn't known, `None`.
 fn may_read<L: LabelSet>(letter: Option<u32>, kind: &MoveKind<L>) -> bool
     ensures { result ≡ may_read letter (kind_of L.letters kind.now) }
 {
@@ -119,7 +123,7 @@ fn may_read<L: LabelSet>(letter: Option<u32>, kind: &MoveKind<L>) -> bool
     }
 }
 
-/// Adds the pairs to which the transducer goes alone.
+/// Adds the pairs to which the transducer goes alone, reading nothing.
 fn add_alone<L: LabelSet>(
     followers: &mut Vec<Pair>,
     moves: &[Move<L>],
@@ -137,8 +141,8 @@ fn add_alone<L: LabelSet>(
     Ok(())
 }
 
-/// Adds the pairs to which the transducer may go by the letter, while the automaton goes to the left
-/// state.
+/// Adds the pairs to which the transducer may go by the letter, or by any where it isn't known,
+/// while the automaton goes to the left state.
 fn add_by_letter<L: LabelSet>(
     followers: &mut Vec<Pair>,
     letter: Option<u32>,
@@ -182,7 +186,7 @@ fn add_by_edge<L: LabelSet, M: LabelSet>(
     Ok(())
 }
 
-/// The letter of a set that has one alone.
+/// The letter of a set that has one alone, and `None` for any other set.
 fn only_letter<M: LabelSet>(alloc: Global, set: &M) -> Result<Option<u32>, AllocError>
     ensures letter { IfOk result (λ letter. letter ≡ only_letter (M.letters set.now)) }
     ensures below { IfOk result (λ letter. ForSome letter (λ k. k < length (M.letters set.now))) }
@@ -197,7 +201,8 @@ fn only_letter<M: LabelSet>(alloc: Global, set: &M) -> Result<Option<u32>, Alloc
     Ok(None)
 }
 
-/// The old letter in which the letter lies of a set that has one alone.
+/// The letter of the transducer in which that of a set lies that has one alone, and `None` for any
+/// other set.
 fn only_parent<M: LabelSet>(
     alloc: Global,
     set: &M,

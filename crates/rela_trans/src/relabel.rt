@@ -1,3 +1,4 @@
+//! Transducers over a finer partition of the symbols.
 ghost use Rattle.std.specs.Prelude.{◌≡◌, ℕ, ◌<◌, ◌^◌, ◌↔◌, List, IfOk, length, map};
 ghost use Rattle.std.specs.List.{All};
 ghost use Rattle.rela_labels.specs.Partition.{block_of, block_count};
@@ -13,7 +14,7 @@ use rela_labels::{LabelSet, Partition};
 use rela_nfa::{parents_of, relabelled_set};
 use std::alloc::{AllocError, Global};
 
-/// The kind by the letters that lie in its set.
+/// The kind by the fine letters that lie in its set.
 fn relabelled_kind<L: LabelSet, M: LabelSet>(
     alloc: Global,
     kind: &MoveKind<L>,
@@ -31,7 +32,7 @@ fn relabelled_kind<L: LabelSet, M: LabelSet>(
     }
 }
 
-/// Each of the moves by the letters that lie in its set.
+/// Each of the moves by the fine letters that lie in its set.
 pub(crate) fn relabelled_moves<L: LabelSet, M: LabelSet>(
     alloc: Global,
     moves: &[Move<L>],
@@ -49,7 +50,7 @@ pub(crate) fn relabelled_moves<L: LabelSet, M: LabelSet>(
     Ok(new)
 }
 
-/// The moves of each state by the letters that lie in their sets.
+/// The moves of each state by the fine letters that lie in their sets.
 fn relabelled_lists<L: LabelSet, M: LabelSet>(
     alloc: Global,
     lists: &[Vec<Move<L>>],
@@ -67,9 +68,11 @@ fn relabelled_lists<L: LabelSet, M: LabelSet>(
 }
 
 impl<L: LabelSet> Transducer<L> {
-    /// The same pairs of words of symbols over a finer partition: the letters of `self` are the blocks
-    /// of `from`, and those of the result the blocks of `to`. The states are the same, and each is
-    /// reached by the same pairs of words of symbols.
+    /// The same pairs of words of symbols over a finer partition: the letters of `self` are the
+    /// blocks of `from`, and those of the result the blocks of `to`. The states are the same, and
+    /// each is reached by the same pairs of words of symbols. Time: for each move with a set a look
+    /// at each block of `to`, and a step for each state; space: linear in the states and the moves,
+    /// with their sets.
     pub fn relabel<M: LabelSet>(
         &self,
         alloc: Global,

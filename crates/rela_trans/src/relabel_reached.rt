@@ -1,3 +1,4 @@
+//! Transducers over a finer partition of the symbols, for the words of an automaton.
 ghost use Rattle.std.specs.Prelude.{◌≡◌, ℕ, ◌<◌, ◌^◌, ◌↔◌, List, [], false, IsTrue, IfOk, length, map, slice_index_or, if◌then◌else◌};
 ghost use Rattle.std.specs.List.{All, Contains, range_with_len};
 ghost use Rattle.rela_labels.specs.Partition.{block_of, block_count};
@@ -20,7 +21,7 @@ use rela_nfa::{Nfa, parents_of};
 use rela_pairs::{Pair, explore};
 use std::alloc::{AllocError, Global};
 
-/// For each of so many states whether it is the right one of some pair.
+/// For each state below `states` whether it is the right one of some pair.
 fn right_states(alloc: Global, states: usize, pairs: &[Pair]) -> Result<Vec<bool>, AllocError>
     requires { All (λ x. x.right < states) pairs.now }
     ensures len { IfOk result (λ are_right. length are_right.items ≡ states) }
@@ -33,7 +34,7 @@ fn right_states(alloc: Global, states: usize, pairs: &[Pair]) -> Result<Vec<bool
     Ok(are_right)
 }
 
-/// The moves by the letters that lie in their sets, if they are to be kept.
+/// The moves by the fine letters that lie in their sets, if they are to be kept, and else none.
 fn moves_if<L: LabelSet, M: LabelSet>(
     alloc: Global,
     is_kept: bool,
@@ -80,7 +81,8 @@ impl<L: LabelSet> Transducer<L> {
         }
     }
 
-    /// The moves of each state that is kept, by the letters that lie in their sets.
+    /// The moves of each state that is kept, by the fine letters that lie in their sets, and none
+    /// of any other.
     fn kept_lists<M: LabelSet>(
         &self,
         alloc: Global,
@@ -101,8 +103,10 @@ impl<L: LabelSet> Transducer<L> {
 
     /// The same pairs of words of symbols over a finer partition, as by [`relabel`], of those whose
     /// first word the automaton reads: moves of a state that no such pair reaches may be left out.
-    /// The letters of `self` are the blocks of `from`, and those of the automaton and the result the
-    /// blocks of `to`. It costs the pairs of states that are reached, and a step for each state.
+    /// The letters of `self` are the blocks of `from`, and those of the automaton and the result
+    /// the blocks of `to`. Time: the pairs of states that are reached and what follows each, a look
+    /// at each block of `to` for each move that is kept, and a step for each state; space: linear
+    /// in these pairs and in the result.
     ///
     /// [`relabel`]: Transducer::relabel
     pub fn relabel_reached<M: LabelSet>(

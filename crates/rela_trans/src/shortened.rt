@@ -1,3 +1,4 @@
+//! Transducers without silent detours.
 ghost use Rattle.std.specs.Prelude.{◌≡◌, ℕ, ◌<◌, ◌↔◌, List, IfOk, length, map};
 ghost use Rattle.std.specs.List.{All, Contains};
 ghost use Rattle.rela_trans.specs.Coaccessible.{next_states};
@@ -12,7 +13,7 @@ use crate::transducer::Transducer;
 use rela_labels::LabelSet;
 use std::alloc::{AllocError, Global};
 
-/// Moves the end of each move on to the one that stands for it.
+/// Lets each move lead on at once to the end of the detours that it led to.
 fn redirect<L: LabelSet>(moves: &mut [Move<L>], ends: &[usize])
     requires { All (λ edge. edge.to < length ends.now) moves.old }
     ensures { map (move_of L.letters) moves.new ≡ map (redirected ends.now) (map (move_of L.letters) moves.old) }
@@ -22,7 +23,7 @@ fn redirect<L: LabelSet>(moves: &mut [Move<L>], ends: &[usize])
     }
 }
 
-/// Moves the end of each move of each state on to the one that stands for it.
+/// Lets each move of each state lead on at once to the end of the detours that it led to.
 fn redirect_each<L: LabelSet>(lists: &mut [Vec<Move<L>>], ends: &[usize])
     requires { All (All (λ move. move.to < length ends.now)) (moves_in L.letters lists.old) }
     ensures { moves_in L.letters lists.new ≡ map (map (redirected ends.now)) (moves_in L.letters lists.old) }
@@ -34,11 +35,12 @@ fn redirect_each<L: LabelSet>(lists: &mut [Vec<Move<L>>], ends: &[usize])
 
 impl<L: LabelSet> Transducer<L> {
     /// The same pairs, without silent detours. A state is a detour if it is not final and its only
-    /// move is silent. Each move, and the start, leads to the end of the chain of detours that it led to;
-    /// where silent moves lead in a circle, to some state of it. The states keep their numbers. It is
-    /// the removal of silent moves (M. Mohri, *Generic epsilon-removal and input epsilon-normalization
-    /// algorithms for weighted transducers*, 2002) where it adds no move. It costs a step for each state
-    /// and for each move, however long the chains; no move is copied. Want of memory is the only error.
+    /// move is silent. Each move, and the start, leads to the end of the chain of detours that it
+    /// led to; where silent moves lead in a circle, to some state of it. The states keep their
+    /// numbers. It is the removal of silent moves (M. Mohri, *Generic epsilon-removal and input
+    /// epsilon-normalization algorithms for weighted transducers*, 2002) where it adds no move.
+    /// Time: linear in the states and the moves, however long the chains; space: linear in the
+    /// states, and no move is copied.
     pub fn shortened(self, alloc: Global) -> Result<Transducer<L>, AllocError>
         ensures letters { IfOk result (λ t. t.letters ≡ self.letters) }
         ensures states { IfOk result (λ t. machine_states t ≡ machine_states self) }

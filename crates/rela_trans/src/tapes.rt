@@ -1,3 +1,4 @@
+//! Transducers that read or write the words of automata.
 ghost use Rattle.std.specs.Prelude.{◌≡◌, ℕ, ◌+◌, ◌<◌, ◌↔◌, List, [], IfOk, map};
 ghost use Rattle.std.specs.List.{range_with_len};
 ghost use Rattle.rela_nfa.specs.Automaton.{states};
@@ -14,11 +15,14 @@ use rela_labels::LabelSet;
 use rela_nfa::{Edge, Nfa};
 use std::alloc::{AllocError, Global};
 
-/// Where the words of an automaton stand: they are read, or written, or both.
+/// Where the words of an automaton stand.
 #[derive(Clone, Copy, Debug)]
 pub(crate) enum Tape {
+    /// They are read.
     Input,
+    /// They are written.
     Output,
+    /// They are read and written again.
     Both,
 }
 
@@ -33,7 +37,7 @@ fn kind_on<L: LabelSet>(tape: Tape, set: L) -> MoveKind<L>
     }
 }
 
-/// The edge as a move, its letter on the tape.
+/// The edge as a move, with its letter on the tape. The label is copied.
 fn lifted<L: LabelSet>(alloc: Global, edge: &Edge<L>, tape: Tape) -> Result<Move<L>, AllocError>
     ensures { IfOk result (λ result. move_of L.letters result ≡ lifted tape (edge_of L.letters edge.now)) }
 {
@@ -50,7 +54,7 @@ fn lifted<L: LabelSet>(alloc: Global, edge: &Edge<L>, tape: Tape) -> Result<Move
     }
 }
 
-/// Each of the edges as a move.
+/// Each of the edges as a move, with its letter on the tape.
 fn lifted_edges<L: LabelSet>(
     alloc: Global,
     edges: &[Edge<L>],
@@ -65,7 +69,7 @@ fn lifted_edges<L: LabelSet>(
     Ok(moves)
 }
 
-/// The edges of each state as moves.
+/// The edges of each state as moves, with their letters on the tape.
 fn lifted_lists<L: LabelSet>(
     alloc: Global,
     a: &Nfa<L>,
@@ -112,7 +116,7 @@ fn finals_of<L: LabelSet>(alloc: Global, a: &Nfa<L>) -> Result<Vec<bool>, AllocE
 
 impl<L: LabelSet> Transducer<L> {
     /// Each word of the automaton with itself, symbol for symbol. The states are those of the
-    /// automaton.
+    /// automaton. Time and space: linear in the automaton, whose labels are copied.
     pub fn identity(alloc: Global, a: &Nfa<L>) -> Result<Transducer<L>, AllocError>
         ensures letters { IfOk result (λ t. t.letters ≡ a.now.letters) }
         ensures states { IfOk result (λ t. machine_states t ≡ states a.now) }
@@ -125,7 +129,8 @@ impl<L: LabelSet> Transducer<L> {
     }
 
     /// Each word of the first automaton with each of the second. First a word of `a` is read by the
-    /// states of `a`, and then one of `b` is written by those of `b`.
+    /// states of `a`, and then one of `b` is written by those of `b`. Time and space: linear in
+    /// both automata, whose labels are copied.
     pub fn product(alloc: Global, a: &Nfa<L>, b: &Nfa<L>) -> Result<Transducer<L>, AllocError>
         requires letters { a.now.letters ≡ b.now.letters }
         ensures letters { IfOk result (λ t. t.letters ≡ a.now.letters) }

@@ -1,3 +1,4 @@
+//! What a transducer is, and what it tells of itself.
 ghost use Rattle.std.specs.Prelude.{◌≡◌, ◌<◌, ◌↔◌, IsTrue, map};
 ghost use Rattle.std.specs.List.{All};
 ghost use Rattle.rela_trans.specs.Machine.{IsMachine, IsFinal, IsSized, machine_states, moves_of};
@@ -12,9 +13,13 @@ use std::marker::Model;
 /// in which each set of letters is the list of the letters, whether each is in it.
 #[derive(Drop)]
 pub struct Transducer<L: LabelSet> {
+    /// The number of letters.
     pub(crate) letters: u32,
+    /// The state from which runs begin.
     pub(crate) start: usize,
+    /// For each state whether it is final.
     pub(crate) finals: Vec<bool>,
+    /// The moves that leave each state.
     pub(crate) moves: Vec<Vec<Move<L>>>,
 }
 
@@ -67,7 +72,7 @@ impl<L: LabelSet> Transducer<L> {
         self.start
     }
 
-    /// Whether a pair of words that leads to the state is related.
+    /// Whether the state is final: a pair of words that leads to it is related.
     pub fn is_final(&self, q: usize) -> bool
         requires { q < machine_states self.now }
         ensures { IsTrue result ↔ IsFinal self.now q }

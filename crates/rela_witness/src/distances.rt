@@ -1,3 +1,4 @@
+//! How far states are from final ones.
 ghost use Rattle.std.specs.Prelude.{◌≡◌, ℕ, IfOk, OnOk, [], Contains, length, vec_len};
 ghost use Rattle.rela_nfa.specs.Automaton.{states, IsFinal};
 ghost use Rattle.rela_witness.specs.Finishing.{AreDistances};
@@ -11,9 +12,10 @@ use rela_labels::LabelSet;
 use rela_nfa::Nfa;
 use std::alloc::{AllocError, Global};
 
-/// For each state the distance to the final ones: the least number of letters of a word that leads from
-/// it to one of them, or none where no word does. The search goes back from the final states in
-/// layers of equal distance: a silent edge stays in a layer and any other leads to the next.
+/// For each state the distance to the final ones: the least number of letters of a word that leads
+/// from it to one of them, and `None` where no word does. The search goes back from the final
+/// states in layers of equal distance: a silent edge stays in a layer and any other leads to the
+/// next. Time and space: linear in the states and the edges.
 pub(crate) fn distances<L: LabelSet>(
     alloc: Global,
     a: &Nfa<L>,
@@ -53,7 +55,8 @@ fn enter_finals<L: LabelSet>(
     Ok(())
 }
 
-/// The layer of what the links lead to from this one, unless it has a number.
+/// The layer of those states to which the links lead from this one and that have no number yet.
+/// They get this number.
 fn next_layer(
     alloc: Global,
     numbers: &mut Vec<Option<usize>>,

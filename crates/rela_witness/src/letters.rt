@@ -11,8 +11,8 @@ ghost use Rattle.rela_witness.specs.Numbered.{number_of};
 use rela_labels::LabelSet;
 use rela_nfa::{Edge, Nfa};
 
-/// The least letter by which an edge leads from one of the states to one of this distance, or none
-/// where no letter does.
+/// The least letter by which an edge leads from one of the states to one of this distance, and
+/// `None` where no letter does. Time: a look at each edge that leaves them.
 pub(crate) fn least_letter<L: LabelSet>(
     a: &Nfa<L>,
     distances: &[Option<usize>],
@@ -30,7 +30,8 @@ pub(crate) fn least_letter<L: LabelSet>(
     least
 }
 
-/// The same for one state.
+/// The least letter by which an edge leads from the state to one of this distance, and `None` where
+/// no letter does.
 fn least_from<L: LabelSet>(
     a: &Nfa<L>,
     distances: &[Option<usize>],
@@ -48,7 +49,8 @@ fn least_from<L: LabelSet>(
     least
 }
 
-/// The least letter of the edge's label, if the edge leads to a state of this distance.
+/// The least letter of the edge's label, if the edge leads to a state of this distance, and `None`
+/// where it doesn't, or no letter takes it.
 fn least_of<L: LabelSet>(
     edge: &Edge<L>,
     distances: &[Option<usize>],
@@ -66,7 +68,7 @@ fn least_of<L: LabelSet>(
     }
 }
 
-/// The lesser of two letters, or the only one.
+/// The lesser of two letters, or the only one; `None` where there is neither.
 fn lesser(first: Option<u32>, second: Option<u32>) -> Option<u32>
     ensures { result ≡ lesser_of first second }
 {

@@ -1,5 +1,6 @@
-//! The first word of a regular language, of the shortest ones the least by its letters: of all its words,
-//! or of those that are related to a word.
+//! The first word of a regular language, of the shortest ones the least by its letters: of all its
+//! words, or of those that are related to a word. An `AllocError` comes only where memory is
+//! refused.
 #![tactic(auto)]
 
 mod distances;

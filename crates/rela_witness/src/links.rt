@@ -1,3 +1,4 @@
+//! Lists of states, one for each state.
 ghost use Rattle.std.specs.Prelude.{◌≡◌, ℕ, ◌<◌, ◌⊎◌, ◌↔◌, [], IfOk, OnOk, length, slice_index_or};
 ghost use Rattle.std.specs.List.{All};
 ghost use Rattle.rela_witness.specs.Linked.{IsLinked};
@@ -8,6 +9,7 @@ use std::marker::Model;
 /// For each state a list of states. Contracts see it as the list of these lists.
 #[derive(Drop)]
 pub(crate) struct Links {
+    /// The list of each state.
     lists: Vec<Vec<usize>>,
 }
 
@@ -35,7 +37,7 @@ impl Links {
         Ok(Links { lists })
     }
 
-    /// Puts q on the list of p.
+    /// Puts `q` on the list of `p`.
     pub(crate) fn add(&mut self, p: usize, q: usize) -> Result<(), AllocError>
         requires from { p < length self.old }
         requires to { q < length self.old }
@@ -46,7 +48,7 @@ impl Links {
         Ok(())
     }
 
-    /// The list of p.
+    /// The list of `p`.
     pub(crate) fn ends(&self, p: usize) -> &[usize]
         requires { p < length self.now }
         ensures ends { result.now ≡ slice_index_or self.now p [] }

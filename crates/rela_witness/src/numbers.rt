@@ -25,7 +25,7 @@ pub(crate) fn enter(
     Ok(())
 }
 
-/// The same for each of these states.
+/// Gives each of these states the number and puts it into the layer, unless it has a number.
 pub(crate) fn enter_all(
     numbers: &mut Vec<Option<usize>>,
     layer: &mut Vec<usize>,
@@ -42,7 +42,8 @@ pub(crate) fn enter_all(
     Ok(())
 }
 
-/// Puts into the layer what the links lead to from it, step by step, unless it has a number.
+/// Puts into the layer what the links lead to from it, step by step, unless it has a number. These
+/// states get the number of the layer.
 pub(crate) fn close(
     numbers: &mut Vec<Option<usize>>,
     layer: &mut Vec<usize>,

@@ -24,7 +24,8 @@ fn takes<L: LabelSet>(edge: &Edge<L>, letter: Option<u32>) -> bool
     }
 }
 
-/// Whether the edge may be taken so, and leads to a state of the distance.
+/// Whether the edge may be taken by the letter, or is silent where there is none, and leads to a
+/// state of the distance.
 fn leads<L: LabelSet>(
     edge: &Edge<L>,
     letter: Option<u32>,
@@ -37,8 +38,8 @@ fn leads<L: LabelSet>(
     takes(edge, letter) && distances[edge.to] == Some(distance)
 }
 
-/// Enters the states of the distance to which edges lead from p by the letter, or silently, with the
-/// distance as their number.
+/// Enters the states of the distance to which edges lead from `p` by the letter, or silently where
+/// there is none, with the distance as their number, unless they have one.
 fn enter_ends<L: LabelSet>(
     a: &Nfa<L>,
     distances: &[Option<usize>],
@@ -62,7 +63,7 @@ fn enter_ends<L: LabelSet>(
     Ok(())
 }
 
-/// Puts into the layer the states of its distance to which silent edges lead from it.
+/// Puts into the layer the states of its distance to which silent edges lead from it, step by step.
 pub(crate) fn close_onward<L: LabelSet>(
     a: &Nfa<L>,
     distances: &[Option<usize>],
@@ -86,7 +87,8 @@ pub(crate) fn close_onward<L: LabelSet>(
     Ok(())
 }
 
-/// The layer of the states of the distance to which edges lead from these by the letter.
+/// The layer of the states of the distance to which edges lead from these by the letter, and that
+/// have no number yet.
 pub(crate) fn layer_after<L: LabelSet>(
     alloc: Global,
     a: &Nfa<L>,

@@ -12,9 +12,11 @@ use rela_pairs::BuildError;
 use rela_trans::{Transducer, are_letters, image};
 use std::alloc::{AllocError, Global};
 
-/// The first word in shortlex order that the automaton accepts and for which the transducer writes `v`.
-/// `None` where there is no such word, as where a number of `v` is no letter. Want of memory is the
-/// only error.
+/// The first word in shortlex order that the automaton accepts and for which the transducer writes
+/// `v`: a word of the image of `v` under the inverse. `None` where there is no such word, as where
+/// a number of `v` is no letter. Want of memory is the only error. Time and space: at most in
+/// proportion to the product of the automaton, the transducer and the length of `v`, in set
+/// operations.
 pub fn least_source<L: LabelSet>(
     alloc: Global,
     a: &Nfa<L>,
@@ -53,7 +55,7 @@ fn sources_of<L: LabelSet>(
     }
 }
 
-/// Want of memory, where no limit was set.
+/// The error for want of memory, which is the only one where no limit was set.
 fn want_of_memory(error: BuildError) -> AllocError
     requires { error ≢ BuildError.Limit }
 {

@@ -1,3 +1,4 @@
+//! The first word that an automaton accepts.
 ghost use Rattle.std.specs.Prelude.{◌≡◌, ℕ, List, Some, IfOk, IfSome, IfNone, length};
 ghost use Rattle.rela_names.specs.Shortlex.{First};
 ghost use Rattle.rela_nfa.specs.Automaton.{states};
@@ -15,8 +16,9 @@ use rela_nfa::Nfa;
 use std::alloc::{AllocError, Global};
 
 /// The first word in shortlex order that the automaton accepts: of its shortest words the least,
-/// letter by letter. `None` where it accepts no word. Each edge is looked at a constant number of
-/// times, so the search is linear in the automaton. Want of memory is the only error.
+/// letter by letter. `None` where it accepts no word. Want of memory is the only error. Time and
+/// space: linear in the states and the edges, each of which is looked at a constant number of
+/// times.
 pub fn least_word<L: LabelSet>(alloc: Global, a: &Nfa<L>) -> Result<Option<Word>, AllocError>
     ensures found { IfOk result (λ found. IfSome found (First (Accepts a.now))) }
     ensures none { IfOk result (λ found. IfNone found ((word : List ℕ) → ¬ Accepts a.now word)) }
@@ -28,9 +30,10 @@ pub fn least_word<L: LabelSet>(alloc: Global, a: &Nfa<L>) -> Result<Option<Word>
     }
 }
 
-/// The first word that the automaton accepts, by the distances of its states. The layer has the
-/// states that the letters so far lead to and from which the rest can be short enough, and the next
-/// letter is the least that leads on from them to a lesser distance.
+/// The first word that the automaton accepts, by the distances of its states, where that of its
+/// start is `len`. The layer has the states that the letters so far lead to and from which the rest
+/// can be short enough, and the next letter is the least that leads on from them to a lesser
+/// distance.
 fn spell<L: LabelSet>(
     alloc: Global,
     a: &Nfa<L>,

@@ -1,4 +1,4 @@
-//! Edges turned round.
+//! Edges turned round, by their kind.
 ghost use Rattle.std.specs.Prelude.{◌≡◌, ℕ, ◌<◌, ◌⊎◌, ◌↔◌, IsTrue, IfOk, OnOk, length};
 ghost use Rattle.rela_nfa.specs.Automaton.{states};
 ghost use Rattle.rela_nfa.specs.Stored.{move_of};
@@ -10,10 +10,12 @@ use rela_labels::LabelSet;
 use rela_nfa::{Edge, Nfa};
 use std::alloc::{AllocError, Global};
 
-/// The edges without a label, or those that some letter takes.
+/// A kind of edges.
 #[derive(Clone, Copy)]
 pub(crate) enum Kind {
+    /// Those without a label.
     Silent,
+    /// Those that some letter takes.
     Lettered,
 }
 
@@ -29,7 +31,8 @@ fn is_of_kind<L: LabelSet>(edge: &Edge<L>, kind: Kind) -> bool
     }
 }
 
-/// For each state those from which edges of the kind lead to it.
+/// For each state those from which edges of the kind lead to it, each once for each such edge. Time
+/// and space: linear in the states and the edges.
 pub(crate) fn sources<L: LabelSet>(
     alloc: Global,
     a: &Nfa<L>,
@@ -45,7 +48,7 @@ pub(crate) fn sources<L: LabelSet>(
     Ok(links)
 }
 
-/// Puts a state on the lists of those to which its edges of the kind lead.
+/// Puts the state `p` on the lists of those to which its edges of the kind lead.
 fn add_source<L: LabelSet>(
     a: &Nfa<L>,
     links: &mut Links,
