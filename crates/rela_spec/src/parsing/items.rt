@@ -1,4 +1,4 @@
-//! Items, and the level that a text begins with.
+//! Items, and the level that a text may begin with.
 
 ghost use Rattle.std.specs.Prelude.{◌≡◌, ◌≢◌, ◌<◌, ◌≤◌, Ok, Err, length, IfOk, IfErr, OnOk};
 ghost use Rattle.rela_flows.specs.Selects.{depth};
@@ -16,7 +16,7 @@ use rela_lex::SpecError;
 use rela_names::Level;
 use std::alloc::Global;
 
-/// The level that the text begins with, or interface.
+/// The level that the text begins with, or that of interfaces where it begins with none.
 #[tactic(auto, unfolding(crate::specs::ReadFile::read_level_line))]
 pub(crate) fn level_line(cursor: &mut Cursor) -> Result<Level, SpecError>
     ensures end { cursor.new.end ≡ cursor.old.end }
@@ -32,6 +32,7 @@ pub(crate) fn level_line(cursor: &mut Cursor) -> Result<Level, SpecError>
     Ok(level)
 }
 
+/// The level whose word has to come next.
 #[tactic(auto, unfolding(crate::specs::ReadFile::read_level_word))]
 fn level_word(cursor: &mut Cursor) -> Result<Level, SpecError>
     ensures end { cursor.new.end ≡ cursor.old.end }
@@ -129,7 +130,8 @@ fn check_item(alloc: Global, cursor: &mut Cursor, room: usize) -> Result<Item, S
     })
 }
 
-/// The value that stands before, and the flows that a check is for.
+/// The flows that a check is for, with the value that was read before it. An error drops the value
+/// here, for the reason that [`Cursor::closed`] has.
 fn condition_behind<T: Drop>(
     alloc: Global,
     cursor: &mut Cursor,
