@@ -1,3 +1,5 @@
+//! The entries of class tables.
+
 ghost use Rattle.std.specs.List.Sorted.{IsStrictlyIncreasing};
 
 use rela_names::Word;
