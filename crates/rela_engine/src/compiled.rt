@@ -28,16 +28,17 @@ use std::marker::Model;
 /// see it as a `Compilation`.
 #[derive(Drop)]
 pub struct Compiled<'a> {
+    /// The check.
     check: &'a Check,
-    // the number of locations of the check's level
+    /// The number of locations of the check's level.
     locations: u32,
-    // how many states a construction may have
+    /// How many states a construction may have.
     states: usize,
-    // the blocks of the check's symbols
+    /// The blocks of the check's symbols.
     blocks: Partition,
-    // none where a construction in them passed the limit
+    /// Its two relations; `None` where a construction in them passed the limit.
     relations: Option<Relations>,
-    // whether no unit of the check asks for a change
+    /// Whether no unit of the check asks for a change.
     alike: bool,
 }
 
@@ -71,7 +72,11 @@ impl<'a> Model for Compiled<'a> {
 }
 
 /// The check compiled under the alphabet of its level, of which its class table lists path symbols
-/// alone. Each construction in its relations may have so many states. The only error is want of memory.
+/// alone. Each construction in its relations may have at most `states` states. The only error is
+/// want of memory.
+///
+/// Time and space: those of the constructions, each of at most `states` states, and of the symbols
+/// and the members of the class table.
 pub fn compile<'a>(
     alloc: Global,
     check: &'a Check,

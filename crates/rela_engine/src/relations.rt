@@ -27,8 +27,10 @@ impl Model for Twofold {
 /// `Relations`, with both of them.
 #[derive(Drop)]
 pub(crate) struct Relations {
+    /// The relation that the paths before the change are seen through.
     before: Twofold,
-    // none where no unit of the check asks for a change, and so the relation before it serves both sides
+    /// The relation that the paths after the change are seen through; `None` where no unit of the
+    /// check asks for a change, so that `before` serves both sides.
     after: Option<Twofold>,
 }
 
