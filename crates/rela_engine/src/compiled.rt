@@ -225,9 +225,9 @@ impl<'a> Compiled<'a> {
         self.states
     }
 
-    /// Whether both relations could be made under the limit. They could not only where some counted
-    /// term in them has more reached places than the limit, and where a complement in them has a part
-    /// that tells more words.
+    /// Whether both relations could be made under the limit. Where they could not, some counted
+    /// term in them has more reached places than the limit; and they could not where a complement
+    /// in them has a part that tells more words than that.
     pub fn complete(&self) -> bool
         ensures made { IsTrue result ↔ IsSome self.now.relations }
         ensures past { IsFalse result → PassesLimit self.now }
@@ -255,7 +255,8 @@ impl<'a> Compiled<'a> {
         &self.blocks
     }
 
-    /// The relation that the paths before the change are seen through, made small for many walks.
+    /// The relation that the paths before the change are seen through, by the transducer that is
+    /// made small for many walks.
     pub fn before(&self) -> &Transducer<WideSet>
         requires complete { IsSome self.now.relations }
         ensures before { ForSome self.now.relations (λ relations. result.now ≡ relations.before.small) }
@@ -271,7 +272,8 @@ impl<'a> Compiled<'a> {
         }
     }
 
-    /// The relation that the paths after the change are seen through, likewise.
+    /// The relation that the paths after the change are seen through, by the transducer that is
+    /// made small for many walks.
     pub fn after(&self) -> &Transducer<WideSet>
         requires complete { IsSome self.now.relations }
         ensures after { ForSome self.now.relations (λ relations. result.now ≡ relations.after.small) }
@@ -287,8 +289,8 @@ impl<'a> Compiled<'a> {
         }
     }
 
-    /// Both relations twice, as they were built and made small; `None` where they could not be made
-    /// under the limit.
+    /// The transducers of both relations, as they were built and made small; `None` where they
+    /// could not be made under the limit.
     pub(crate) fn relations(&self) -> Option<&Relations>
         ensures some { IfSome result (λ relations. self.now.relations ≡ Some relations.now) }
         ensures none { IfNone result (self.now.relations ≡ None) }

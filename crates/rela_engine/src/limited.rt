@@ -14,9 +14,10 @@ use rela_reduce::reduce;
 use rela_subset::{Dfa, determinise};
 use std::alloc::Global;
 
-/// Makes a complement of the minimal automaton of its part. One is refused only where words of path
-/// symbols reach more sets of states of the part than the limit, and always where more such words are
-/// told apart by continuing them.
+/// Makes the complement of the minimal automaton of its part. A complement is refused only where
+/// words of path symbols reach more sets of states of the part than the limit, and always where
+/// more such words are each told apart from the others by a continuation (the equivalence of Myhill
+/// and Nerode).
 #[derive(Drop)]
 pub(crate) struct Limited {
     /// The limit: how many sets of states words may reach.

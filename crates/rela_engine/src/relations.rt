@@ -6,7 +6,7 @@ use rela_labels::WideSet;
 use rela_trans::Transducer;
 use std::marker::Model;
 
-/// A relation twice. Both transducers have the same pairs. Contracts see it as a `Twofold`.
+/// A relation by two transducers that have the same pairs. Contracts see it as a `Twofold`.
 #[derive(Drop)]
 pub(crate) struct Twofold {
     /// As it was built of its term: each of its states stands for places of the term.

@@ -48,8 +48,8 @@ pub(crate) struct Seen<L: LabelSet> {
     pub(crate) image: Nfa<L>,
 }
 
-/// The paths of the graph at the level of the check, seen through the relation, whose letters are the
-/// check's blocks. Those of the result are the finer ones.
+/// The paths of the graph at the level of the check, seen through a relation whose letters are the
+/// check's blocks. The letters of the result are `blocks`, which refine those.
 ///
 /// # Errors
 ///

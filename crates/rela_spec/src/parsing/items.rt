@@ -70,7 +70,7 @@ pub(crate) fn item(alloc: Global, cursor: &mut Cursor, room: usize) -> Result<It
     check_item(alloc, cursor, room)
 }
 
-/// A definition of paths, behind its first word.
+/// The rest of a definition of paths, behind the word `path`.
 #[tactic(auto, unfolding(crate::specs::ReadFile::read_path_item))]
 fn path_item(alloc: Global, cursor: &mut Cursor, room: usize) -> Result<Item, SpecError>
     ensures end { cursor.new.end ≡ cursor.old.end }
@@ -87,7 +87,7 @@ fn path_item(alloc: Global, cursor: &mut Cursor, room: usize) -> Result<Item, Sp
     Ok(Item::Path { name, at, body })
 }
 
-/// A definition of a specification, behind its first word.
+/// The rest of a definition of a specification, behind the word `spec`.
 #[tactic(auto, unfolding(crate::specs::ReadFile::read_spec_item))]
 fn spec_item(alloc: Global, cursor: &mut Cursor, room: usize) -> Result<Item, SpecError>
     ensures end { cursor.new.end ≡ cursor.old.end }
@@ -104,7 +104,7 @@ fn spec_item(alloc: Global, cursor: &mut Cursor, room: usize) -> Result<Item, Sp
     Ok(Item::Spec { name, at, body })
 }
 
-/// A check, behind its first word.
+/// The rest of a check, behind the word `check`.
 #[tactic(auto, unfolding(crate::specs::ReadFile::read_check_item))]
 fn check_item(alloc: Global, cursor: &mut Cursor, room: usize) -> Result<Item, SpecError>
     requires { room ≤ 100 }
@@ -150,7 +150,7 @@ fn condition_behind<T: Drop>(
     Ok((before, when))
 }
 
-/// The flows that a check is for: all where it doesn't say.
+/// The flows that a check is for, which stand behind `for`: all where that word doesn't come next.
 #[tactic(auto, unfolding(crate::specs::ReadFile::read_condition), using(crate::proofs::Depths::depth_all))]
 fn condition(alloc: Global, cursor: &mut Cursor, room: usize) -> Result<Predicate, SpecError>
     requires { room ≤ 100 }

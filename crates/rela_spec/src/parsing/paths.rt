@@ -239,7 +239,7 @@ fn atom(alloc: Global, cursor: &mut Cursor, room: usize) -> Result<PathExpr, Spe
     Ok(PathExpr::One(member(alloc, cursor, room)?))
 }
 
-/// A path expression in brackets, or the empty path.
+/// A path expression in brackets, or the empty path, which is brackets with nothing inside.
 #[tactic(auto, unfolding(crate::specs::ReadPaths::group_at), using(crate::proofs::PathReadings::inside_is))]
 #[cycle(path)]
 fn group(alloc: Global, cursor: &mut Cursor, room: usize) -> Result<PathExpr, SpecError>

@@ -196,7 +196,7 @@ fn single(alloc: Global, cursor: &mut Cursor, room: usize) -> Result<Predicate, 
     test(alloc, cursor)
 }
 
-/// A predicate in brackets.
+/// A predicate in brackets, which has to come next.
 #[tactic(auto, unfolding(crate::specs::ReadPredicates::group_at), using(crate::proofs::PredicateReadings::inside_is))]
 #[cycle(predicate)]
 fn group(alloc: Global, cursor: &mut Cursor, room: usize) -> Result<Predicate, SpecError>
@@ -211,7 +211,7 @@ fn group(alloc: Global, cursor: &mut Cursor, room: usize) -> Result<Predicate, S
     cursor.closed(inside, b')')
 }
 
-/// A predicate of one test.
+/// A predicate of one test, which has to come next.
 #[tactic(auto, unfolding(crate::specs::ReadPredicates::read_test), using(crate::proofs::Depths::depth_all, crate::proofs::Depths::depth_flow, crate::proofs::Depths::depth_class))]
 fn test(alloc: Global, cursor: &mut Cursor) -> Result<Predicate, SpecError>
     ensures end { cursor.new.end ≡ cursor.old.end }
@@ -236,7 +236,7 @@ fn test(alloc: Global, cursor: &mut Cursor) -> Result<Predicate, SpecError>
     Ok(Predicate::Class(cursor.name(alloc)?))
 }
 
-/// A test of a flow's destinations, behind its first word.
+/// The rest of a test of a flow's destinations, behind the word `dst`.
 #[tactic(auto, unfolding(crate::specs::ReadPredicates::read_destination), using(crate::proofs::Depths::depth_dst_in, crate::proofs::Depths::depth_dst_overlaps))]
 fn destination(cursor: &mut Cursor) -> Result<Predicate, SpecError>
     ensures end { cursor.new.end ≡ cursor.old.end }
@@ -252,7 +252,7 @@ fn destination(cursor: &mut Cursor) -> Result<Predicate, SpecError>
     Ok(Predicate::DstOverlaps(cursor.prefix()?))
 }
 
-/// A test of a flow's sources, behind its first word.
+/// The rest of a test of a flow's sources, behind the word `src`.
 #[tactic(auto, unfolding(crate::specs::ReadPredicates::read_source), using(crate::proofs::Depths::depth_src_in, crate::proofs::Depths::depth_src_overlaps))]
 fn source(cursor: &mut Cursor) -> Result<Predicate, SpecError>
     ensures end { cursor.new.end ≡ cursor.old.end }

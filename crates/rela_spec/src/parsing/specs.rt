@@ -187,7 +187,7 @@ fn single(alloc: Global, cursor: &mut Cursor, room: usize) -> Result<SpecExpr, S
     unit(alloc, cursor, room)
 }
 
-/// A specification of changes in brackets.
+/// A specification of changes in brackets, which has to come next.
 #[tactic(auto, unfolding(crate::specs::ReadSpecs::group_at), using(crate::proofs::SpecReadings::inside_is))]
 #[cycle(spec)]
 fn group(alloc: Global, cursor: &mut Cursor, room: usize) -> Result<SpecExpr, SpecError>
