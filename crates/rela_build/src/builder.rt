@@ -19,7 +19,7 @@ use rela_rir::{PathTerm, RelTerm};
 use rela_trans::{Transducer, image};
 use std::alloc::{AllocError, Global};
 
-/// What terms are built with.
+/// What terms are built with: letters, path sets, a way to make complements, and a limit.
 #[derive(Drop)]
 pub struct Builder<'a, C: Complements, P: PathSets> {
     /// The letters of all that is built.
@@ -35,12 +35,18 @@ pub struct Builder<'a, C: Complements, P: PathSets> {
 /// The automata of two path terms, or the transducers of two relation terms.
 #[derive(Drop)]
 struct Two<T: Drop> {
+    /// The machine of the first term.
     first: T,
+    /// The machine of the second term.
     second: T,
 }
 
 impl<'a, C: Complements, P: PathSets> Builder<'a, C, P> {
     /// The automaton of the term. A note of each of its complements is pushed to `notes`.
+    ///
+    /// Time and space: each meet, image and composition makes at most `limit` states, a complement
+    /// takes what `complements` does, and the other forms take time linear in the machines of their
+    /// parts.
     ///
     /// # Errors
     ///
@@ -114,7 +120,7 @@ impl<'a, C: Complements, P: PathSets> Builder<'a, C, P> {
         }
     }
 
-    /// The transducer of the term, likewise.
+    /// The transducer of the term. Notes, errors and the cost are those of [`Builder::automaton`].
     #[cycle(terms)]
     pub fn transducer(
         &self,
@@ -168,7 +174,7 @@ impl<'a, C: Complements, P: PathSets> Builder<'a, C, P> {
         }
     }
 
-    /// The automata of two terms, one after the other.
+    /// The automata of two terms, of which the first is built first.
     #[cycle(terms)]
     fn two(
         &self,
@@ -196,7 +202,7 @@ impl<'a, C: Complements, P: PathSets> Builder<'a, C, P> {
         Ok(Two { first, second })
     }
 
-    /// The transducers of two terms, one after the other.
+    /// The transducers of two terms, of which the first is built first.
     #[cycle(terms)]
     fn two_transducers(
         &self,
@@ -224,8 +230,13 @@ impl<'a, C: Complements, P: PathSets> Builder<'a, C, P> {
         Ok(Two { first, second })
     }
 
-    /// The complement of a part over the path symbols, with its note. Its number is how many notes there
-    /// are before it.
+    /// The complement of a part over the path symbols, of which the note is pushed to `notes`. Its
+    /// number is the number of notes before it.
+    ///
+    /// # Errors
+    ///
+    /// - `Refused` with that number where the complement is refused.
+    /// - `Memory` where there isn't memory.
     fn complement(
         &self,
         alloc: Global,
@@ -255,7 +266,7 @@ impl<'a, C: Complements, P: PathSets> Builder<'a, C, P> {
     }
 }
 
-/// The words of one symbol of the class.
+/// The words of one symbol of the class: none where the table has no such entry.
 fn class_automaton(
     alloc: Global,
     entry: u32,

@@ -1,3 +1,5 @@
+//! Ways to make complements, and what is noted of each.
+
 ghost use Rattle.std.specs.Prelude.{◌≡◌, ℕ, Bool, List, IfOk, IfErr, length};
 ghost use Rattle.rela_nfa.specs.Automaton.{Automaton};
 ghost use Rattle.rela_build.specs.Complement.{IsComplement, TellsAll};

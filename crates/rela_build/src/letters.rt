@@ -1,3 +1,5 @@
+//! The letters of the automata of terms.
+
 ghost use Rattle.std.specs.Prelude.{◌≡◌, ℕ, ◌+◌, ◌<◌, Bool, List, IfOk, IfNone, IfSome, All, length, slice_index_or};
 ghost use Rattle.rela_labels.specs.Partition.{block_count};
 ghost use Rattle.rela_rir.specs.declared.set.SymbolSet.{SymbolSet};
@@ -16,15 +18,17 @@ use std::marker::Model;
 /// speak of. Contracts see it as a `Lettering`.
 #[derive(Drop)]
 pub struct Letters<'a> {
-    // the class table
+    /// The class table.
     table: &'a [SymbolSet],
+    /// The number of path symbols, which are the first ones.
     path_symbols: u32,
-    // the number of markers, which come after the path symbols
+    /// The number of markers, which come after the path symbols.
     markers: u32,
+    /// The blocks of all these symbols. A letter is the number of a block.
     blocks: &'a Partition,
-    // the letters of the path symbols
+    /// The letters of the path symbols.
     path: WideSet,
-    // the letters of each entry of the class table
+    /// The letters of each entry of the class table.
     classes: Vec<WideSet>,
 }
 
@@ -40,9 +44,11 @@ impl<'a> Model for Letters<'a> {
 
 impl<'a> Letters<'a> {
     /// The letters of terms with this class table, this number of path symbols and this number of
-    /// markers, by the blocks of all these symbols. No block has both path symbols and markers, and each
-    /// class is a union of blocks. It takes the time of the path symbols and of the members of the
-    /// classes.
+    /// markers, by the blocks of all these symbols. No block has both path symbols and markers, and
+    /// each class is a union of blocks.
+    ///
+    /// Time: linear in the path symbols, the members of the classes, and the letters for each
+    /// class; space: at most a bit for each class and each letter.
     ///
     /// # Errors
     ///
@@ -120,7 +126,7 @@ impl<'a> Letters<'a> {
     }
 }
 
-/// For each class of the table its letters.
+/// The letters of each class of the table.
 fn letters_of_classes(
     alloc: Global,
     classes: &[SymbolSet],
@@ -140,7 +146,7 @@ fn letters_of_classes(
     Ok(sets)
 }
 
-/// The letters of a class, where those of the path symbols are given.
+/// The letters of a class, where `path` are those of the path symbols.
 fn letters_of_class(
     alloc: Global,
     class: &SymbolSet,

@@ -1,3 +1,5 @@
+//! What the two path sets are that terms may name.
+
 ghost use Rattle.std.specs.Prelude.{ℕ, List, IfOk};
 ghost use Rattle.rela_rir.specs.Places.{NoParts, PartsApart, PathSetPlaces};
 ghost use Rattle.rela_build.specs.Made.{IsBuilt};
@@ -45,7 +47,7 @@ impl PathSets for NoPaths {
     }
 }
 
-/// The automaton of no path.
+/// The automaton that accepts no word, whose letters are these blocks.
 fn no_words(alloc: Global, blocks: &Partition) -> Result<Nfa<WideSet>, AllocError>
     ensures { IfOk result (IsBuilt (Unit {0}) blocks.now no_paths.pre (PathSetPlaces no_paths.at_pre) (PartsApart NoParts NoParts)) }
 {

@@ -1,3 +1,5 @@
+//! Why a term isn't built.
+
 ghost use Rattle.std.specs.Prelude.{◌≡◌};
 ghost use Rattle.rela_build.specs.Stops.{stop_of};
 ghost use Rattle.rela_build.specs.declared.stop.Stop.{Stop};
@@ -12,7 +14,8 @@ pub enum Stop {
     /// A meet, an image or a composition would have more states than were allowed.
     #[error("too many states")]
     Limit,
-    /// The complement with this number wasn't made. They are numbered from 0, parts before wholes and left before right.
+    /// The complement with this number wasn't made. They are numbered from 0, parts before wholes
+    /// and left before right.
     #[error("a complement was refused")]
     Refused(usize),
     /// There isn't memory for it.

@@ -10,7 +10,8 @@ use rela_spec::parse;
 use rela_translate::{Change, Check, Core, Expr};
 use std::alloc::{AllocError, Global};
 
-/// The checks of what the tokens spell, in a text of `end` bytes.
+/// The checks of what the tokens spell, in a text of `end` bytes. Errors are those of [`parse`] and
+/// [`expand`].
 fn checks_of_tokens(
     alloc: Global,
     tokens: &[Token],
@@ -21,7 +22,8 @@ fn checks_of_tokens(
     expand(alloc, &file, locations)
 }
 
-/// The checks of a text that isn't too long.
+/// The checks of a text that isn't too long. Errors are those of [`tokens`] and
+/// [`checks_of_tokens`], and `Memory` for a longer text.
 fn checks_of(alloc: Global, text: &[u8], locations: &Locations) -> Result<Vec<Check>, SpecError> {
     if text.len() > MAX_TEXT_LEN {
         return Err(SpecError::Memory);
@@ -39,7 +41,7 @@ fn checks(alloc: Global, text: &[u8]) -> Result<Vec<Check>, SpecError> {
     }
 }
 
-/// Whether the text is refused so.
+/// Whether the text is refused with this fault.
 fn is_refused(alloc: Global, text: &[u8], fault: SpecError) -> bool {
     match checks(alloc, text) {
         Ok(_) => false,
@@ -49,10 +51,11 @@ fn is_refused(alloc: Global, text: &[u8], fault: SpecError) -> bool {
 
 /// A question about a check.
 pub(crate) trait Question {
+    /// Whether the answer is yes for this check.
     fn is_so(&self, alloc: Global, check: &Check) -> bool;
 }
 
-/// Asks it of the check of a text, and is false where the text has none or another besides.
+/// Whether the text has one check alone, for which the answer is yes.
 pub(crate) fn is_so(alloc: Global, text: &[u8], question: &impl Question) -> bool {
     match checks(alloc, text) {
         Ok(checks) => is_so_of(alloc, checks.as_slice(), question),
@@ -60,7 +63,7 @@ pub(crate) fn is_so(alloc: Global, text: &[u8], question: &impl Question) -> boo
     }
 }
 
-/// The same of these checks.
+/// Whether these are one check alone, for which the answer is yes.
 fn is_so_of(alloc: Global, checks: &[Check], question: &impl Question) -> bool {
     match checks {
         [check] => question.is_so(alloc, check),
@@ -68,6 +71,8 @@ fn is_so_of(alloc: Global, checks: &[Check], question: &impl Question) -> bool {
     }
 }
 
+/// Names that stand for nothing, are repeated, are finer than the level or are no location are
+/// refused where they stand.
 #[test]
 fn refuses_names(rt: HostRuntime) {
     let alloc = rt.alloc();
@@ -81,7 +86,7 @@ fn refuses_names(rt: HostRuntime) {
     assert!(rt; is_refused(alloc, text, SpecError::UnknownLocation { at: 13 }));
 }
 
-/// Forty paths, each of which is twice the one before it, and a check of the last.
+/// A text of forty paths, each of which is twice the one before it, and a check of the last.
 fn doubling(alloc: Global) -> Result<String, AllocError> {
     let mut text = String::from_str(alloc, "path a0 = .;")?;
     for last in 0..40 {
@@ -92,7 +97,7 @@ fn doubling(alloc: Global) -> Result<String, AllocError> {
     Ok(text)
 }
 
-/// Whether that text is too large.
+/// Whether that text is refused as too large at the name of its check.
 fn doubling_is_too_large(alloc: Global) -> bool {
     match doubling(alloc) {
         Ok(text) => is_refused(alloc, text.as_bytes(), SpecError::TooLarge { at: 870 }),
@@ -100,12 +105,13 @@ fn doubling_is_too_large(alloc: Global) -> bool {
     }
 }
 
+/// A short text may write terms of far more nodes than a check may have.
 #[test]
 fn refuses_what_is_too_large(rt: HostRuntime) {
     assert!(rt; doubling_is_too_large(rt.alloc()));
 }
 
-/// The paths of the first two classes.
+/// One symbol of the first two classes.
 fn either_class(alloc: Global) -> Result<Expr, AllocError> {
     let (first, second) = both(
         Boxed::new(alloc, Expr::Class(0)),
@@ -114,7 +120,7 @@ fn either_class(alloc: Global) -> Result<Expr, AllocError> {
     Ok(Expr::Alt(first, second))
 }
 
-/// Any of the first class for words of the first two.
+/// The unit that asks for any of the first class, of words of the first two.
 fn any_of_the_first(alloc: Global) -> Result<Core, AllocError> {
     let either = either_class(alloc)?;
     let part = Boxed::new(alloc, either)?;
@@ -127,7 +133,7 @@ fn any_of_the_first(alloc: Global) -> Result<Core, AllocError> {
     })
 }
 
-/// Whether the check asks, of devices, for that at most, and has two classes.
+/// Whether a check at the level of devices asks for that unit at most, and has two classes.
 struct AnyOfTheFirst;
 
 impl Question for AnyOfTheFirst {
@@ -139,29 +145,36 @@ impl Question for AnyOfTheFirst {
     }
 }
 
+/// Classes are numbered from 0 and markers from 1 on, and a class that is written twice has one
+/// number.
 #[test]
 fn numbers_classes_and_markers(rt: HostRuntime) {
     let text = b"level device; path e = r1; check atmost c1 : { ($e | .)* : any(r1) };";
     assert!(rt; is_so(rt.alloc(), text, &AnyOfTheFirst));
 }
 
-/// A text that has a part inside brackets, each inside the one before.
+/// Texts that have a part inside brackets, each pair inside the one before it.
 struct Nested {
+    /// What stands before the first bracket.
     front: &'static str,
+    /// What opens each pair of brackets.
     opening: &'static str,
+    /// The part inside all of them.
     inside: &'static str,
+    /// What closes each pair.
     closing: &'static str,
+    /// What stands behind the last bracket.
     back: &'static str,
 }
 
 impl Nested {
-    /// The text with this many brackets.
+    /// The text with this many pairs of brackets.
     fn text(&self, alloc: Global, count: usize) -> Result<String, AllocError> {
         let opening = self.opening.repeat(alloc, count)?;
         self.text_behind(alloc, opening.as_str(), count)
     }
 
-    /// The text that has these opened, and this many to be closed.
+    /// The text where these are opened and `count` are to be closed.
     fn text_behind(
         &self,
         alloc: Global,
@@ -172,7 +185,7 @@ impl Nested {
         self.text_between(alloc, opening, closing.as_str())
     }
 
-    /// The text that has these opened and closed.
+    /// The text where these are opened and closed.
     fn text_between(
         &self,
         alloc: Global,
@@ -186,7 +199,7 @@ impl Nested {
     }
 }
 
-/// Whether the text with this many brackets has a check, and no other.
+/// Whether the text with this many pairs of brackets has one check alone.
 fn has_a_check(alloc: Global, count: usize, nested: &Nested) -> bool {
     match nested.text(alloc, count) {
         Ok(text) => is_so(alloc, text.as_bytes(), &AnyCheck),
@@ -194,7 +207,7 @@ fn has_a_check(alloc: Global, count: usize, nested: &Nested) -> bool {
     }
 }
 
-/// That there is a check.
+/// Whether there is a check, whatever it is.
 struct AnyCheck;
 
 impl Question for AnyCheck {
@@ -205,6 +218,7 @@ impl Question for AnyCheck {
 
 // Each text has 100 brackets open at once, those of the unit and of what stands inside counted.
 
+/// Path expressions in brackets.
 const PATHS: &Nested = &Nested {
     front: "check c1 : { ",
     opening: "(",
@@ -213,11 +227,13 @@ const PATHS: &Nested = &Nested {
     back: " : preserve };",
 };
 
+/// Path expressions may be nested as deep as brackets may be open.
 #[test]
 fn expands_nested_paths(rt: HostRuntime) {
     assert!(rt; has_a_check(rt.alloc(), 99, PATHS));
 }
 
+/// Complements, each repeated inside the next.
 const COMPLEMENTS: &Nested = &Nested {
     front: "check c1 : { ",
     opening: "!(",
@@ -226,11 +242,13 @@ const COMPLEMENTS: &Nested = &Nested {
     back: " : preserve };",
 };
 
+/// Complements may be nested as deep as brackets may be open.
 #[test]
 fn expands_nested_complements(rt: HostRuntime) {
     assert!(rt; has_a_check(rt.alloc(), 97, COMPLEMENTS));
 }
 
+/// Alternatives, each a part of the next, of paths that are added.
 const ADDED_PATHS: &Nested = &Nested {
     front: "check c1 : { .* : add(",
     opening: "(",
@@ -239,11 +257,13 @@ const ADDED_PATHS: &Nested = &Nested {
     back: ") };",
 };
 
+/// The paths of a modifier may be nested as deep as brackets may be open.
 #[test]
 fn expands_nested_paths_that_are_added(rt: HostRuntime) {
     assert!(rt; has_a_check(rt.alloc(), 97, ADDED_PATHS));
 }
 
+/// Specifications in brackets.
 const BODIES: &Nested = &Nested {
     front: "check c1 : ",
     opening: "(",
@@ -252,11 +272,13 @@ const BODIES: &Nested = &Nested {
     back: ";",
 };
 
+/// Specifications may be nested as deep as brackets may be open.
 #[test]
 fn expands_nested_bodies(rt: HostRuntime) {
     assert!(rt; has_a_check(rt.alloc(), 99, BODIES));
 }
 
+/// Specifications that are joined by `else`, each the second part of the one around it.
 const ALTERNATIVES: &Nested = &Nested {
     front: "check c1 : ",
     opening: "({ r1:0 : drop } else ",
@@ -265,11 +287,13 @@ const ALTERNATIVES: &Nested = &Nested {
     back: ";",
 };
 
+/// Specifications that are joined may be nested as deep as brackets may be open.
 #[test]
 fn expands_nested_alternatives(rt: HostRuntime) {
     assert!(rt; has_a_check(rt.alloc(), 99, ALTERNATIVES));
 }
 
+/// Predicates, each the negation of the next.
 const PREDICATES: &Nested = &Nested {
     front: "check c1 for ",
     opening: "not (",
@@ -278,6 +302,7 @@ const PREDICATES: &Nested = &Nested {
     back: " : { .* : preserve };",
 };
 
+/// Predicates may be nested as deep as brackets may be open.
 #[test]
 fn expands_nested_predicates(rt: HostRuntime) {
     assert!(rt; has_a_check(rt.alloc(), 100, PREDICATES));

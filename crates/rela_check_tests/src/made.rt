@@ -5,7 +5,7 @@ ghost use Rattle.std.specs.Prelude.{◌≡◌, IfOk, Ok};
 
 use std::alloc::{AllocError, Global};
 
-/// Both, where both were made.
+/// Both values, or the first error.
 pub(crate) fn both<T: Drop, U: Drop>(
     first: Result<T, AllocError>,
     second: Result<U, AllocError>,
@@ -16,7 +16,7 @@ pub(crate) fn both<T: Drop, U: Drop>(
     Ok((first?, second?))
 }
 
-/// Whether it was made, and is this value.
+/// Whether it was made and is this value.
 pub(crate) fn gives<T: PartialEq + Drop>(made: Result<T, AllocError>, value: &T) -> bool {
     match made {
         Ok(made) => made == *value,
@@ -48,6 +48,7 @@ pub(crate) fn give_others<T: PartialEq + Drop>(
 
 /// What can be copied.
 pub(crate) trait Copied: PartialEq + Drop {
+    /// A copy of it. The only error is want of memory.
     fn copied(&self, alloc: Global) -> Result<Self, AllocError>;
 }
 

@@ -20,7 +20,7 @@ fn sample(alloc: Global) -> Result<RelTerm, AllocError>
     RelTerm::union(alloc, kept, changed)
 }
 
-/// The number of nodes of it, and its depth.
+/// The number of nodes of that relation and its depth, or `None` where there isn't memory.
 fn sizes(alloc: Global) -> Option<[u64; 2]> {
     match sample(alloc) {
         Ok(relation) => Some([nodes(&relation), depth(&relation)]),
@@ -28,6 +28,7 @@ fn sizes(alloc: Global) -> Option<[u64; 2]> {
     }
 }
 
+/// Each form and each leaf is a node.
 #[test]
 fn measures(rt: HostRuntime) {
     assert_eq!(rt; sizes(rt.alloc()), Some([6, 3]));
@@ -51,6 +52,7 @@ fn image(alloc: Global) -> Result<PathTerm, AllocError> {
     PathTerm::image(alloc, PathTerm::Pre, relation)
 }
 
+/// A term equals its copy, and no other term.
 #[test]
 fn copies(rt: HostRuntime) {
     let alloc = rt.alloc();
@@ -59,53 +61,55 @@ fn copies(rt: HostRuntime) {
     assert!(rt; give_others(image(alloc), Ok(PathTerm::Pre)));
 }
 
-/// The words that aren't paths both before and after the change.
+/// The words of path symbols that aren't paths both before and after the change.
 fn others(alloc: Global) -> Result<PathTerm, AllocError> {
     let paths = PathTerm::meet(alloc, PathTerm::Pre, PathTerm::Post)?;
     PathTerm::complement(alloc, paths)
 }
 
-/// The words of symbol 1 alone.
+/// The words that have symbol 1 alone, any number of times.
 fn many(alloc: Global) -> Result<PathTerm, AllocError> {
     let many = PathTerm::star(alloc, PathTerm::One(1))?;
     PathTerm::concat(alloc, many, PathTerm::Empty)
 }
 
-/// Both.
+/// The words of either set.
 fn many_and_others(alloc: Global) -> Result<PathTerm, AllocError> {
     let (many, others) = both(many(alloc), others(alloc))?;
     PathTerm::union(alloc, many, others)
 }
 
+/// A path term of nested forms can be made, and is not the empty set.
 #[test]
 fn makes_path_terms(rt: HostRuntime) {
     assert!(rt; give_others(many_and_others(rt.alloc()), Ok(PathTerm::None)));
 }
 
-/// Any number of pairs of the relation.
+/// Pairs of the relation, one after another: none, one or more.
 fn repeated(alloc: Global) -> Result<RelTerm, AllocError> {
     let relation = sample(alloc)?;
     RelTerm::star(alloc, relation)
 }
 
-/// These, and one more behind them.
+/// Those pairs, each with one more of the relation behind it.
 fn longer(alloc: Global) -> Result<RelTerm, AllocError> {
     let (repeated, more) = both(repeated(alloc), sample(alloc))?;
     RelTerm::concat(alloc, repeated, more)
 }
 
-/// By these to some word, and from it by the relation.
+/// The composition of those pairs and the relation.
 fn chained(alloc: Global) -> Result<RelTerm, AllocError> {
     let (longer, more) = both(longer(alloc), sample(alloc))?;
     RelTerm::compose(alloc, longer, more)
 }
 
+/// A relation term of nested forms can be made, and is not the one that it is made of.
 #[test]
 fn makes_relation_terms(rt: HostRuntime) {
     assert!(rt; give_others(chained(rt.alloc()), sample(rt.alloc())));
 }
 
-/// No symbol, or all but these.
+/// The set of no symbol, or, where negated, of all.
 fn set(alloc: Global, negated: bool) -> SymbolSet {
     SymbolSet {
         negated,
@@ -113,7 +117,8 @@ fn set(alloc: Global, negated: bool) -> SymbolSet {
     }
 }
 
-/// That the paths before and after the change are the same, or that those before are among those after.
+/// The assertion that the paths before and after the change are the same, or else that those before
+/// are among those after.
 fn of_paths(equal: bool) -> Assertion {
     if equal {
         Assertion::Equal(PathTerm::Pre, PathTerm::Post)
@@ -122,6 +127,7 @@ fn of_paths(equal: bool) -> Assertion {
     }
 }
 
+/// Sets differ by whether they are negated, and assertions by their kind.
 #[test]
 fn tells_sets_and_assertions_apart(rt: HostRuntime) {
     assert!(rt; give_others(Ok(set(rt.alloc(), true)), Ok(set(rt.alloc(), false))));

@@ -12,8 +12,9 @@ use rela_rir::SymbolSet;
 use rela_translate::Check;
 use std::alloc::{AllocError, Global};
 
-/// The blocks of the check's symbols, under the alphabet of its level. They are found in the time of
-/// the symbols and of the members of the class table.
+/// The blocks of the check's symbols, under the alphabet of its level: the partition by the classes
+/// of its table is refined until `drop`, `loop` and each marker stand alone. It takes the time of
+/// the symbols and of the members of the class table. The only error is want of memory.
 pub(crate) fn blocks_of(
     alloc: Global,
     check: &Check,
@@ -38,7 +39,7 @@ fn symbols_of(check: &Check, alphabet: &Alphabet) -> u32
     alphabet.len() + count_markers(check.body())
 }
 
-/// Splits the blocks by each class of the table.
+/// Refines the blocks by each class of the table.
 fn split_by_classes(
     alloc: Global,
     splitter: &mut Splitter,

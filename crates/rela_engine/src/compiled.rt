@@ -28,16 +28,17 @@ use std::marker::Model;
 /// see it as a `Compilation`.
 #[derive(Drop)]
 pub struct Compiled<'a> {
+    /// The check.
     check: &'a Check,
-    // the number of locations of the check's level
+    /// The number of locations of the check's level.
     locations: u32,
-    // how many states a construction may have
+    /// How many states a construction may have.
     states: usize,
-    // the blocks of the check's symbols
+    /// The blocks of the check's symbols.
     blocks: Partition,
-    // none where a construction in them passed the limit
+    /// Its two relations; `None` where a construction in them passed the limit.
     relations: Option<Relations>,
-    // whether no unit of the check asks for a change
+    /// Whether no unit of the check asks for a change.
     alike: bool,
 }
 
@@ -71,7 +72,11 @@ impl<'a> Model for Compiled<'a> {
 }
 
 /// The check compiled under the alphabet of its level, of which its class table lists path symbols
-/// alone. Each construction in its relations may have so many states. The only error is want of memory.
+/// alone. Each construction in its relations may have at most `states` states. The only error is
+/// want of memory.
+///
+/// Time and space: those of the constructions, each of at most `states` states, and of the symbols
+/// and the members of the class table.
 pub fn compile<'a>(
     alloc: Global,
     check: &'a Check,
@@ -220,9 +225,9 @@ impl<'a> Compiled<'a> {
         self.states
     }
 
-    /// Whether both relations could be made under the limit. They could not only where some counted
-    /// term in them has more reached places than the limit, and where a complement in them has a part
-    /// that tells more words.
+    /// Whether both relations could be made under the limit. Where they could not, some counted
+    /// term in them has more reached places than the limit; and they could not where a complement
+    /// in them has a part that tells more words than that.
     pub fn complete(&self) -> bool
         ensures made { IsTrue result ↔ IsSome self.now.relations }
         ensures past { IsFalse result → PassesLimit self.now }
@@ -250,7 +255,8 @@ impl<'a> Compiled<'a> {
         &self.blocks
     }
 
-    /// The relation that the paths before the change are seen through, made small for many walks.
+    /// The relation that the paths before the change are seen through, by the transducer that is
+    /// made small for many walks.
     pub fn before(&self) -> &Transducer<WideSet>
         requires complete { IsSome self.now.relations }
         ensures before { ForSome self.now.relations (λ relations. result.now ≡ relations.before.small) }
@@ -266,7 +272,8 @@ impl<'a> Compiled<'a> {
         }
     }
 
-    /// The relation that the paths after the change are seen through, likewise.
+    /// The relation that the paths after the change are seen through, by the transducer that is
+    /// made small for many walks.
     pub fn after(&self) -> &Transducer<WideSet>
         requires complete { IsSome self.now.relations }
         ensures after { ForSome self.now.relations (λ relations. result.now ≡ relations.after.small) }
@@ -282,8 +289,8 @@ impl<'a> Compiled<'a> {
         }
     }
 
-    /// Both relations twice, as they were built and made small; `None` where they could not be made
-    /// under the limit.
+    /// The transducers of both relations, as they were built and made small; `None` where they
+    /// could not be made under the limit.
     pub(crate) fn relations(&self) -> Option<&Relations>
         ensures some { IfSome result (λ relations. self.now.relations ≡ Some relations.now) }
         ensures none { IfNone result (self.now.relations ≡ None) }

@@ -24,8 +24,9 @@ use rela_snapshot::FlowPair;
 use rela_translate::Check;
 use std::alloc::{AllocError, Global};
 
-/// The function at the narrowest sets of letters that hold so many blocks. Of more than 1,024 blocks they
-/// are wide: most labels of so large an automaton have one letter, which takes no words there.
+/// The function at the narrowest sets of letters that hold so many blocks. Above 1,024 blocks these
+/// are wide ones, since most labels of so large an automaton have one letter alone, which takes no
+/// memory on the heap there.
 macro_rules! by_width {
     ($blocks:expr, $row:ident($($argument:expr),*)) => {
         match $blocks {
@@ -37,14 +38,16 @@ macro_rules! by_width {
     };
 }
 
-/// The row of the check for a flow, where a construction may have so many states: whether the flow's
-/// paths before and after the change have the same image, and if not the first word that tells, with its
-/// first source. It is undecided only where that is licensed, and always where it has to be. The images
-/// are compared over blocks of symbols: those of the check, split so that the locations of the flow's
-/// nodes stand alone.
+/// The row of the check for a flow, where a construction may have at most `states` states: whether
+/// the flow's paths before and after the change have the same image, and if not the first word in
+/// shortlex order that tells, with its first source. It is undecided only where that is licensed,
+/// and always where it has to be. The images are compared over blocks of symbols: those of the
+/// check, split so that the locations of the flow's nodes stand alone.
 ///
-/// The alphabet is that of the check's level, whose path symbols the class table lists, and the nodes
-/// of both graphs stand at its locations. The only error is want of memory.
+/// The alphabet is that of the check's level, whose path symbols the class table lists, and the
+/// nodes of both graphs stand at its locations. The only error is want of memory.
+///
+/// Time and space: those of [`compile`] and [`decide_compiled`].
 pub fn decide(
     alloc: Global,
     check: &Check,
@@ -65,6 +68,10 @@ pub fn decide(
 
 /// The row of a compiled check for a flow, as [`decide`] gives it. The alphabet is the one that the
 /// check was compiled with.
+///
+/// Time and space: linear in the nodes and edges of the flow where the check treats both sides
+/// alike and the two graphs look the same; otherwise those of two images and of their comparison,
+/// each of which makes at most `states` states, at most twice.
 pub fn decide_compiled(
     alloc: Global,
     compiled: &Compiled<'_>,
@@ -100,7 +107,8 @@ fn is_met_by_looks(compiled: &Compiled<'_>, pair: &FlowPair) -> bool
     compiled.treats_sides_alike() && pair.before.at(level) == pair.after.at(level)
 }
 
-/// The row, where no look at the graphs alone tells it.
+/// The row, by automata over blocks of symbols in which the locations of the flow's nodes stand
+/// alone.
 fn row_by_automata(
     alloc: Global,
     compiled: &Compiled<'_>,

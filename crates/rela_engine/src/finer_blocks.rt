@@ -9,8 +9,9 @@ use rela_labels::Partition;
 use rela_names::{Level, Symbol};
 use std::alloc::{AllocError, Global};
 
-/// The blocks split further, so that the location of each node of both graphs has a block of its own.
-/// It takes the time of the blocks and the nodes, and not that of the symbols.
+/// The blocks refined further, so that the location of each node of both graphs has a block of its
+/// own. It takes the time of the blocks and the nodes, and not that of the symbols. The only error
+/// is want of memory.
 pub(crate) fn finer_blocks(
     alloc: Global,
     blocks: &Partition,
@@ -32,7 +33,7 @@ pub(crate) fn finer_blocks(
     blocks.with_alone(alloc, symbols.as_slice())
 }
 
-/// Adds the location of each node.
+/// Appends the location of each node.
 fn push_locations(symbols: &mut Vec<Symbol>, nodes: &[Node], level: Level) -> Result<(), AllocError>
     ensures { IfOk result (λ _. symbols.new.items ≡ symbols.old.items ++ map (symbol_at level) nodes.now) }
 {

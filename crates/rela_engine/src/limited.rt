@@ -14,9 +14,10 @@ use rela_reduce::reduce;
 use rela_subset::{Dfa, determinise};
 use std::alloc::Global;
 
-/// Makes a complement of the minimal automaton of its part. One is refused only where words of path
-/// symbols reach more sets of states of the part than the limit, and always where more such words are
-/// told apart by continuing them.
+/// Makes the complement of the minimal automaton of its part. A complement is refused only where
+/// words of path symbols reach more sets of states of the part than the limit, and always where
+/// more such words are each told apart from the others by a continuation (the equivalence of Myhill
+/// and Nerode).
 #[derive(Drop)]
 pub(crate) struct Limited {
     /// The limit: how many sets of states words may reach.
@@ -58,9 +59,15 @@ impl Complements for Limited {
     }
 }
 
-/// The minimal automaton of the words over these letters that the automaton accepts, where its states are
-/// no more than the limit. It is made by way of one that reaches fewer sets of states, and the one with
-/// all these sets, which may be far larger, is let go here.
+/// The minimal automaton of the words over these letters that the automaton accepts. It is made by
+/// way of one that reaches fewer sets of states, and the one with all these sets, which may be far
+/// larger, is let go here.
+///
+/// # Errors
+///
+/// - `Limit` only where words over these letters reach more sets of states of the automaton than
+///   the limit, and always where more such words are told apart by continuing them.
+/// - `Memory` where there isn't memory.
 fn least_over(
     alloc: Global,
     a: &Nfa<WideSet>,

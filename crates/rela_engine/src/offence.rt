@@ -16,13 +16,14 @@ use std::alloc::Global;
 /// A word of letters that one image has and the other lacks.
 #[derive(Drop)]
 pub(crate) struct Offence {
+    /// The word, by the numbers of its letters.
     pub(crate) letters: Word,
     /// The side whose image has the word.
     pub(crate) side: Side,
 }
 
-/// The first word that is in just one of the two images, or, where only paths that come new offend,
-/// in the image after alone.
+/// The first word in shortlex order that is in just one of the two images, or, where only paths
+/// that come new offend, in the image after alone. `None` where there is none.
 ///
 /// # Errors
 ///
@@ -54,7 +55,7 @@ pub(crate) fn first_offence<L: LabelSet>(
     }
 }
 
-/// The first word that only the image after has.
+/// The first word that only the image after has. Errors are those of [`first_offence`].
 fn first_new<L: LabelSet>(
     alloc: Global,
     before: &Nfa<L>,
@@ -81,7 +82,7 @@ fn first_new<L: LabelSet>(
     }
 }
 
-/// The first word that just one of the images has.
+/// The first word that just one of the images has. Errors are those of [`first_offence`].
 fn first_difference<L: LabelSet>(
     alloc: Global,
     before: &Nfa<L>,

@@ -19,7 +19,7 @@ use rela_rir::RelTerm;
 use rela_trans::Transducer;
 use std::alloc::{AllocError, Global};
 
-/// The relation of the term twice, over these letters.
+/// The transducers of the term over these letters: as it is built, and made small.
 ///
 /// # Errors
 ///
@@ -47,7 +47,8 @@ pub(crate) fn relation_of(
     Ok(Twofold { plain, small })
 }
 
-/// The transducer of the term as it is built, with complements under the limit.
+/// The transducer of the term as it is built, with complements under the limit. Errors are those of
+/// [`relation_of`].
 fn plain_relation(
     alloc: Global,
     term: &RelTerm,
@@ -74,9 +75,9 @@ fn plain_relation(
     builder.transducer(alloc, term, &mut notes)
 }
 
-/// The same pairs by a transducer that is made once and walked beside the paths of each flow, so the
-/// moves that lead to no final state are left out, and the silent detours too. It costs a step for each
-/// state and each move.
+/// A transducer with the same pairs that has neither moves that lead to no final state nor silent
+/// detours. It is made once and walked beside the paths of each flow. It costs a step for each
+/// state and each move. The only error is want of memory.
 fn small_relation(
     alloc: Global,
     plain: &Transducer<WideSet>,
@@ -92,7 +93,8 @@ fn small_relation(
     Ok(shortened)
 }
 
-/// A transducer with the same pairs, relabelled by the same blocks.
+/// A transducer with the same pairs, relabelled by the same blocks. The only error is want of
+/// memory.
 fn copied(
     alloc: Global,
     plain: &Transducer<WideSet>,

@@ -6,7 +6,7 @@ use rela_labels::WideSet;
 use rela_trans::Transducer;
 use std::marker::Model;
 
-/// A relation twice. Both transducers have the same pairs. Contracts see it as a `Twofold`.
+/// A relation by two transducers that have the same pairs. Contracts see it as a `Twofold`.
 #[derive(Drop)]
 pub(crate) struct Twofold {
     /// As it was built of its term: each of its states stands for places of the term.
@@ -27,8 +27,10 @@ impl Model for Twofold {
 /// `Relations`, with both of them.
 #[derive(Drop)]
 pub(crate) struct Relations {
+    /// The relation that the paths before the change are seen through.
     before: Twofold,
-    // none where no unit of the check asks for a change, and so the relation before it serves both sides
+    /// The relation that the paths after the change are seen through; `None` where no unit of the
+    /// check asks for a change, so that `before` serves both sides.
     after: Option<Twofold>,
 }
 

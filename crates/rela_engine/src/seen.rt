@@ -36,17 +36,20 @@ pub(crate) enum Form {
     Plain,
 }
 
-/// A set of paths, a relation as far as it is one of those paths, and the image of the paths under it.
-/// Their letters are blocks of symbols.
+/// The paths of one side, and what the relation of that side makes of them. The letters of all
+/// three are the same blocks of symbols.
 #[derive(Drop)]
 pub(crate) struct Seen<L: LabelSet> {
+    /// The automaton of the paths.
     pub(crate) paths: Nfa<L>,
+    /// The transducer of the relation, as far as it is one of those paths.
     pub(crate) relation: Transducer<L>,
+    /// The automaton of the image of the paths under the relation.
     pub(crate) image: Nfa<L>,
 }
 
-/// The paths of the graph at the level of the check, seen through the relation, whose letters are the
-/// check's blocks. Those of the result are the finer ones.
+/// The paths of the graph at the level of the check, seen through a relation whose letters are the
+/// check's blocks. The letters of the result are `blocks`, which refine those.
 ///
 /// # Errors
 ///
@@ -94,7 +97,7 @@ pub(crate) fn see<L: LabelSet>(
     })
 }
 
-/// The paths of the graph at the level, in this form.
+/// The automaton of the graph's paths at the level, in this form. The only error is want of memory.
 fn paths_over<L: LabelSet>(
     alloc: Global,
     graph: &Graph,
@@ -123,7 +126,8 @@ fn paths_over<L: LabelSet>(
     }
 }
 
-/// The paths of the graph at the level, by a state for each place of them.
+/// The automaton of the graph's paths at the level, with a state for each place of them. The only
+/// error is want of memory.
 fn plain_paths<L: LabelSet>(
     alloc: Global,
     graph: &Graph,
@@ -151,8 +155,8 @@ fn plain_paths<L: LabelSet>(
     Ok(nfa)
 }
 
-/// The paths of the graph at the level, without silent detours: each state is met once for each state of
-/// the relation.
+/// The automaton of the graph's paths at the level, without silent detours: each of its states is
+/// met once for each state of the relation. The only error is want of memory.
 fn short_paths<L: LabelSet>(
     alloc: Global,
     graph: &Graph,
@@ -177,7 +181,7 @@ fn short_paths<L: LabelSet>(
     Ok(nfa)
 }
 
-/// The relation over the finer blocks, in this form.
+/// The relation over the finer blocks, in this form. The only error is want of memory.
 fn relation_over<L: LabelSet>(
     alloc: Global,
     relation: &Twofold,
@@ -204,11 +208,13 @@ fn relation_over<L: LabelSet>(
     }
 }
 
-/// A relation with no more states than this for each state of the paths is relabelled whole: that costs
-/// a step for each of its states, and to find those that are reached a step for each pair.
+/// A relation is relabelled whole where it has at most this many states for each state of the
+/// paths: that costs a step for each of its states, and to find those that are reached costs a step
+/// for each pair.
 const FEW_FOR_EACH: usize = 32;
 
-/// The relation over the finer blocks, as far as it is one of the paths.
+/// The relation over the finer blocks, as far as it is one of the paths. The only error is want of
+/// memory.
 fn small_relation<L: LabelSet>(
     alloc: Global,
     relation: &Transducer<WideSet>,
@@ -232,7 +238,7 @@ fn small_relation<L: LabelSet>(
     }
 }
 
-/// The relation over the finer blocks, by each of its states.
+/// The relation over the finer blocks, with all of its states. The only error is want of memory.
 fn whole_relation<L: LabelSet>(
     alloc: Global,
     relation: &Transducer<WideSet>,
@@ -253,7 +259,8 @@ fn whole_relation<L: LabelSet>(
     Ok(finer)
 }
 
-/// The relation over the finer blocks, by the states to which some path leads.
+/// The relation over the finer blocks, with the states to which some path leads. The only error is
+/// want of memory.
 fn read_relation<L: LabelSet>(
     alloc: Global,
     relation: &Transducer<WideSet>,

@@ -12,7 +12,8 @@ use rela_report::Row;
 use rela_witness::least_source;
 use std::alloc::{AllocError, Global};
 
-/// The row of an offence, where its side is seen so.
+/// The row of an offence, where its side is seen so: the first word of symbols with the offence's
+/// letters, and its first source. The only error is want of memory.
 pub(crate) fn violated_row<L: LabelSet>(
     alloc: Global,
     offence: &Offence,
@@ -34,7 +35,8 @@ pub(crate) fn violated_row<L: LabelSet>(
     })
 }
 
-/// For each letter the least symbol of its block: of the words that are read so, the first.
+/// For each letter the least symbol of its block: of the words that are read as these letters, the
+/// first. The only error is want of memory.
 fn least_symbols(alloc: Global, blocks: &Partition, letters: &[u32]) -> Result<Word, AllocError>
     requires { All (λ k. k < block_count blocks.now) letters.now }
     ensures { IfOk result (AreLeast blocks.now letters.now) }
@@ -46,7 +48,8 @@ fn least_symbols(alloc: Global, blocks: &Partition, letters: &[u32]) -> Result<W
     Ok(Word::from_symbols(symbols))
 }
 
-/// The first path that is related to the word, which is one of the image.
+/// The first path in shortlex order that is related to the word, which is one of the image. The
+/// only error is want of memory.
 fn first_source<L: LabelSet>(
     alloc: Global,
     seen: &Seen<L>,

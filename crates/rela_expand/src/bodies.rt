@@ -10,10 +10,12 @@ use crate::forms::{Forms, Size, of_one, of_two};
 use rela_spec::Modifier;
 use std::alloc::{AllocError, Global};
 
-/// How two parts are joined.
+/// How two bodies are joined.
 #[derive(Clone, Copy, PartialEq, Eq, Debug)]
 pub(crate) enum BodyJoint {
+    /// By `then`: a path has a front of the first and a rest of the second.
     Then,
+    /// By `else`: the first for the paths of its zone, and the second for others.
     Else,
 }
 
@@ -21,35 +23,44 @@ pub(crate) enum BodyJoint {
 /// its paths by theirs among the forms.
 #[derive(Debug, PartialEq, Eq, Drop)]
 pub(crate) enum BodyLayer {
+    /// A zone with its modifier.
     Unit {
         zone: usize,
         modifier: Modifier<usize>,
     },
+    /// Two bodies, joined so.
     Join(BodyJoint, usize, usize),
 }
 
 /// How large the terms of a zone and of its two relations are.
 #[derive(Clone, Copy, PartialEq, Eq, Debug)]
 pub(crate) struct BodySize {
+    /// The size of the zone's term.
     pub(crate) zone: Size,
+    /// The size of the relation that the paths before the change are seen through.
     pub(crate) before: Size,
+    /// The size of the relation that the paths after the change are seen through.
     pub(crate) after: Size,
 }
 
 /// A layer, with the sizes of all that it stands for.
 #[derive(Drop)]
 pub(crate) struct BodyForm {
+    /// The layer itself.
     pub(crate) layer: BodyLayer,
+    /// How large the terms are of the body that it is the outermost layer of.
     pub(crate) size: BodySize,
 }
 
-/// Bodies, each behind its parts.
+/// Bodies, each behind its parts. A body is named by its place, from 0.
 #[derive(Drop)]
 pub(crate) struct Bodies {
+    /// The outermost layer of each body, by its place.
     pub(crate) forms: Vec<BodyForm>,
 }
 
 impl Bodies {
+    /// No bodies.
     pub(crate) fn new(alloc: Global) -> Bodies
         ensures { result.forms.items ≡ [] }
     {
@@ -58,7 +69,7 @@ impl Bodies {
         }
     }
 
-    /// The layer at this place.
+    /// The outermost layer of the body at this place.
     pub(crate) fn get(&self, place: usize) -> &BodyLayer
         requires { place < length self.now.forms.items }
         ensures shape { (paths : List Shape) → AreBodies paths self.now.forms.items →
@@ -77,7 +88,8 @@ impl Bodies {
         self.forms[place].size
     }
 
-    /// Puts a layer behind the others, and says where.
+    /// Appends a layer, of which the parts stand there already, and gives its place. The only error
+    /// is want of memory.
     pub(crate) fn add(&mut self, paths: &Forms<'_>, layer: BodyLayer) -> Result<usize, AllocError>
         requires are { AreBodies (shapes_of paths.now.forms.items) self.old.forms.items }
         requires below { behind_parts layer ≤ length self.old.forms.items }
@@ -93,7 +105,7 @@ impl Bodies {
         Ok(place)
     }
 
-    /// How large the terms of a layer are.
+    /// How large the terms of the body of this layer are, of which the parts stand there already.
     fn size_of(&self, paths: &Forms<'_>, layer: &BodyLayer) -> BodySize
         requires are { AreBodies (shapes_of paths.now.forms.items) self.now.forms.items }
         requires below { behind_parts layer.now ≤ length self.now.forms.items }
@@ -107,7 +119,7 @@ impl Bodies {
     }
 }
 
-/// How large the terms are that are joined of two.
+/// How large the terms of two bodies are that are joined so.
 fn joined_size(by: BodyJoint, a: BodySize, b: BodySize) -> BodySize
     ensures { (x y : BodyShape) → a ≡ size_of_body x → b ≡ size_of_body y → result ≡ size_of_body (body_joined by x y) }
 {
@@ -179,13 +191,14 @@ fn unit_size(paths: &Forms<'_>, zone: usize, modifier: &Modifier<usize>) -> Body
 /// The size of one symbol.
 const LEAF: Size = Size { nodes: 1, depth: 1 };
 
-/// The words of the first that are not in the second, with themselves.
+/// The size of the identity on the words of the first term that are not in the second.
 fn size_without(a: Size, b: Size) -> Size
     ensures { (x y : Measure) → a ≡ capped_size x → b ≡ capped_size y → result ≡ capped_size (over (over_without x y)) }
 {
     of_one(of_two(a, of_one(b)))
 }
 
+/// How large the terms of a unit are that replaces the old paths of its zone by the new ones.
 fn replaced_size(zone: Size, old: Size, new: Size) -> BodySize
     ensures { (z p q : Measure) → zone ≡ capped_size z → old ≡ capped_size p → new ≡ capped_size q → result ≡ capped_sizes (unit_measures z (Modifier.Replace p q)) }
 {
@@ -198,6 +211,7 @@ fn replaced_size(zone: Size, old: Size, new: Size) -> BodySize
     }
 }
 
+/// How large the terms of a unit are that asks for any of the paths.
 fn any_size(zone: Size, path: Size) -> BodySize
     ensures { (z p : Measure) → zone ≡ capped_size z → path ≡ capped_size p → result ≡ capped_sizes (unit_measures z (Modifier.AnyOf p)) }
 {

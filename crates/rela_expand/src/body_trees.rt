@@ -11,7 +11,8 @@ use crate::bodies::{Bodies, BodyJoint, BodyLayer};
 use crate::forms::Forms;
 use std::alloc::AllocError;
 
-/// The tree of the bodies at these places.
+/// Joins the bodies at these places by a balanced binary tree, in their order, and gives its place.
+/// A body alone is its own tree. The only error is want of memory.
 pub(crate) fn body_tree(
     bodies: &mut Bodies,
     paths: &Forms<'_>,

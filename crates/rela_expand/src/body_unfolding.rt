@@ -20,7 +20,8 @@ use rela_spec::Modifier;
 use rela_translate::{Change, Core};
 use std::alloc::Global;
 
-/// What has to become of the paths of a zone. A path that is asked for has the next marker.
+/// The change that a modifier stands for, whose paths are named by their places. What `any` asks
+/// for gets the next marker.
 ///
 /// # Errors
 ///
@@ -76,7 +77,8 @@ fn unfold_modifier<'a>(
     }
 }
 
-/// The body that stands at this place. It goes as deep into the stack as its terms are deep.
+/// The body that stands at this place, of which the classes and markers are numbered from left to
+/// right. It goes as deep into the stack as its terms are deep.
 ///
 /// # Errors
 ///
@@ -121,6 +123,7 @@ pub(crate) fn unfold_body<'a>(
     }
 }
 
+/// The two bodies, joined so.
 fn join(by: BodyJoint, a: Boxed<Core>, b: Boxed<Core>) -> Core
     ensures { result ≡ core_joined by a b }
 {

@@ -23,22 +23,31 @@ use std::slice;
 /// Where an expression is read: the network, the level of its locations, and the names before it.
 #[derive(Clone, Copy)]
 pub(crate) struct Scope<'a, 'b> {
+    /// The locations of the network.
     pub(crate) locations: &'b Locations,
+    /// How finely the specification tells them apart.
     pub(crate) level: Level,
+    /// What the names of earlier items stand for.
     pub(crate) names: &'b Definitions<'a>,
 }
 
 /// What is made of one part.
 #[derive(Clone, Copy, PartialEq, Eq, Debug)]
 pub(crate) enum Wrap {
+    /// `!e`: its complement.
     Not,
+    /// `e*`: none, one or more of its paths.
     Star,
+    /// `e+`: one or more of its paths.
     Plus,
+    /// `e?`: none or one of its paths.
     Maybe,
+    /// `e{n}`: exactly so many of its paths.
     Times(u32),
 }
 
-/// Makes the forms of a path expression, and says where it stands.
+/// Adds the forms of a path expression, and gives the place of the outermost one. What a reference
+/// names stands there already, and a list becomes a balanced binary tree.
 ///
 /// # Errors
 ///
@@ -74,7 +83,8 @@ pub(crate) fn gather<'a>(
     }
 }
 
-/// Makes the forms of the part, and of what is made of it.
+/// Adds the forms of the part, and behind them those of what is made of it. Errors are those of
+/// [`gather`].
 #[cycle(gather)]
 fn around<'a>(
     alloc: Global,
@@ -92,7 +102,8 @@ fn around<'a>(
     Ok(made_around(forms, how, place)?)
 }
 
-/// Makes the forms of the parts, and the tree of them.
+/// Adds the forms of the parts, and behind them those of the tree that joins them. Errors are those
+/// of [`gather`].
 #[cycle(gather)]
 fn join<'a>(
     alloc: Global,
@@ -110,7 +121,8 @@ fn join<'a>(
     Ok(tree(forms, by, places.as_slice())?)
 }
 
-/// Makes the forms of each part, and says where they stand.
+/// Adds the forms of each part, and gives their places in the order of the parts. Errors are those
+/// of [`gather`].
 #[cycle(gather)]
 fn gather_all<'a>(
     alloc: Global,
@@ -130,7 +142,7 @@ fn gather_all<'a>(
     Ok(places)
 }
 
-/// Makes the form of a layer whose parts stand already.
+/// Adds the form of a layer whose parts stand there already. The only error is `Memory`.
 fn leaf<'a>(forms: &mut Forms<'a>, layer: Layer<'a>) -> Result<usize, SpecError>
     requires { behind layer ≤ length (shapes_of forms.old.forms.items) }
     ensures grown { Extends (shapes_of forms.old.forms.items) (shapes_of forms.new.forms.items) }
@@ -140,7 +152,7 @@ fn leaf<'a>(forms: &mut Forms<'a>, layer: Layer<'a>) -> Result<usize, SpecError>
     Ok(forms.add(layer)?)
 }
 
-/// Makes what is made of the part at this place.
+/// Adds the forms of what is made of the part at this place. The only error is want of memory.
 fn made_around(forms: &mut Forms<'_>, how: Wrap, part: usize) -> Result<usize, AllocError>
     requires { part < length (shapes_of forms.old.forms.items) }
     ensures grown { Extends (shapes_of forms.old.forms.items) (shapes_of forms.new.forms.items) }
@@ -161,7 +173,7 @@ fn made_around(forms: &mut Forms<'_>, how: Wrap, part: usize) -> Result<usize, A
     }
 }
 
-/// Makes the class of one member.
+/// Adds the class of one member. Errors are those of [`look_at_all`].
 fn one<'a>(
     scope: &Scope<'a, '_>,
     forms: &mut Forms<'a>,
@@ -175,7 +187,7 @@ fn one<'a>(
     leaf(forms, Layer::One(member))
 }
 
-/// Makes the class of some members.
+/// Adds the class of some members. Errors are those of [`look_at_all`].
 fn class<'a>(
     scope: &Scope<'a, '_>,
     forms: &mut Forms<'a>,
@@ -190,7 +202,7 @@ fn class<'a>(
     leaf(forms, Layer::Class { negated, members })
 }
 
-/// Where the path that a reference names stands.
+/// Where the path stands that a reference names: `UnknownName` where no earlier path has the name.
 fn named(scope: &Scope<'_, '_>, forms: &Forms<'_>, name: &Name, at: u32) -> Result<usize, SpecError>
     requires { AreKnown (shapes_of forms.now.forms.items) scope.now.names.now }
     ensures made { IfOk result (λ k. IsMade (ok_or (UnknownName at) (paths_named (shapes_of forms.now.forms.items) scope.now.names.now name.now)) (shapes_of forms.now.forms.items) k) }

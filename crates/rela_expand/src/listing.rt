@@ -11,7 +11,8 @@ use rela_locations::{By, Locations, MemberError};
 use rela_names::{Level, Name, Symbol};
 use std::alloc::{AllocError, Global};
 
-/// The path symbols that are picked, ascending. What picks none adds none.
+/// The path symbols that are picked, in strictly ascending order. A pick of a name that picks none
+/// adds none. The only error is want of memory.
 pub(crate) fn list(
     alloc: Global,
     locations: &Locations,
@@ -30,7 +31,7 @@ pub(crate) fn list(
     Ok(symbols)
 }
 
-/// The path symbols that are picked.
+/// The path symbols of one pick, in ascending order.
 fn picked(
     alloc: Global,
     locations: &Locations,
@@ -46,7 +47,8 @@ fn picked(
     }
 }
 
-/// The locations within what is named.
+/// The locations of the level within what the name picks: none where it picks none, or what it
+/// picks is finer than the level.
 fn within(
     alloc: Global,
     locations: &Locations,

@@ -30,13 +30,16 @@ use rela_rir::SymbolSet;
 use rela_translate::{Check, Core};
 use std::alloc::{AllocError, Global};
 
-/// What is written of a check beside its body: its name and where that stands, the flows that it is
-/// for, and whether only added paths offend.
+/// What is written of a check beside its body.
 #[derive(Clone, Copy)]
 pub(crate) struct Heading<'a> {
+    /// The check's name.
     pub(crate) name: &'a Name,
+    /// The number of bytes of the text before the name.
     pub(crate) at: u32,
+    /// Which flows the check is for.
     pub(crate) when: &'a Predicate,
+    /// Whether only added paths offend.
     pub(crate) at_most: bool,
 }
 
@@ -75,7 +78,7 @@ pub(crate) fn made(
     }
 }
 
-/// Copies of the heading's name and predicate.
+/// Copies of the heading's name and predicate. The only error is want of memory.
 fn copied(alloc: Global, heading: &Heading<'_>) -> Result<(Name, Predicate), AllocError>
     ensures name { IfOk result (λ copies. copies.0 ≡ heading.now.name.now) }
     ensures when { IfOk result (λ copies. copies.1 ≡ heading.now.when.now) }
@@ -110,7 +113,7 @@ fn unfolded(
     Ok((body, listed(alloc, numbers)?))
 }
 
-/// The sets of the numbered classes.
+/// The class table that the numbering ends with.
 ///
 /// # Errors
 ///
@@ -127,7 +130,7 @@ fn listed(alloc: Global, numbers: Numbers<'_>) -> Result<Vec<SymbolSet>, Unfit>
     Ok(class_table(alloc, numbers.classes)?)
 }
 
-/// The sets of the entries, in their order.
+/// The sets of the entries, in their order. The only error is want of memory.
 fn class_table(alloc: Global, entries: IndexSet<Entry>) -> Result<Vec<SymbolSet>, AllocError>
     ensures { IfOk result (λ sets. map listing_of sets.items ≡ map entry_of entries.keys) }
 {

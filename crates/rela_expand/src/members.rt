@@ -45,7 +45,7 @@ fn look_at(locations: &Locations, level: Level, member: &Member) -> Result<(), S
     }
 }
 
-/// What names a location of the level.
+/// The way of picking that picks a location of the level by its own name.
 pub(crate) fn by_level(level: Level) -> By
     ensures { result ≡ by_level level }
 {
@@ -56,7 +56,12 @@ pub(crate) fn by_level(level: Level) -> By
     }
 }
 
-/// Sees that what is named is there, and no finer than the level.
+/// Sees that the name picks some location, and none that is finer than the level.
+///
+/// # Errors
+///
+/// At the name `FinerLevel` where what it picks is finer than the level; else `UnknownLocation`
+/// where no such location is there.
 fn look_for(
     locations: &Locations,
     level: Level,

@@ -14,19 +14,25 @@ use indexmap::IndexSet;
 use std::alloc::{AllocError, Global};
 use std::collections::HashMap;
 
-/// The entries of a class table in the order of their numbers, found by their hash; how many symbols
-/// they list together; and how many markers were given out. A class is listed at its first use alone:
-/// then its number is known by what is written, and by the place of the form that it came from.
+/// The numbering of the classes and markers of one check, as far as it has gone. A class is listed
+/// at its first use alone: then its number is known by what is written, and by the place of the
+/// form that it came from.
 #[derive(Drop)]
 pub(crate) struct Numbers<'a> {
+    /// The entries of the class table in the order of their numbers, from 0, found by their hash.
     pub(crate) classes: IndexSet<Entry>,
+    /// How many symbols the entries list together, at most 2^64 - 1.
     pub(crate) listed: u64,
+    /// How many markers have been given out. They are numbered from 1.
     pub(crate) markers: u32,
+    /// The numbers of the classes that have been met, by what is written.
     pub(crate) written: HashMap<Written<'a>, u32>,
+    /// The numbers of the classes in brackets that have been met, by the places of their forms.
     pub(crate) places: HashMap<usize, u32>,
 }
 
 impl<'a> Numbers<'a> {
+    /// No class and no marker.
     pub(crate) fn new(alloc: Global) -> Numbers<'a>
         ensures none { numbering_of result ≡ nothing_numbered }
         ensures counted { IsCounted result }
@@ -42,7 +48,8 @@ impl<'a> Numbers<'a> {
         }
     }
 
-    /// The number of a class, which is put to the table at its first use.
+    /// The number of a class, which is added to the table where it isn't there yet. The only error
+    /// is want of memory.
     pub(crate) fn class(&mut self, entry: Entry) -> Result<u32, AllocError>
         requires room { length self.old.classes.keys < 2 ^ 32 }
         requires counted { IsCounted self.old }

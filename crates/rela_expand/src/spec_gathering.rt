@@ -22,7 +22,8 @@ use rela_names::Name;
 use rela_spec::{Modifier, PathExpr, SpecExpr};
 use std::alloc::{AllocError, Global};
 
-/// Makes the forms of the paths of a modifier, and says where they stand.
+/// Adds the forms of a modifier's paths, and gives the modifier with their places. Errors are those
+/// of [`gather`].
 fn gather_modifier<'a>(
     alloc: Global,
     scope: &Scope<'a, '_>,
@@ -49,7 +50,8 @@ fn gather_modifier<'a>(
     }
 }
 
-/// Makes the body of a unit.
+/// Adds the body of a unit and the forms of its paths, and gives its place. Errors are those of
+/// [`gather`].
 fn unit<'a>(
     alloc: Global,
     scope: &Scope<'a, '_>,
@@ -71,7 +73,8 @@ fn unit<'a>(
     Ok(bodies.add(forms, BodyLayer::Unit { zone, modifier })?)
 }
 
-/// Where the specification that a reference names stands.
+/// Where the specification stands that a reference names: `UnknownName` where no earlier
+/// specification has the name.
 fn named_spec(scope: &Scope<'_, '_>, name: &Name, at: u32) -> Result<usize, SpecError>
     ensures made { (bodies : List BodyShape) → AreBodiesKnown bodies scope.now.names.now → IfOk result (λ k. IsBody (ok_or (UnknownName at) (specs_named bodies scope.now.names.now name.now)) bodies k) }
     ensures refused { (bodies : List BodyShape) → IfErr result (λ e. ok_or (UnknownName at) (specs_named bodies scope.now.names.now name.now) ≡ Err e) }
@@ -82,7 +85,9 @@ fn named_spec(scope: &Scope<'_, '_>, name: &Name, at: u32) -> Result<usize, Spec
     }
 }
 
-/// Makes the bodies of a specification, and says where it stands.
+/// Adds the bodies of a specification and the forms of its paths, and gives the place of the
+/// outermost body. What a reference names stands there already, and a list becomes a balanced
+/// binary tree.
 ///
 /// # Errors
 ///
@@ -129,7 +134,8 @@ pub(crate) fn gather_spec<'a>(
     }
 }
 
-/// Makes the bodies of the parts, and the tree of them.
+/// Adds the bodies of the parts, and behind them those of the tree that joins them. Errors are
+/// those of [`gather_spec`].
 #[cycle(gather_spec)]
 fn join_specs<'a>(
     alloc: Global,
@@ -155,7 +161,8 @@ fn join_specs<'a>(
     Ok(joined(forms, bodies, by, places.as_slice())?)
 }
 
-/// Makes the bodies of each part, and says where they stand.
+/// Adds the bodies of each part, and gives their places in the order of the parts. Errors are those
+/// of [`gather_spec`].
 #[cycle(gather_spec)]
 fn gather_specs<'a>(
     alloc: Global,
@@ -183,8 +190,8 @@ fn gather_specs<'a>(
     Ok(places)
 }
 
-/// Makes the tree of the bodies at these places; of none, which no list has, the one that asks for
-/// nothing.
+/// Adds the tree that joins the bodies at these places, and gives its place. Of none, which no list
+/// has, it is the unit that preserves the empty path. The only error is want of memory.
 fn joined(
     forms: &mut Forms<'_>,
     bodies: &mut Bodies,

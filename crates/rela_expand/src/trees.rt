@@ -9,7 +9,9 @@ ghost use Rattle.rela_expand.specs.Shapes.{Empty, sequence_shape};
 use crate::forms::{Forms, Joint, Layer};
 use std::alloc::AllocError;
 
-/// The tree of the parts at these places; of none the empty path.
+/// Joins the forms at these places by a balanced binary tree, in their order, and gives its place.
+/// A form alone is its own tree, and of none it is the empty path. The only error is want of
+/// memory.
 pub(crate) fn tree(forms: &mut Forms<'_>, by: Joint, places: &[usize]) -> Result<usize, AllocError>
     requires { All (λ k. k < length (shapes_of forms.old.forms.items)) places.now }
     ensures grown { Extends (shapes_of forms.old.forms.items) (shapes_of forms.new.forms.items) }
@@ -27,7 +29,8 @@ pub(crate) fn tree(forms: &mut Forms<'_>, by: Joint, places: &[usize]) -> Result
     forms.add(Layer::Join(by, a, b))
 }
 
-/// The part n times in a row.
+/// Adds the sequence that has the part `n` times, by a number of forms that is logarithmic in `n`,
+/// and gives its place. The only error is want of memory.
 pub(crate) fn copies(forms: &mut Forms<'_>, part: usize, n: u32) -> Result<usize, AllocError>
     requires { part < length (shapes_of forms.old.forms.items) }
     ensures grown { Extends (shapes_of forms.old.forms.items) (shapes_of forms.new.forms.items) }
@@ -40,7 +43,8 @@ pub(crate) fn copies(forms: &mut Forms<'_>, part: usize, n: u32) -> Result<usize
     Ok(row)
 }
 
-/// The part n times in a row, and once more than that. The rows of half as many make both.
+/// Adds the sequences that have the part `n` times and once more than that, and gives their places.
+/// Those for half of `n` make both.
 fn row_and_longer(forms: &mut Forms<'_>, part: usize, n: u32) -> Result<(usize, usize), AllocError>
     requires inside { part < length (shapes_of forms.old.forms.items) }
     requires some { 1 ≤ n }

@@ -1,9 +1,11 @@
+//! Why a body isn't unfolded.
+
 ghost use Rattle.std.specs.Prelude.{◌≡◌};
 ghost use Rattle.rela_expand.specs.declared.unfit.Unfit.{Unfit};
 
 use std::alloc::{AllocError, AllocFailed};
 
-/// Why something isn't unfolded.
+/// Why a form or a body isn't unfolded.
 #[derive(Clone, Copy, Debug, PartialEq, Eq)]
 pub(crate) enum Unfit {
     /// Its classes list more than 4,000,000 symbols together.

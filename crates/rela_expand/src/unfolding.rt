@@ -24,7 +24,8 @@ use std::slice;
 /// The greatest number of symbols that the classes of a check may list together.
 pub(crate) const MAX_LISTED: u64 = 4_000_000;
 
-/// The expression that stands at this place. It goes as deep into the stack as its term is deep.
+/// The expression that stands at this place, of which the classes are numbered from left to right.
+/// It goes as deep into the stack as its term is deep.
 ///
 /// # Errors
 ///
@@ -86,6 +87,7 @@ pub(crate) fn unfold<'a>(
     }
 }
 
+/// The two expressions, joined so.
 fn join(by: Joint, a: Boxed<Expr>, b: Boxed<Expr>) -> Expr
     ensures { result ≡ expr_joined by a b }
 {
@@ -97,6 +99,10 @@ fn join(by: Joint, a: Boxed<Expr>, b: Boxed<Expr>) -> Expr
 }
 
 /// The number of a class. What is written in the same way is listed once, at its first use.
+///
+/// # Errors
+///
+/// `TooLarge` where the classes list more than 4,000,000 symbols together; `Memory`.
 fn class<'a>(
     alloc: Global,
     locations: &Locations,

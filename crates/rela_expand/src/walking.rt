@@ -25,21 +25,26 @@ use rela_spec::{Item, PathExpr, SpecExpr};
 use rela_translate::Check;
 use std::alloc::Global;
 
-/// How many checks there may be.
+/// How many checks a specification may have.
 const MAX_CHECKS: usize = 200;
 
-/// What has been read of the items so far: the forms and bodies of definitions and checks, what the
-/// names of definitions stand for, the names of the checks with their bodies, and the checks.
+/// What has been read of the items so far.
 #[derive(Drop)]
 pub(crate) struct Walk<'a> {
+    /// The forms of the paths of definitions and checks.
     pub(crate) forms: Forms<'a>,
+    /// The bodies of definitions and checks.
     pub(crate) bodies: Bodies,
+    /// What the names of definitions stand for.
     pub(crate) names: Definitions<'a>,
+    /// The names of the checks, with their bodies.
     pub(crate) check_names: Definitions<'a>,
+    /// The checks, in their order.
     pub(crate) checks: Vec<Check>,
 }
 
 impl<'a> Walk<'a> {
+    /// Nothing read.
     fn new(alloc: Global) -> Walk<'a>
         ensures walk { IsWalk result }
         ensures none { AreTaken result.names [] }
@@ -56,7 +61,7 @@ impl<'a> Walk<'a> {
     }
 }
 
-/// The checks of these items.
+/// The checks of these items, in their order.
 ///
 /// # Errors
 ///
@@ -80,7 +85,7 @@ pub(crate) fn walk_items(
     Ok(walk.checks)
 }
 
-/// One item more.
+/// Takes in one item more.
 ///
 /// # Errors
 ///
@@ -129,7 +134,8 @@ fn walk_item<'a>(
     }
 }
 
-/// Gathers the body of a path, for which its name stands from here on.
+/// Takes in the definition of a path: its body is gathered, and its name stands for that from here
+/// on. Errors are those of [`look_new`] and [`gather`].
 fn walk_path<'a>(
     alloc: Global,
     locations: &Locations,
@@ -159,7 +165,8 @@ fn walk_path<'a>(
     Ok(())
 }
 
-/// Gathers the body of a specification, for which its name stands from here on.
+/// Takes in the definition of a specification: its body is gathered, and its name stands for that
+/// from here on. Errors are those of [`look_new`] and [`gather_spec`].
 fn walk_spec<'a>(
     alloc: Global,
     locations: &Locations,
@@ -189,7 +196,8 @@ fn walk_spec<'a>(
     Ok(())
 }
 
-/// Makes a check. The 201st is refused before its body is looked at.
+/// Takes in a check. The 201st is refused before its body is looked at. Errors are those of
+/// [`look_new`], [`look_for_room`], [`gather_spec`] and [`made`], in this order.
 fn walk_check<'a>(
     alloc: Global,
     locations: &Locations,
@@ -231,7 +239,7 @@ fn walk_check<'a>(
     Ok(())
 }
 
-/// Sees that the name is new.
+/// Sees that no earlier item of the kind has the name: `RepeatedName` where one has.
 fn look_new(names: &Definitions<'_>, name: &Name, at: u32) -> Result<(), SpecError>
     ensures none { OnOk result (meaning_of names.now name.now ≡ None) }
     ensures new { (taken : List (List ℕ)) → AreTaken names.now taken → OnOk result (unused taken name.now at ≡ Ok name.now) }
@@ -243,7 +251,7 @@ fn look_new(names: &Definitions<'_>, name: &Name, at: u32) -> Result<(), SpecErr
     }
 }
 
-/// Sees that there may be one check more.
+/// Sees that there may be one check more: `TooLarge` where there are 200.
 fn look_for_room(checks: &Vec<Check>, at: u32) -> Result<(), SpecError>
     ensures room { OnOk result (not_full (map outcome_of checks.now.items) at ≡ Ok at) }
     ensures refused { IfErr result (λ e. not_full (map outcome_of checks.now.items) at ≡ Err e) }

@@ -14,7 +14,7 @@ use rela_names::{Level, Name};
 use rela_spec::Member;
 use std::alloc::{AllocError, Global};
 
-/// What a member names, wherever it stands in the text.
+/// What a member picks, wherever it stands in the text.
 #[derive(Clone, Copy, PartialEq, Eq, Hash, Debug)]
 pub(crate) enum Pick<'a> {
     /// The locations within what the name picks.
@@ -25,16 +25,17 @@ pub(crate) enum Pick<'a> {
     Loop,
 }
 
-/// A class as it is written: what it lists, each once and in the order of the text, or, where
-/// negated, all but that.
+/// A class as it is written.
 #[derive(PartialEq, Eq, Hash, Debug, Drop)]
 pub(crate) struct Written<'a> {
+    /// Whether the class is all path symbols but those that are picked.
     pub(crate) negated: bool,
+    /// What the members pick, each once and in the order of the text.
     pub(crate) picks: Vec<Pick<'a>>,
 }
 
 impl<'a> Written<'a> {
-    /// The class of these members, in time linear in their text.
+    /// The class of these members, in time linear in their text. The only error is want of memory.
     pub(crate) fn new(
         alloc: Global,
         level: Level,
@@ -49,7 +50,7 @@ impl<'a> Written<'a> {
     }
 }
 
-/// What the members name, each once.
+/// What the members pick, each once and in their order.
 fn distinct<'a>(
     alloc: Global,
     level: Level,
@@ -66,7 +67,7 @@ fn distinct<'a>(
     Ok(picks)
 }
 
-/// What the member names.
+/// What the member picks.
 #[tactic(auto, unfolding(crate::specs::Places::symbols_of))]
 fn picked_by<'a>(level: Level, member: &'a Member) -> Pick<'a>
     ensures { (network : Network) → picked (record { network = network; level = level }) result ≡ named_by (record { network = network; level = level }) member.now }

@@ -16,8 +16,10 @@ pub enum PlannedRow {
     Unselected { flow: usize },
 }
 
-/// The rows to be made for flows of these classes and checks with these predicates: flow after flow,
-/// with one row for each check that selects it, in the order of the checks, or one alone.
+/// The rows to be made for flows of these classes and checks with these predicates: flow after
+/// flow, with one row for each check that selects it, in the order of the checks, or one alone.
+///
+/// Time: each predicate is asked of each flow; space: linear in the rows.
 pub fn plan(
     alloc: Global,
     classes: &[&FlowClass],
@@ -33,7 +35,7 @@ pub fn plan(
     Ok(rows)
 }
 
-// Adds the rows of one flow.
+/// Appends the rows of one flow.
 fn push_rows_of_flow(
     rows: &mut Vec<PlannedRow>,
     flow: usize,

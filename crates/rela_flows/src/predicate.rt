@@ -8,9 +8,13 @@ use std::alloc::{AllocError, Global};
 /// What is said of a flow: where it goes, where it comes from, and how it is treated.
 #[derive(Debug, PartialEq, Eq, Drop)]
 pub struct FlowClass {
+    /// The name of the flow.
     pub name: Name,
+    /// The addresses that it goes to.
     pub dst: Prefix,
+    /// The addresses that it comes from.
     pub src: Prefix,
+    /// The name of the traffic class by which it is treated.
     pub class: Name,
 }
 
@@ -44,7 +48,7 @@ impl Predicate {
     ghost use Rattle.rela_flows.specs.Selects.{depth, greatest};
     ghost use Rattle.rela_flows.specs.declared.predicate.Predicate.TheVariants.{Not, And, Or};
 
-    /// What holds where the part does not.
+    /// The negation of the part.
     pub fn negated(alloc: Global, part: Predicate) -> Result<Predicate, AllocError>
         ensures negated { IfOk result (λ p. p ≡ Not part) }
         ensures deep { IfOk result (λ p. depth p ≡ depth part + 1) }
@@ -52,7 +56,7 @@ impl Predicate {
         Ok(Predicate::Not(Boxed::new(alloc, part)?))
     }
 
-    /// What holds where each part does.
+    /// The conjunction of the parts: what holds where each part does.
     pub fn all_of(parts: List<Predicate>) -> Predicate
         ensures all { result ≡ And parts }
         ensures deep { depth result ≡ greatest (map depth parts) + 1 }
@@ -60,7 +64,7 @@ impl Predicate {
         Predicate::And(parts)
     }
 
-    /// What holds where some part does.
+    /// The disjunction of the parts: what holds where some part does.
     pub fn any_of(parts: List<Predicate>) -> Predicate
         ensures any { result ≡ Or parts }
         ensures deep { depth result ≡ greatest (map depth parts) + 1 }
@@ -69,6 +73,8 @@ impl Predicate {
     }
 
     /// The same predicate once more. It goes as deep into the stack as the predicate is deep.
+    ///
+    /// Time and space: linear in the nodes and the bytes of the names.
     #[cycle(copy)]
     pub fn copy(&self, alloc: Global) -> Result<Predicate, AllocError>
         ensures { IfOk result (λ p. p ≡ self.now) }
@@ -88,6 +94,7 @@ impl Predicate {
     }
 }
 
+/// The same predicates once more, in their order.
 #[cycle(copy)]
 fn copies(alloc: Global, parts: &[Predicate]) -> Result<List<Predicate>, AllocError>
     ensures { IfOk result (λ copies. copies ≡ parts.now) }

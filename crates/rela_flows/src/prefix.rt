@@ -14,7 +14,9 @@ use std::alloc::{AllocError, Global};
 /// such value.
 #[derive(Clone, Copy, PartialEq, Eq, Debug)]
 pub struct Ipv4Prefix {
+    /// The least of the addresses as a number, whose most significant bit is their first.
     pub address: u32,
+    /// How many of the first bits the addresses share: 0 to 32.
     pub length: u8,
     pub ghost address_fits: { address < 2 ^ 32 },
     pub ghost length_fits: { length ≤ 32 },
@@ -25,7 +27,9 @@ pub struct Ipv4Prefix {
 /// `length` of their 128 bits. The bits past them are zero.
 #[derive(Clone, Copy, PartialEq, Eq, Debug)]
 pub struct Ipv6Prefix {
+    /// The least of the addresses as a number, whose most significant bit is their first.
     pub address: u128,
+    /// How many of the first bits the addresses share: 0 to 128.
     pub length: u8,
     pub ghost address_fits: { address < 2 ^ 128 },
     pub ghost length_fits: { length ≤ 128 },
@@ -51,7 +55,7 @@ impl Ipv4Prefix {
         }
     }
 
-    /// The prefix of this length that has the address in it. None where the length is above 32.
+    /// The prefix of this length that has the address in it. `None` where the length is above 32.
     pub fn new(address: u32, length: u8) -> Option<Ipv4Prefix>
         ensures fits { IsSome result ↔ (length ≤ 32) }
         ensures exact { (p : Ipv4Prefix) → (result ≡ Some p) ↔ ((p.length ≡ length) × (p.address ≡ network 32 length address)) }
@@ -78,7 +82,7 @@ impl Ipv6Prefix {
         }
     }
 
-    /// The prefix of this length that has the address in it. None where the length is above 128.
+    /// The prefix of this length that has the address in it. `None` where the length is above 128.
     pub fn new(address: u128, length: u8) -> Option<Ipv6Prefix>
         ensures fits { IsSome result ↔ (length ≤ 128) }
         ensures exact { (p : Ipv6Prefix) → (result ≡ Some p) ↔ ((p.length ≡ length) × (p.address ≡ network 128 length address)) }
@@ -98,9 +102,12 @@ impl Prefix {
     ghost use Rattle.rela_flows.specs.Notation.{IsTextOf, text_of};
 
     /// The prefix that a text writes: an address, a slash, and the length in decimal. An IPv4
-    /// address is four octets in decimal joined by dots, an IPv6 address eight groups of one to four
-    /// hexadecimal digits joined by colons, or fewer round `::`, which stands for zero groups. Bits
-    /// past the length may be set, and are put to zero. None exactly where the text is none.
+    /// address is four octets in decimal joined by dots, an IPv6 address eight groups of one to
+    /// four hexadecimal digits joined by colons, or fewer round `::`, which stands for the groups
+    /// of zeros that are missing, one or more. Bits past the length may be set, and are put to
+    /// zero. `None` exactly where the text is none.
+    ///
+    /// Time: linear in the text.
     pub fn parse(text: &[u8]) -> Option<Prefix>
         ensures { (p : Prefix) → (result ≡ Some p) ↔ IsTextOf text.now p }
     {

@@ -5,7 +5,10 @@ ghost use Rattle.rela_flows.specs.Selects.{Selects, SomeByRecursion, depth};
 
 use crate::predicate::{FlowClass, Predicate};
 
-/// Whether the predicate selects a flow of this class.
+/// Whether the predicate selects a flow of this class. It goes as deep into the stack as the
+/// predicate is deep.
+///
+/// Time: linear in the nodes of the predicate and the bytes of the names in it.
 #[cycle(selects)]
 pub fn selects(predicate: &Predicate, class: &FlowClass) -> bool
     requires { depth predicate.now ≤ 1000 }
@@ -25,6 +28,7 @@ pub fn selects(predicate: &Predicate, class: &FlowClass) -> bool
     }
 }
 
+/// Whether each of the predicates selects a flow of this class.
 #[cycle(selects)]
 fn all_select(parts: &[Predicate], class: &FlowClass) -> bool
     requires shallow { All (λ p. depth p ≤ 1000) parts.now }
@@ -38,6 +42,7 @@ fn all_select(parts: &[Predicate], class: &FlowClass) -> bool
     true
 }
 
+/// Whether some of the predicates selects a flow of this class.
 #[cycle(selects)]
 fn any_selects(parts: &[Predicate], class: &FlowClass) -> bool
     requires shallow { All (λ p. depth p ≤ 1000) parts.now }

@@ -16,6 +16,8 @@ pub const MAX_TEXT_LEN: usize = 33_554_432;
 /// carriage returns and line feeds stand between tokens, and so do comments, from a `#` to before
 /// the next line feed.
 ///
+/// Time: linear in the bytes; space: linear in the tokens and the bytes of their names.
+///
 /// # Errors
 ///
 /// `BadToken` at the first byte where no token, blank or comment begins; `Memory`.
@@ -43,7 +45,7 @@ pub fn tokens(alloc: Global, bytes: &[u8]) -> Result<Vec<Token>, SpecError>
     Ok(tokens)
 }
 
-/// Puts the token, if there is one, behind the others.
+/// Appends the token, if there is one.
 fn keep(tokens: &mut Vec<Token>, at: u32, token: Option<TokenKind>) -> Result<(), AllocError>
     ensures { OnOk result (tokens.new.items ≡ tokens.old.items ++ tokens_at at token) }
 {

@@ -9,14 +9,14 @@ pub enum SpecError {
     /// No token, comment or blank begins here.
     #[error("no token begins at byte {at}")]
     BadToken { at: u32 },
-    /// No specification begins with the tokens up to and with this one; at the end of the text, it
-    /// stops short.
+    /// No specification begins with the tokens up to and with this one; at the end of the text, the
+    /// text stops short.
     #[error("unexpected token at byte {at}")]
     Syntax { at: u32 },
-    /// The reference names nothing that stands before it.
+    /// No earlier item of its kind has the name that is referred to.
     #[error("unknown name at byte {at}")]
     UnknownName { at: u32 },
-    /// An earlier item has the name.
+    /// An earlier item has the same name.
     #[error("repeated name at byte {at}")]
     RepeatedName { at: u32 },
     /// Too many brackets are open, or a check nests too deep once its references are replaced.

@@ -47,7 +47,8 @@ pub(crate) fn read_front(alloc: Global, text: &[u8]) -> Result<Option<Front>, Al
     }
 }
 
-/// A name and a `"`, behind the first `"`.
+/// The quoted name behind an opening `"`, or `None` where no name with a `"` behind it follows. Its
+/// length counts both quotes.
 #[tactic(auto, unfolding(crate::specs::Front::quoted_front))]
 fn read_quoted(alloc: Global, rest: &[u8]) -> Result<Option<Front>, AllocError>
     requires { length rest.now < usize.MAX }
@@ -67,7 +68,7 @@ fn read_quoted(alloc: Global, rest: &[u8]) -> Result<Option<Front>, AllocError>
     }))
 }
 
-/// A name, behind the `$`.
+/// The reference behind a `$`, or `None` where no name follows. Its length counts the `$`.
 #[tactic(auto, unfolding(crate::specs::Front::reference_front))]
 fn read_reference(alloc: Global, rest: &[u8]) -> Result<Option<Front>, AllocError>
     ensures { IfOk result (λ found. found ≡ reference_front rest.now) }
@@ -82,7 +83,8 @@ fn read_reference(alloc: Global, rest: &[u8]) -> Result<Option<Front>, AllocErro
     }))
 }
 
-/// A run of name bytes: a name, or the mark `.` or `:`.
+/// The longest run of name bytes at the front of a text that begins with one: a name, or the mark
+/// `.` or `:`. `None` where the run is longer than a name may be.
 #[tactic(auto, unfolding(crate::specs::Front::bare_front))]
 fn read_bare(alloc: Global, text: &[u8]) -> Result<Option<Front>, AllocError>
     ensures { IfOk result (λ found. found ≡ bare_front text.now) }
@@ -104,7 +106,7 @@ fn read_bare(alloc: Global, text: &[u8]) -> Result<Option<Front>, AllocError>
     }))
 }
 
-/// The name of these bytes, if they are one.
+/// The name of these bytes, or `None` where they are none. The only error is want of memory.
 fn name_of(alloc: Global, bytes: &[u8]) -> Result<Option<Name>, AllocError>
     ensures { IfOk result (λ found. found ≡ (if is_name bytes.now then Some bytes.now else None)) }
 {
@@ -115,7 +117,7 @@ fn name_of(alloc: Global, bytes: &[u8]) -> Result<Option<Name>, AllocError>
     }
 }
 
-/// How many name bytes stand at the front.
+/// The number of name bytes at the front.
 fn run_len(text: &[u8]) -> usize
     ensures passed { result ≡ prefix_len is_name_byte text.now }
     ensures within { result ≤ length text.now }
@@ -123,7 +125,7 @@ fn run_len(text: &[u8]) -> usize
     text.iter().take_while(|byte| is_name_byte(**byte)).count()
 }
 
-/// How many bytes stand before the first line feed.
+/// The number of bytes before the first line feed, or of all bytes where there is none.
 fn line_len(text: &[u8]) -> usize
     ensures passed { result ≡ prefix_len is_within_line text.now }
     ensures within { result ≤ length text.now }
@@ -131,6 +133,7 @@ fn line_len(text: &[u8]) -> usize
     text.iter().take_while(|byte| **byte != b'\n').count()
 }
 
+/// Whether the text begins with the byte.
 fn begins_with(text: &[u8], byte: u8) -> bool
     ensures { result ≡ begins_with byte text.now }
 {

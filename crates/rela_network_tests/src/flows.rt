@@ -8,7 +8,8 @@ use rela_names::{List, Name, NameError};
 use std::alloc::{AllocError, Global};
 use std::test::Fail;
 
-// The canonical text of what the text writes, and that it writes the same.
+/// Whether the text writes a prefix whose canonical text is `expected`, which writes the same
+/// prefix.
 fn is_rewritten(alloc: Global, text: &[u8], expected: &[u8]) -> Result<bool, AllocError> {
     let Some(prefix) = Prefix::parse(text) else {
         return Ok(false);
@@ -17,6 +18,7 @@ fn is_rewritten(alloc: Global, text: &[u8], expected: &[u8]) -> Result<bool, All
     Ok(written.as_slice() == expected && Prefix::parse(written.as_slice()) == Some(prefix))
 }
 
+/// Prefixes are read in all their forms, and written in one.
 #[test]
 fn reads_and_writes_prefixes(rt: HostRuntime) -> Result<(), Fail> {
     for (text, written) in [
@@ -32,6 +34,7 @@ fn reads_and_writes_prefixes(rt: HostRuntime) -> Result<(), Fail> {
     Ok(())
 }
 
+/// A text without a length, or whose address or length is none, is no prefix.
 #[test]
 fn refuses_what_is_no_prefix(rt: HostRuntime) {
     for text in [
@@ -47,13 +50,15 @@ fn refuses_what_is_no_prefix(rt: HostRuntime) {
     }
 }
 
-/// Whether the one prefix lies within the other, and whether they overlap.
+/// Whether the one prefix lies within the other, and whether they overlap. `None` where one is no
+/// prefix.
 fn compared(one: &[u8], other: &[u8]) -> Option<[bool; 2]> {
     let one = Prefix::parse(one)?;
     let other = Prefix::parse(other)?;
     Some([one.within(&other), one.overlaps(&other)])
 }
 
+/// Prefixes are compared by the addresses of their own family.
 #[test]
 fn compares_prefixes(rt: HostRuntime) {
     for (one, other, found) in [
@@ -71,7 +76,7 @@ fn compares_prefixes(rt: HostRuntime) {
     }
 }
 
-/// Whether the prefix lies within all addresses of each family.
+/// Whether the prefix lies within all addresses of each family. `None` where the text is no prefix.
 fn within_all(text: &[u8]) -> Option<[bool; 2]> {
     let prefix = Prefix::parse(text)?;
     Some([
@@ -80,6 +85,8 @@ fn within_all(text: &[u8]) -> Option<[bool; 2]> {
     ])
 }
 
+/// The prefix of all addresses has those of its own family alone, and no prefix is longer than an
+/// address.
 #[test]
 fn compares_with_all_addresses(rt: HostRuntime) {
     assert_eq!(rt; within_all(b"10.0.0.0/8"), Some([true, false]));
@@ -88,10 +95,12 @@ fn compares_with_all_addresses(rt: HostRuntime) {
     assert!(rt; Ipv6Prefix::new(1, 127).is_some());
 }
 
+/// The prefix that the text writes.
 fn prefix(text: &[u8]) -> Result<Prefix, Fail> {
     Ok(Prefix::parse(text).ok_or("no prefix")?)
 }
 
+/// A flow of this name from anywhere to these destinations, with the class `default`.
 fn class_to(alloc: Global, name: &[u8], dst: &[u8]) -> Result<FlowClass, Fail> {
     Ok(FlowClass {
         name: Name::from_bytes(alloc, name)?,
@@ -101,26 +110,29 @@ fn class_to(alloc: Global, name: &[u8], dst: &[u8]) -> Result<FlowClass, Fail> {
     })
 }
 
+/// The predicate that each destination lies in the prefix.
 fn to(prefix: Prefix) -> Predicate
     ensures { depth result ≤ 10 }
 {
     Predicate::DstIn(prefix)
 }
 
+/// The predicate that the flow has this name.
 fn named(alloc: Global, name: &[u8]) -> Result<Predicate, NameError>
     ensures { IfOk result (λ p. depth p ≤ 10) }
 {
     Ok(Predicate::Flow(Name::from_bytes(alloc, name)?))
 }
 
-/// What doesn't hold of the flow f2.
+/// The predicate that the flow has another name than f2.
 fn other(alloc: Global) -> Result<Predicate, NameError>
     ensures { IfOk result (λ p. depth p ≤ 11) }
 {
     Ok(Predicate::negated(alloc, named(alloc, b"f2")?)?)
 }
 
-/// Whether the flow is selected by this, and not by any of nothing, but by all of nothing.
+/// Whether the flow is selected by the predicate and by the conjunction of none, and not by the
+/// disjunction of none.
 fn is_selected(alloc: Global, class: &FlowClass, other: &Predicate) -> bool
     requires { depth other.now ≤ 11 }
 {
@@ -129,6 +141,7 @@ fn is_selected(alloc: Global, class: &FlowClass, other: &Predicate) -> bool
     selects(other, class) && !selects(&nothing, class) && selects(&anything, class)
 }
 
+/// Whether the flow is selected as it should be, given that its name is not f2.
 fn selects_the_flow(alloc: Global, class: &FlowClass) -> bool {
     match other(alloc) {
         Ok(other) => is_selected(alloc, class, &other),
@@ -136,6 +149,7 @@ fn selects_the_flow(alloc: Global, class: &FlowClass) -> bool {
     }
 }
 
+/// Negations, conjunctions and disjunctions select by their parts.
 #[test]
 fn selects_by_form(rt: HostRuntime) -> Result<(), Fail> {
     let class = class_to(rt.alloc(), b"f1", b"10.1.0.0/16")?;
@@ -151,6 +165,7 @@ fn is_copied(alloc: Global, predicate: &Predicate) -> bool {
     }
 }
 
+/// A predicate equals its copy.
 #[test]
 fn copies_a_predicate(rt: HostRuntime) -> Result<(), Fail> {
     let other = other(rt.alloc())?;
@@ -158,7 +173,8 @@ fn copies_a_predicate(rt: HostRuntime) -> Result<(), Fail> {
     Ok(())
 }
 
-/// Whether the first class is checked by the second of two predicates, and the second by none.
+/// Whether the first class is planned under the second of two predicates, and the second under
+/// none.
 fn is_planned(alloc: Global, classes: &[&FlowClass], one: &Predicate, two: &Predicate) -> bool
     requires one { depth one.now ≤ 10 }
     requires two { depth two.now ≤ 10 }
@@ -173,7 +189,7 @@ fn is_planned(alloc: Global, classes: &[&FlowClass], one: &Predicate, two: &Pred
     }
 }
 
-/// The same for the flow f3 and for what goes to a prefix.
+/// Whether it is so of the predicates on the name f3 and on destinations in the prefix.
 fn plans_for(alloc: Global, classes: &[&FlowClass], prefix: Prefix) -> bool {
     let within = to(prefix);
     match named(alloc, b"f3") {
@@ -182,12 +198,14 @@ fn plans_for(alloc: Global, classes: &[&FlowClass], prefix: Prefix) -> bool {
     }
 }
 
+/// A flow f1 to 10.1.0.0/16, and a flow f2 to 192.168.0.0/16.
 fn two_classes(alloc: Global) -> Result<[FlowClass; 2], Fail> {
     let first = class_to(alloc, b"f1", b"10.1.0.0/16")?;
     let second = class_to(alloc, b"f2", b"192.168.0.0/16")?;
     Ok([first, second])
 }
 
+/// A flow has a row for each check that selects it, and one alone where none does.
 #[test]
 fn plans_rows(rt: HostRuntime) -> Result<(), Fail> {
     let prefix = prefix(b"10.0.0.0/8")?;

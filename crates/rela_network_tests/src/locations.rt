@@ -1,4 +1,4 @@
-//! The location file of a small network.
+//! The locations of a small network.
 
 use crate::network::{Question, is_so};
 use rela_json::LoadError;
@@ -6,12 +6,14 @@ use rela_locations::{By, Locations, MemberError};
 use rela_names::{Level, Name, Symbol};
 use std::alloc::Global;
 
+/// The location of the level in which the interface of this name lies, or `None` where there is
+/// none.
 fn lifted(locations: &Locations, interface: &[u8], level: Level) -> Option<Symbol> {
     let symbol = locations.alphabet(Level::Interface).find(interface)?;
     Some(locations.lift(symbol, level))
 }
 
-/// Where r4:1 lies at each level, and then the group of r4:2.
+/// Whether r4:1 lies where it should at each level, and r4:2 nowhere.
 #[derive(Drop)]
 struct Lifts;
 
@@ -27,21 +29,27 @@ impl Question for Lifts {
     }
 }
 
+/// An interface lies in its device and in the group of that.
 #[test]
 fn lifts_an_interface(rt: HostRuntime) {
     assert!(rt; is_so(rt.alloc(), &Lifts));
 }
 
-/// The members of a name at a level.
+/// Whether these symbols are the members of a name at a level.
 #[derive(Drop)]
 struct Members<'a> {
+    /// The level of the members.
     level: Level,
+    /// By what the name picks them.
     by: By,
+    /// The name.
     name: &'a [u8],
+    /// The members that it should have.
     symbols: &'a [Symbol],
 }
 
 impl Members<'_> {
+    /// Whether they are those of the name, which is that of the question.
     fn are_those_of(&self, alloc: Global, locations: &Locations, name: &Name) -> bool {
         match locations.members(alloc, self.level, self.by, name) {
             Ok(found) => found.as_slice() == self.symbols,
@@ -59,6 +67,7 @@ impl Question for Members<'_> {
     }
 }
 
+/// A name picks the locations within it, at its own level or a finer one.
 #[test]
 fn gives_the_members(rt: HostRuntime) {
     for (level, by, name, symbols) in [
@@ -84,7 +93,8 @@ fn gives_the_members(rt: HostRuntime) {
     }
 }
 
-/// Whether the tag is found at the level of devices, and neither above nor as a device.
+/// Whether the tag is found at the level of devices, is too fine for that of groups, and is no
+/// device.
 fn finds(locations: &Locations, tag: &Name) -> bool {
     let device = locations.find(Level::Device, By::Tag, tag).is_ok();
     let group = locations.find(Level::Group, By::Tag, tag);
@@ -94,7 +104,7 @@ fn finds(locations: &Locations, tag: &Name) -> bool {
     device && is_finer && is_unknown
 }
 
-/// The devices of the tag `border`.
+/// Whether the tag `border` is found so.
 #[derive(Drop)]
 struct Border;
 
@@ -107,12 +117,13 @@ impl Question for Border {
     }
 }
 
+/// A name is found at its own level or a finer one, and else refused for what is wrong.
 #[test]
 fn finds_what_is_there(rt: HostRuntime) {
     assert!(rt; is_so(rt.alloc(), &Border));
 }
 
-/// The fault of a short text.
+/// The fault of a text of at most 1,000 bytes, or `None` where it has none or is longer.
 fn fault(alloc: Global, text: &[u8]) -> Option<LoadError> {
     if text.len() > 1_000 {
         return None;
@@ -120,6 +131,7 @@ fn fault(alloc: Global, text: &[u8]) -> Option<LoadError> {
     Locations::decode(alloc, text).err()
 }
 
+/// A location file is refused for its first fault.
 #[test]
 fn refuses_the_first_fault(rt: HostRuntime) {
     for (text, error) in [

@@ -7,13 +7,15 @@ use rela_locations::Locations;
 use rela_snapshot::{FlowPair, PairError, Snapshot, pair};
 use std::alloc::Global;
 
+/// A flow f1 along r1, r2 and both interfaces of r4, with nodes that are numbered.
 const NUMBERED: &[u8] =
     b"{\"version\":1,\"flows\":[{\"name\":\"f1\",\"dst\":\"10.0.0.0/24\",\"nodes\":[\"r1:0\",\"r2:0\",\"r4:0\",\"r4:1\"],\"edges\":[[0,1],[1,2],[2,3]],\"starts\":[0],\"delivered\":[3]}]}";
 
+/// A flow f1 along the same path, with nodes that are named, to another destination.
 const NAMED: &[u8] =
     b"{\"version\":2,\"flows\":[{\"name\":\"f1\",\"dst\":\"2001:db8::/32\",\"nodes\":[{\"id\":\"a\",\"at\":\"r1:0\"},{\"id\":\"b\",\"at\":\"r2:0\"},{\"id\":\"c\",\"at\":\"r4:0\"},{\"id\":\"d\",\"at\":\"r4:1\"}],\"edges\":[[\"a\",\"b\"],[\"b\",\"c\"],[\"c\",\"d\"]],\"starts\":[\"a\"],\"delivered\":[\"d\"]}]}";
 
-/// What a short text writes over these locations.
+/// The snapshot of a text of at most 1,000 bytes over these locations; `Memory` for a longer one.
 fn decoded(alloc: Global, text: &[u8], locations: &Locations) -> Result<Snapshot, LoadError> {
     if text.len() > 1_000 {
         return Err(LoadError::Memory);
@@ -49,9 +51,10 @@ fn is_read(snapshot: &Snapshot) -> bool {
         && is_the_path(snapshot.graph(0))
 }
 
-/// What a text writes.
+/// Whether a text writes that snapshot.
 #[derive(Drop)]
 struct Path<'a> {
+    /// The text.
     text: &'a [u8],
 }
 
@@ -64,6 +67,7 @@ impl Question for Path<'_> {
     }
 }
 
+/// Nodes are read by their numbers and by their names.
 #[test]
 fn reads_nodes(rt: HostRuntime) {
     for text in [NUMBERED, NAMED] {
@@ -71,10 +75,12 @@ fn reads_nodes(rt: HostRuntime) {
     }
 }
 
-/// The first fault of a text.
+/// Whether a text is refused with this error.
 #[derive(Drop)]
 struct Faulty<'a> {
+    /// The text.
     text: &'a [u8],
+    /// The error.
     error: LoadError,
 }
 
@@ -87,6 +93,7 @@ impl Question for Faulty<'_> {
     }
 }
 
+/// A snapshot is refused for its first fault.
 #[test]
 fn refuses_the_first_fault(rt: HostRuntime) {
     for (text, error) in [
@@ -117,13 +124,16 @@ fn refuses_the_first_fault(rt: HostRuntime) {
     }
 }
 
+/// The flows f1, of one node, and f3, of none.
 const EARLIER: &[u8] =
     b"{\"version\":1,\"flows\":[{\"name\":\"f1\",\"dst\":\"10.0.0.0/24\",\"nodes\":[\"r1:0\"],\"edges\":[],\"starts\":[0]},{\"name\":\"f3\",\"dst\":\"10.9.0.0/24\",\"nodes\":[],\"edges\":[],\"starts\":[]}]}";
 
+/// The flows f2, of one node, and f1, of two.
 const LATER: &[u8] =
     b"{\"version\":1,\"flows\":[{\"name\":\"f2\",\"dst\":\"10.0.1.0/24\",\"nodes\":[\"r2:0\"],\"edges\":[],\"starts\":[0]},{\"name\":\"f1\",\"dst\":\"10.0.0.0/24\",\"nodes\":[\"r1:0\",\"r1:0\"],\"edges\":[],\"starts\":[0]}]}";
 
-/// The flows of two short texts, paired.
+/// The flows of two texts of at most 1,000 bytes each, paired. The outer errors are those of
+/// reading them.
 fn paired(
     alloc: Global,
     before: &[u8],
@@ -135,12 +145,13 @@ fn paired(
     Ok(pair(alloc, before, after))
 }
 
-/// Whether the flow has this name and so many nodes before and after.
+/// Whether the flow has this name, and this many nodes before and after.
 fn is_pair(pair: &FlowPair, name: &[u8], before: usize, after: usize) -> bool {
     pair.class.name.as_bytes() == name
         && [pair.before.nodes().len(), pair.after.nodes().len()] == [before, after]
 }
 
+/// Whether these are f1, f3 and f2, in this order, each with the nodes that it has on either side.
 fn are_paired(pairs: &[FlowPair]) -> bool {
     match pairs {
         [first, second, third] => {
@@ -152,7 +163,7 @@ fn are_paired(pairs: &[FlowPair]) -> bool {
     }
 }
 
-/// The flows of `EARLIER` and `LATER`.
+/// Whether the flows of `EARLIER` and `LATER` are paired as they should be.
 #[derive(Drop)]
 struct Pairs;
 
@@ -165,12 +176,14 @@ impl Question for Pairs {
     }
 }
 
+/// Flows are paired by their names: first those of the earlier snapshot, and then those of the
+/// later one alone.
 #[test]
 fn pairs_flows_by_name(rt: HostRuntime) {
     assert!(rt; is_so(rt.alloc(), &Pairs));
 }
 
-/// Whether the flow of row 0 differs in its destination.
+/// Whether the error is that the flow of row 0 has another destination.
 fn is_of_destinations(error: &PairError) -> bool {
     match error {
         PairError::FlowDiffers { row, before, after } => *row == 0 && before.dst != after.dst,
@@ -178,7 +191,7 @@ fn is_of_destinations(error: &PairError) -> bool {
     }
 }
 
-/// What `NUMBERED` and `NAMED` differ in.
+/// Whether `NUMBERED` and `NAMED` can't be paired for that error.
 #[derive(Drop)]
 struct Difference;
 
@@ -191,6 +204,7 @@ impl Question for Difference {
     }
 }
 
+/// A flow whose two classes differ is not paired.
 #[test]
 fn names_the_first_flow_that_differs(rt: HostRuntime) {
     assert!(rt; is_so(rt.alloc(), &Difference));

@@ -10,13 +10,16 @@ use rela_locations::Locations;
 use rela_tables::Tables;
 use std::alloc::Global;
 
+/// Table files: r1 sends half of the addresses to r2 and half to r3, and both send all to r4, which
+/// delivers them.
 const TABLES: &[u8] =
     b"{\"version\":1,\"starts\":[\"r1:0\"],\"tables\":[{\"device\":\"r1\",\"routes\":[{\"prefix\":\"0.0.0.0/0\",\"hops\":[\"r2:0\"]},{\"prefix\":\"128.0.0.0/1\",\"hops\":[\"r3:0\"]}]},{\"device\":\"r2\",\"routes\":[{\"prefix\":\"0.0.0.0/0\",\"hops\":[\"r4:0\"]}]},{\"device\":\"r3\",\"routes\":[{\"prefix\":\"0.0.0.0/0\",\"hops\":[\"r4:0\"]}]},{\"device\":\"r4\",\"routes\":[{\"prefix\":\"0.0.0.0/0\"}]}]}";
 
+/// The snapshot that they give: a flow for each half of the addresses.
 const SNAPSHOT: &[u8] =
     b"{\"flows\":[{\"delivered\":[3],\"dropped\":[],\"dst\":\"0.0.0.0/1\",\"edges\":[[0,1],[1,3],[2,3]],\"name\":\"0.0.0.0/1\",\"nodes\":[\"r1:0\",\"r2:0\",\"r3:0\",\"r4:0\"],\"starts\":[0]},{\"delivered\":[3],\"dropped\":[],\"dst\":\"128.0.0.0/1\",\"edges\":[[0,2],[1,3],[2,3]],\"name\":\"128.0.0.0/1\",\"nodes\":[\"r1:0\",\"r2:0\",\"r3:0\",\"r4:0\"],\"starts\":[0]}],\"version\":1}\n";
 
-/// What a short text writes over these locations.
+/// The tables of a text of at most 2,000 bytes over these locations; `Memory` for a longer one.
 fn decoded(alloc: Global, text: &[u8], locations: &Locations) -> Result<Tables, LoadError>
     ensures { IfOk result (IsForwardingIn locations.now) }
 {
@@ -26,7 +29,7 @@ fn decoded(alloc: Global, text: &[u8], locations: &Locations) -> Result<Tables, 
     Tables::decode(alloc, text, locations)
 }
 
-/// Whether the tables give the snapshot, cut by themselves.
+/// Whether the tables give the snapshot, where they are cut into classes by themselves.
 fn gives_the_snapshot(alloc: Global, tables: &Tables, locations: &Locations) -> bool
     requires { IsForwardingIn locations.now tables.now }
 {
@@ -36,7 +39,7 @@ fn gives_the_snapshot(alloc: Global, tables: &Tables, locations: &Locations) -> 
     }
 }
 
-/// The snapshot of two halves of the addresses.
+/// Whether the tables give a flow for each half of the addresses.
 #[derive(Drop)]
 struct Halves;
 
@@ -49,15 +52,18 @@ impl Question for Halves {
     }
 }
 
+/// Addresses that are routed in the same way share a flow.
 #[test]
 fn writes_a_flow_for_each_class(rt: HostRuntime) {
     assert!(rt; is_so(rt.alloc(), &Halves));
 }
 
-/// The first fault of a text.
+/// Whether a text is refused with this error.
 #[derive(Drop)]
 struct Faulty<'a> {
+    /// The text.
     text: &'a [u8],
+    /// The error.
     error: LoadError,
 }
 
@@ -70,6 +76,7 @@ impl Question for Faulty<'_> {
     }
 }
 
+/// A table file is refused for its first fault.
 #[test]
 fn refuses_the_first_fault(rt: HostRuntime) {
     for (text, error) in [

@@ -16,8 +16,12 @@ use rela_names::{Level, Name};
 use rela_spec::{Item, SpecFile};
 use std::alloc::{AllocError, Global};
 
-/// The canonical text of the tree: a line with the level, then a line for each item. Where some text
-/// spells the tree, this one is read as the same tree, and as no other.
+/// The canonical text of the tree: a line with the level, then a line for each item. Where some
+/// text spells the tree, this one is read as the same tree, and as no other. The only error is want
+/// of memory.
+///
+/// Time and space: linear in the text that is written. It goes as deep into the stack as the tree
+/// is deep.
 pub fn print(alloc: Global, file: &SpecFile) -> Result<Vec<u8>, AllocError>
     ensures canonical { IfOk result (λ text. text.items ≡ print_of file.now) }
     ensures reads_back { IsOfText file.now → IfOk result (λ text. ReadsBack text.items file.now) }
@@ -31,6 +35,7 @@ pub fn print(alloc: Global, file: &SpecFile) -> Result<Vec<u8>, AllocError>
     Ok(out)
 }
 
+/// The line that declares the level.
 fn level_line(level: Level) -> &'static [u8]
     ensures { result.now ≡ level_line level }
 {
@@ -41,7 +46,7 @@ fn level_line(level: Level) -> &'static [u8]
     }
 }
 
-/// Adds the line of an item.
+/// Appends the line of an item.
 #[tactic(auto, unfolding(crate::specs::Print::item_line))]
 fn push_item(out: &mut Vec<u8>, item: &Item) -> Result<(), AllocError>
     ensures { OnOk result (out.new.items ≡ out.old.items ++ item_line item.now) }
@@ -71,7 +76,7 @@ fn push_item(out: &mut Vec<u8>, item: &Item) -> Result<(), AllocError>
     }
 }
 
-/// Adds what stands before the body of a definition.
+/// Appends what stands before the body of a definition.
 fn push_definition(out: &mut Vec<u8>, word: &[u8], name: &Name) -> Result<(), AllocError>
     ensures { OnOk result (out.new.items ≡ out.old.items ++ (word.now ++ (name_text name.now ++ codes " = "))) }
 {
@@ -80,7 +85,7 @@ fn push_definition(out: &mut Vec<u8>, word: &[u8], name: &Name) -> Result<(), Al
     out.extend_from_slice(b" = ")
 }
 
-/// Adds what stands before the body of a check.
+/// Appends what stands before the body of a check.
 fn push_check(
     out: &mut Vec<u8>,
     at_most: bool,
@@ -95,6 +100,7 @@ fn push_check(
     out.extend_from_slice(b" : ")
 }
 
+/// The words before a check's name.
 fn check_words(at_most: bool) -> &'static [u8]
     ensures { result.now ≡ check_words at_most }
 {

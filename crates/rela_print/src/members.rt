@@ -9,7 +9,7 @@ use rela_locations::By;
 use rela_spec::Member;
 use std::alloc::AllocError;
 
-/// Adds a class in brackets.
+/// Appends a class in brackets.
 #[tactic(auto, unfolding(crate::specs::Members::class_text))]
 pub(crate) fn push_class(
     out: &mut Vec<u8>,
@@ -23,12 +23,14 @@ pub(crate) fn push_class(
     out.extend_from_slice(b"]")
 }
 
+/// What opens a class: a bracket, with a `^` behind it where the class is negated.
 fn class_opening(negated: bool) -> &'static [u8]
     ensures { result.now ≡ class_opening negated }
 {
     if negated { b"[^" } else { b"[" }
 }
 
+/// Appends the members, with a blank between each two.
 fn push_members(out: &mut Vec<u8>, members: &[Member]) -> Result<(), AllocError>
     ensures { OnOk result (out.new.items ≡ out.old.items ++ joined (codes " ") member_text members.now) }
 {
@@ -43,7 +45,7 @@ fn push_members(out: &mut Vec<u8>, members: &[Member]) -> Result<(), AllocError>
     Ok(())
 }
 
-/// Adds a member.
+/// Appends a member.
 #[tactic(auto, unfolding(crate::specs::Members::member_text))]
 pub(crate) fn push_member(out: &mut Vec<u8>, member: &Member) -> Result<(), AllocError>
     ensures { OnOk result (out.new.items ≡ out.old.items ++ member_text member.now) }
@@ -60,6 +62,7 @@ pub(crate) fn push_member(out: &mut Vec<u8>, member: &Member) -> Result<(), Allo
     }
 }
 
+/// The word and the bracket that stand before a name that picks locations.
 fn by_opening(by: By) -> &'static [u8]
     ensures { result.now ≡ by_opening by }
 {

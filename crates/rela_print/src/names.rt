@@ -7,7 +7,7 @@ use rela_names::Name;
 use rela_spec::is_keyword;
 use std::alloc::AllocError;
 
-/// Adds the name, in quotes where it would not be read as a name without them.
+/// Appends the name, in quotes where it would not be read as a name without them.
 #[tactic(auto, unfolding(crate::specs::Names::name_text))]
 pub(crate) fn push_name(out: &mut Vec<u8>, name: &Name) -> Result<(), AllocError>
     ensures { OnOk result (out.new.items ≡ out.old.items ++ name_text name.now) }
@@ -21,7 +21,7 @@ pub(crate) fn push_name(out: &mut Vec<u8>, name: &Name) -> Result<(), AllocError
     out.extend_from_slice(b"\"")
 }
 
-/// Whether the bytes are a keyword or a mark when they stand alone.
+/// Whether the name, if it stood bare, would be read as a keyword or as a mark.
 #[tactic(auto, unfolding(crate::specs::Names::needs_quotes))]
 fn needs_quotes(bytes: &[u8]) -> bool
     ensures { result ≡ needs_quotes bytes.now }
@@ -29,7 +29,7 @@ fn needs_quotes(bytes: &[u8]) -> bool
     is_keyword(bytes) || bytes == b".".as_slice() || bytes == b":".as_slice()
 }
 
-/// Adds a reference to the name.
+/// Appends a reference to the name.
 #[tactic(auto, unfolding(crate::specs::Names::reference_text))]
 pub(crate) fn push_reference(out: &mut Vec<u8>, name: &Name) -> Result<(), AllocError>
     ensures { OnOk result (out.new.items ≡ out.old.items ++ reference_text name.now) }

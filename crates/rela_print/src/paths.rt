@@ -11,20 +11,25 @@ use crate::names::push_reference;
 use rela_spec::PathExpr;
 use std::alloc::AllocError;
 
-/// How tightly the forms bind, from the loosest on.
+/// The binding strength of alternatives, which bind most loosely.
 const ALT: u8 = 1;
 
+/// The binding strength of intersections.
 const AND: u8 = 2;
 
+/// The binding strength of sequences.
 const SEQ: u8 = 3;
 
+/// The binding strength of complements.
 const NOT: u8 = 4;
 
+/// The binding strength of repetitions.
 const POSTFIX: u8 = 5;
 
+/// The binding strength of what has no parts at its edges, which binds most tightly.
 const ATOM: u8 = 6;
 
-/// How tightly a path expression binds, from 1 for the loosest on.
+/// How tightly a path expression binds: 1 for the loosest, 6 for the tightest.
 #[tactic(auto, using(crate::proofs::PrintedPaths::printed_forms))]
 fn binding_of(path: &PathExpr) -> u8
     ensures { result ≡ (printed_path path.now).binding }
@@ -45,7 +50,7 @@ fn binding_of(path: &PathExpr) -> u8
     }
 }
 
-/// Adds the text of the path expression.
+/// Appends the text of the path expression.
 #[tactic(auto, using(crate::proofs::PrintedPaths::printed_forms))]
 #[cycle(push_path)]
 pub(crate) fn push_path(out: &mut Vec<u8>, path: &PathExpr) -> Result<(), AllocError>
@@ -75,7 +80,8 @@ pub(crate) fn push_path(out: &mut Vec<u8>, path: &PathExpr) -> Result<(), AllocE
     }
 }
 
-/// Adds the part of an expression that binds so, in brackets where it would be read otherwise.
+/// Appends the text of a part of an expression of the strength `above`: in brackets, unless the
+/// part binds more tightly.
 #[tactic(auto, unfolding(crate::specs::Printed::within))]
 #[cycle(push_path)]
 fn push_part(out: &mut Vec<u8>, part: &PathExpr, above: u8) -> Result<(), AllocError>
@@ -89,6 +95,7 @@ fn push_part(out: &mut Vec<u8>, part: &PathExpr, above: u8) -> Result<(), AllocE
     out.extend_from_slice(b")")
 }
 
+/// Appends the part and then `mark`, which repeats it or begins what repeats it.
 #[cycle(push_path)]
 fn push_postfix(out: &mut Vec<u8>, part: &PathExpr, mark: &[u8]) -> Result<(), AllocError>
     ensures { OnOk result (out.new.items ≡ out.old.items ++ (within 5 (printed_path part.now) ++ mark.now)) }
@@ -97,7 +104,7 @@ fn push_postfix(out: &mut Vec<u8>, part: &PathExpr, mark: &[u8]) -> Result<(), A
     out.extend_from_slice(mark)
 }
 
-/// Adds the parts of a chain, with what joins two of them.
+/// Appends the parts of an expression of the strength `above`, with `between` between each two.
 #[cycle(push_path)]
 fn push_parts(
     out: &mut Vec<u8>,
@@ -118,6 +125,7 @@ fn push_parts(
     Ok(())
 }
 
+/// Appends the number in decimal.
 fn push_decimal(out: &mut Vec<u8>, n: u32) -> Result<(), AllocError>
     ensures { OnOk result (out.new.items ≡ out.old.items ++ decimal n) }
 {

@@ -10,16 +10,19 @@ use crate::names::push_name;
 use rela_flows::{Predicate, Prefix};
 use std::alloc::AllocError;
 
-/// How tightly the forms bind, from the loosest on.
+/// The binding strength of disjunctions, which bind most loosely.
 const OR: u8 = 1;
 
+/// The binding strength of conjunctions.
 const AND: u8 = 2;
 
+/// The binding strength of negations.
 const NOT: u8 = 3;
 
+/// The binding strength of single tests, which bind most tightly.
 const ATOM: u8 = 4;
 
-/// How tightly a predicate binds, from 1 for the loosest on.
+/// How tightly a predicate binds: 1 for the loosest, 4 for the tightest.
 #[tactic(auto, using(crate::proofs::PrintedPredicates::predicate_forms))]
 fn binding_of(predicate: &Predicate) -> u8
     ensures { result ≡ (printed_predicate predicate.now).binding }
@@ -38,7 +41,7 @@ fn binding_of(predicate: &Predicate) -> u8
     }
 }
 
-/// Adds what a check says of its flows: nothing where it is for all.
+/// Appends what a check says of its flows: nothing where it is for all.
 #[tactic(auto, unfolding(crate::specs::PredicateTexts::condition_text))]
 pub(crate) fn push_condition(out: &mut Vec<u8>, when: &Predicate) -> Result<(), AllocError>
     ensures { OnOk result (out.new.items ≡ out.old.items ++ condition_text when.now) }
@@ -50,6 +53,7 @@ pub(crate) fn push_condition(out: &mut Vec<u8>, when: &Predicate) -> Result<(), 
     push_predicate(out, when)
 }
 
+/// Whether the predicate is `all` itself.
 #[tactic(auto, using(crate::proofs::PrintedPredicates::all_forms))]
 fn is_all(predicate: &Predicate) -> bool
     ensures { result ≡ is_all predicate.now }
@@ -68,7 +72,7 @@ fn is_all(predicate: &Predicate) -> bool
     }
 }
 
-/// Adds the text of the predicate.
+/// Appends the text of the predicate.
 #[tactic(auto, using(crate::proofs::PrintedPredicates::predicate_forms))]
 #[cycle(push_predicate)]
 fn push_predicate(out: &mut Vec<u8>, predicate: &Predicate) -> Result<(), AllocError>
@@ -97,7 +101,8 @@ fn push_predicate(out: &mut Vec<u8>, predicate: &Predicate) -> Result<(), AllocE
     }
 }
 
-/// Adds the part of a predicate that binds so, in brackets where it would be read otherwise.
+/// Appends the text of a part of a predicate of the strength `above`: in brackets, unless the part
+/// binds more tightly.
 #[tactic(auto, unfolding(crate::specs::Printed::within))]
 #[cycle(push_predicate)]
 fn push_part(out: &mut Vec<u8>, part: &Predicate, above: u8) -> Result<(), AllocError>
@@ -111,7 +116,7 @@ fn push_part(out: &mut Vec<u8>, part: &Predicate, above: u8) -> Result<(), Alloc
     out.extend_from_slice(b")")
 }
 
-/// Adds the parts, with what joins two of them.
+/// Appends the parts of a predicate of the strength `above`, with `between` between each two.
 #[cycle(push_predicate)]
 fn push_parts(
     out: &mut Vec<u8>,
@@ -132,6 +137,7 @@ fn push_parts(
     Ok(())
 }
 
+/// Appends the words and then the prefix.
 fn push_prefix(out: &mut Vec<u8>, words: &[u8], prefix: &Prefix) -> Result<(), AllocError>
     ensures { OnOk result (out.new.items ≡ out.old.items ++ (words.now ++ text_of prefix.now)) }
 {

@@ -10,14 +10,16 @@ use crate::paths::push_path;
 use rela_spec::{Modifier, PathExpr, SpecExpr};
 use std::alloc::AllocError;
 
-/// How tightly the forms bind, from the loosest on.
+/// The binding strength of `else`, which binds most loosely.
 const ELSE: u8 = 1;
 
+/// The binding strength of `then`.
 const THEN: u8 = 2;
 
+/// The binding strength of units and references, which bind most tightly.
 const ATOM: u8 = 3;
 
-/// How tightly a specification binds, from 1 for the loosest on.
+/// How tightly a specification binds: 1 for the loosest, 3 for the tightest.
 #[tactic(auto, using(crate::proofs::PrintedSpecs::spec_forms))]
 fn binding_of(spec: &SpecExpr) -> u8
     ensures { result ≡ (printed_spec spec.now).binding }
@@ -29,7 +31,7 @@ fn binding_of(spec: &SpecExpr) -> u8
     }
 }
 
-/// Adds the text of the specification.
+/// Appends the text of the specification.
 #[tactic(auto, using(crate::proofs::PrintedSpecs::spec_forms))]
 #[cycle(push_spec)]
 pub(crate) fn push_spec(out: &mut Vec<u8>, spec: &SpecExpr) -> Result<(), AllocError>
@@ -43,7 +45,8 @@ pub(crate) fn push_spec(out: &mut Vec<u8>, spec: &SpecExpr) -> Result<(), AllocE
     }
 }
 
-/// Adds the part of a specification that binds so, in brackets where it would be read otherwise.
+/// Appends the text of a part of a specification of the strength `above`: in brackets, unless the
+/// part binds more tightly.
 #[tactic(auto, unfolding(crate::specs::Printed::within))]
 #[cycle(push_spec)]
 fn push_part(out: &mut Vec<u8>, part: &SpecExpr, above: u8) -> Result<(), AllocError>
@@ -57,7 +60,7 @@ fn push_part(out: &mut Vec<u8>, part: &SpecExpr, above: u8) -> Result<(), AllocE
     out.extend_from_slice(b")")
 }
 
-/// Adds the parts, with what joins two of them.
+/// Appends the parts of a specification of the strength `above`, with `between` between each two.
 #[cycle(push_spec)]
 fn push_parts(
     out: &mut Vec<u8>,
@@ -78,6 +81,7 @@ fn push_parts(
     Ok(())
 }
 
+/// Appends a unit: its zone and its modifier, in braces.
 #[tactic(auto, unfolding(crate::specs::SpecTexts::unit_text))]
 fn push_unit(
     out: &mut Vec<u8>,
@@ -93,6 +97,7 @@ fn push_unit(
     out.extend_from_slice(b" }")
 }
 
+/// Appends a modifier, with its path expressions in brackets.
 #[tactic(auto, unfolding(crate::specs::SpecTexts::modifier_text))]
 fn push_modifier(out: &mut Vec<u8>, modifier: &Modifier<PathExpr>) -> Result<(), AllocError>
     ensures { OnOk result (out.new.items ≡ out.old.items ++ modifier_text modifier.now) }
@@ -114,6 +119,7 @@ fn push_modifier(out: &mut Vec<u8>, modifier: &Modifier<PathExpr>) -> Result<(),
     }
 }
 
+/// Appends `opening`, the path expression and a closing bracket.
 fn push_call(out: &mut Vec<u8>, opening: &[u8], path: &PathExpr) -> Result<(), AllocError>
     ensures { OnOk result (out.new.items ≡ out.old.items ++ (opening.now ++ (path_text path.now ++ codes ")"))) }
 {

@@ -1,6 +1,8 @@
+//! What may be asserted of two sets of words.
+
 use crate::term::PathTerm;
 
-/// What may be asserted of two sets of words.
+/// An assertion about two sets of words.
 #[derive(Debug, PartialEq, Eq, Drop)]
 pub enum Assertion {
     /// They have the same words.

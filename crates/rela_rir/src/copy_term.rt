@@ -7,6 +7,8 @@ use std::alloc::{AllocError, Global};
 
 impl PathTerm {
     /// The same term once more. It goes as deep into the stack as the term is deep.
+    ///
+    /// Time and space: linear in the nodes of the term.
     #[cycle(copy)]
     pub fn copy(&self, alloc: Global) -> Result<PathTerm, AllocError>
         ensures { IfOk result (λ term. term ≡ self.now) }
@@ -33,6 +35,8 @@ impl PathTerm {
 
 impl RelTerm {
     /// The same term once more. It goes as deep into the stack as the term is deep.
+    ///
+    /// Time and space: linear in the nodes of the term.
     #[cycle(copy)]
     pub fn copy(&self, alloc: Global) -> Result<RelTerm, AllocError>
         ensures { IfOk result (λ term. term ≡ self.now) }
@@ -57,6 +61,7 @@ impl RelTerm {
     }
 }
 
+/// The path term in a box of its own, once more.
 #[cycle(copy)]
 fn copy_path(alloc: Global, term: &Boxed<PathTerm>) -> Result<Boxed<PathTerm>, AllocError>
     ensures { IfOk result (λ copy. copy ≡ term.now) }
@@ -64,6 +69,7 @@ fn copy_path(alloc: Global, term: &Boxed<PathTerm>) -> Result<Boxed<PathTerm>, A
     Boxed::new(alloc, term.get().copy(alloc)?)
 }
 
+/// The relation term in a box of its own, once more.
 #[cycle(copy)]
 fn copy_relation(alloc: Global, term: &Boxed<RelTerm>) -> Result<Boxed<RelTerm>, AllocError>
     ensures { IfOk result (λ copy. copy ≡ term.now) }

@@ -6,7 +6,7 @@ use rela_names::Boxed;
 use std::alloc::{AllocError, Global};
 
 impl PathTerm {
-    /// The words of both.
+    /// The words that are in one of them, or in both.
     pub fn union(alloc: Global, a: PathTerm, b: PathTerm) -> Result<PathTerm, AllocError>
         ensures { IfOk result (λ term. term ≡ PathTerm.Union a b) }
     {
@@ -20,7 +20,7 @@ impl PathTerm {
         Ok(PathTerm::Concat(Boxed::new(alloc, a)?, Boxed::new(alloc, b)?))
     }
 
-    /// Words of the part, one after another.
+    /// Words of the part, one after another: none, one or more.
     pub fn star(alloc: Global, part: PathTerm) -> Result<PathTerm, AllocError>
         ensures { IfOk result (λ term. term ≡ PathTerm.Star part) }
     {
@@ -41,7 +41,7 @@ impl PathTerm {
         Ok(PathTerm::Complement(Boxed::new(alloc, part)?))
     }
 
-    /// What the relation makes of the words of the set.
+    /// The image of the set under the relation: the words that some word of the set is related to.
     pub fn image(alloc: Global, set: PathTerm, relation: RelTerm) -> Result<PathTerm, AllocError>
         ensures { IfOk result (λ term. term ≡ PathTerm.Image set relation) }
     {
@@ -64,7 +64,7 @@ impl RelTerm {
         Ok(RelTerm::Product(Boxed::new(alloc, a)?, Boxed::new(alloc, b)?))
     }
 
-    /// The pairs of both.
+    /// The pairs that are in one of them, or in both.
     pub fn union(alloc: Global, a: RelTerm, b: RelTerm) -> Result<RelTerm, AllocError>
         ensures { IfOk result (λ term. term ≡ RelTerm.Union a b) }
     {
@@ -78,14 +78,14 @@ impl RelTerm {
         Ok(RelTerm::Concat(Boxed::new(alloc, a)?, Boxed::new(alloc, b)?))
     }
 
-    /// Pairs of the part, one after another.
+    /// Pairs of the part, one after another: none, one or more.
     pub fn star(alloc: Global, part: RelTerm) -> Result<RelTerm, AllocError>
         ensures { IfOk result (λ term. term ≡ RelTerm.Star part) }
     {
         Ok(RelTerm::Star(Boxed::new(alloc, part)?))
     }
 
-    /// By the first to some word, and from that word by the second.
+    /// The composition: by the first to some word, and from that word by the second.
     pub fn compose(alloc: Global, a: RelTerm, b: RelTerm) -> Result<RelTerm, AllocError>
         ensures { IfOk result (λ term. term ≡ RelTerm.Compose a b) }
     {

@@ -5,8 +5,10 @@ ghost use Rattle.rela_rir.specs.Size.{nodes_of_path, nodes_of_rel, depth_of_path
 
 use crate::term::{PathTerm, RelTerm};
 
-/// The number of nodes of the term, which are one and those of its parts; a class is one node. Where
-/// there are more than 2^64 - 1, it is 2^64 - 1.
+/// The number of nodes of the term, which are one and those of its parts; a class is one node.
+/// Where there are more than 2^64 - 1, it is 2^64 - 1.
+///
+/// Time: linear in the nodes.
 #[cycle(nodes)]
 #[tactic(auto, using(crate::proofs::SizeForms::size_forms))]
 pub fn nodes(r: &RelTerm) -> u64
@@ -23,6 +25,7 @@ pub fn nodes(r: &RelTerm) -> u64
     }
 }
 
+/// The number of nodes of a path term, up to 2^64 - 1 likewise.
 #[cycle(nodes)]
 #[tactic(auto, using(crate::proofs::SizeForms::size_forms))]
 fn path_nodes(t: &PathTerm) -> u64
@@ -45,14 +48,16 @@ fn path_nodes(t: &PathTerm) -> u64
     }
 }
 
-// one node more than its two parts have
+/// The number of nodes of a term whose two parts have these: one more than both, up to 2^64 - 1.
 fn with_parts(a: u64, b: u64) -> u64
     ensures { result ≡ min (a + b + 1) (2 ^ 64 - 1) }
 {
     a.saturating_add(b).saturating_add(1)
 }
 
-/// The number of nodes on a longest way down the term: 1 more than of its deepest part.
+/// The number of nodes on a longest way down the term: 1 more than that of its deepest part.
+///
+/// Time: linear in the nodes.
 #[cycle(depth)]
 #[tactic(auto, using(crate::proofs::SizeForms::depth_forms))]
 pub fn depth(r: &RelTerm) -> u64
@@ -69,6 +74,7 @@ pub fn depth(r: &RelTerm) -> u64
     }
 }
 
+/// The number of nodes on a longest way down a path term.
 #[cycle(depth)]
 #[tactic(auto, using(crate::proofs::SizeForms::depth_forms))]
 fn path_depth(t: &PathTerm) -> u64

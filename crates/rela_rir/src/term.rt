@@ -1,3 +1,5 @@
+//! The forms of terms: sets of words, and relations between words.
+
 use rela_names::{Boxed, Symbol};
 
 /// A set of words.
@@ -12,7 +14,7 @@ pub enum PathTerm {
     Class(u32),
     /// The word of this symbol alone.
     One(Symbol),
-    /// The words of both.
+    /// The words that are in one of them, or in both.
     Union(Boxed<PathTerm>, Boxed<PathTerm>),
     /// A word of the first, and then one of the second.
     Concat(Boxed<PathTerm>, Boxed<PathTerm>),
@@ -26,7 +28,7 @@ pub enum PathTerm {
     Pre,
     /// The paths after the change.
     Post,
-    /// What the relation makes of the words of the set.
+    /// The image of the set under the relation: the words that some word of the set is related to.
     Image(Boxed<PathTerm>, Boxed<RelTerm>),
 }
 
@@ -38,12 +40,12 @@ pub enum RelTerm {
     Identity(Boxed<PathTerm>),
     /// Each word of the first set with each of the second.
     Product(Boxed<PathTerm>, Boxed<PathTerm>),
-    /// The pairs of both.
+    /// The pairs that are in one of them, or in both.
     Union(Boxed<RelTerm>, Boxed<RelTerm>),
     /// A pair of the first, and then one of the second.
     Concat(Boxed<RelTerm>, Boxed<RelTerm>),
     /// Pairs of the part, one after another: none, one or more.
     Star(Boxed<RelTerm>),
-    /// By the first to some word, and from that word by the second.
+    /// The composition: by the first to some word, and from that word by the second.
     Compose(Boxed<RelTerm>, Boxed<RelTerm>),
 }

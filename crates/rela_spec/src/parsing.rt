@@ -31,6 +31,9 @@ const MAX_OPEN_BRACKETS: usize = 100;
 
 /// The tree that the tokens spell. `end` is the number of bytes in the text.
 ///
+/// Time and space: linear in the tokens and the bytes of their names. It goes as deep into the
+/// stack as brackets are open.
+///
 /// # Errors
 ///
 /// `Syntax` at the first token such that no text of the grammar begins with the tokens up to and
@@ -81,7 +84,7 @@ fn file(alloc: Global, tokens: &[Token], end: u32) -> Result<SpecFile, SpecError
     })
 }
 
-/// The items that are left.
+/// The items that are left, up to the end of the text.
 #[tactic(auto, unfolding(crate::specs::ReadFile::read_items))]
 fn all_items(alloc: Global, cursor: &mut Cursor) -> Result<Vec<Item>, SpecError>
     ensures end { cursor.new.end ≡ cursor.old.end }

@@ -7,7 +7,9 @@ use rela_names::{Boxed, Level, List, Name};
 /// A specification: the level of its locations, and its items in their order.
 #[derive(Debug, PartialEq, Eq, Drop)]
 pub struct SpecFile {
+    /// How finely its locations are told apart.
     pub level: Level,
+    /// Its definitions and checks.
     pub items: List<Item>,
 }
 
@@ -55,12 +57,19 @@ pub enum PathExpr {
         name: Name,
         at: u32,
     },
+    /// A path of each part, one after another.
     Seq(List<PathExpr>),
+    /// The paths that are in some part.
     Alt(List<PathExpr>),
+    /// The paths that are in each part.
     And(List<PathExpr>),
+    /// The words of path symbols that are not in the part.
     Not(Boxed<PathExpr>),
+    /// Paths of the part, one after another: none, one or more.
     Star(Boxed<PathExpr>),
+    /// Paths of the part, one after another: one or more.
     Plus(Boxed<PathExpr>),
+    /// The paths of the part, and the empty path.
     Maybe(Boxed<PathExpr>),
     /// The part `n` times in a row.
     Times {
@@ -82,7 +91,7 @@ pub enum Member {
     Loop,
 }
 
-/// Which changes are wanted. A list has two parts or more.
+/// A specification of changes. A list has two parts or more.
 #[derive(Debug, PartialEq, Eq, Drop)]
 pub enum SpecExpr {
     /// The change that the modifier asks for on the paths of the zone.
@@ -95,18 +104,31 @@ pub enum SpecExpr {
         name: Name,
         at: u32,
     },
+    /// A path falls into pieces, one of each part's in the order of the parts.
     Then(List<SpecExpr>),
+    /// The first part for the paths of its zone, the next for the others that are in its own, and
+    /// so on.
     Else(List<SpecExpr>),
 }
 
-/// What has to become of the paths of a zone.
+/// What has to become of the paths of a zone. The paths that a modifier brings in belong to the
+/// zone of its unit too.
 #[derive(Debug, PartialEq, Eq, Drop)]
 pub enum Modifier<E> {
+    /// They stay.
     Preserve,
+    /// They stay, and where there are any, these come to them.
     Add(E),
+    /// They stay, but for these, which go.
     Remove(E),
+    /// They stay, but for the first ones, and where there are any of those, the second ones come in
+    /// their place.
     Replace(E, E),
+    /// They are dropped.
     Drop,
+    /// Where there are any of them or of these, some of these are there afterwards, and no others
+    /// of the zone.
     AnyOf(E),
+    /// They stay, but for these, of which nothing is said.
     Ignore(E),
 }

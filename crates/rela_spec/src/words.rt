@@ -15,7 +15,8 @@ pub fn is_keyword(word: &[u8]) -> bool
         || is_predicate_word(word)
 }
 
-/// The words that begin an item and mark a check.
+/// Whether the word begins a line of a specification, or says for which flows a check is or how
+/// strict.
 #[tactic(auto, unfolding(crate::specs::Keywords::is_item_word))]
 fn is_item_word(word: &[u8]) -> bool
     ensures { result ≡ is_item_word word.now }
@@ -28,7 +29,7 @@ fn is_item_word(word: &[u8]) -> bool
         || word == b"atmost".as_slice()
 }
 
-/// The words of members.
+/// Whether the word picks locations, or is a symbol that is no location.
 #[tactic(auto, unfolding(crate::specs::Keywords::is_member_word))]
 fn is_member_word(word: &[u8]) -> bool
     ensures { result ≡ is_member_word word.now }
@@ -41,7 +42,7 @@ fn is_member_word(word: &[u8]) -> bool
         || word == b"loop".as_slice()
 }
 
-/// The words of modifiers, `drop` apart.
+/// Whether the word is that of a modifier other than `drop`.
 #[tactic(auto, unfolding(crate::specs::Keywords::is_modifier_word))]
 fn is_modifier_word(word: &[u8]) -> bool
     ensures { result ≡ is_modifier_word word.now }
@@ -54,7 +55,7 @@ fn is_modifier_word(word: &[u8]) -> bool
         || word == b"ignore".as_slice()
 }
 
-/// The words that join the parts of specifications and predicates.
+/// Whether the word joins or negates parts of specifications or predicates.
 #[tactic(auto, unfolding(crate::specs::Keywords::is_joining_word))]
 fn is_joining_word(word: &[u8]) -> bool
     ensures { result ≡ is_joining_word word.now }
@@ -66,7 +67,7 @@ fn is_joining_word(word: &[u8]) -> bool
         || word == b"or".as_slice()
 }
 
-/// The words of single predicates.
+/// Whether the word belongs to a single test of flows.
 #[tactic(auto, unfolding(crate::specs::Keywords::is_predicate_word))]
 fn is_predicate_word(word: &[u8]) -> bool
     ensures { result ≡ is_predicate_word word.now }

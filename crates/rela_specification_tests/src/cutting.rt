@@ -5,7 +5,8 @@ use std::alloc::{AllocError, Global};
 use std::process::Abort;
 use std::test::Fail;
 
-/// Adds the token to a line: its offset, and its text.
+/// Appends the token to a line: a blank, its offset, a colon and its text, without the quote that
+/// closes a quoted name.
 fn push_token(line: &mut String, token: &Token) -> Result<(), AllocError> {
     let at = token.at;
     write!(line, " {at}:")?;
@@ -23,6 +24,7 @@ fn push_token(line: &mut String, token: &Token) -> Result<(), AllocError> {
     }
 }
 
+/// Appends the bytes, each as the character of its number.
 fn push_bytes(line: &mut String, bytes: &[u8]) -> Result<(), AllocError> {
     for byte in bytes {
         line.push(char::from(*byte))?;
@@ -30,6 +32,7 @@ fn push_bytes(line: &mut String, bytes: &[u8]) -> Result<(), AllocError> {
     Ok(())
 }
 
+/// The tokens of the text in one line. The errors are those of [`tokens`].
 fn outline(rt: &impl Abort, alloc: Global, text: &[u8]) -> Result<String, SpecError> {
     assert!(rt; text.len() <= MAX_TEXT_LEN);
     let mut line = String::new(alloc);
@@ -39,7 +42,7 @@ fn outline(rt: &impl Abort, alloc: Global, text: &[u8]) -> Result<String, SpecEr
     Ok(line)
 }
 
-/// Where the text has its fault.
+/// The offset of the first byte at which no token begins, or `None` where there is none.
 fn fault(rt: &impl Abort, alloc: Global, text: &[u8]) -> Option<u32> {
     assert!(rt; text.len() <= MAX_TEXT_LEN);
     match tokens(alloc, text) {
@@ -48,6 +51,7 @@ fn fault(rt: &impl Abort, alloc: Global, text: &[u8]) -> Option<u32> {
     }
 }
 
+/// Marks, bare words, quoted names and references are told apart, and blanks are no tokens.
 #[test]
 fn tokens_of_each_kind(rt: HostRuntime) -> Result<(), Fail> {
     let line = outline(&rt, rt.alloc(), b"path p = (\"drop\"*\t| $q)?;\r\n")?;
@@ -65,6 +69,7 @@ fn tokens_of_each_kind(rt: HostRuntime) -> Result<(), Fail> {
     Ok(())
 }
 
+/// A dot or a colon is a mark where it stands alone, and else a byte of a name.
 #[test]
 fn dots_and_colons(rt: HostRuntime) -> Result<(), Fail> {
     let line = outline(&rt, rt.alloc(), b". : .. a:b .a a. .*:(:)")?;
@@ -77,6 +82,7 @@ fn dots_and_colons(rt: HostRuntime) -> Result<(), Fail> {
     Ok(())
 }
 
+/// A comment may have any bytes, and ends before the next line feed or at the end of the text.
 #[test]
 fn comments_of_any_bytes(rt: HostRuntime) -> Result<(), Fail> {
     let line = outline(&rt, rt.alloc(), b"a#b\r\xff\"$ @\nc# \x00\x80\xc3")?;
@@ -86,6 +92,7 @@ fn comments_of_any_bytes(rt: HostRuntime) -> Result<(), Fail> {
     Ok(())
 }
 
+/// The first byte at which no token begins is the fault.
 #[test]
 fn the_first_fault(rt: HostRuntime) {
     for (text, at) in [
@@ -103,7 +110,7 @@ fn the_first_fault(rt: HostRuntime) {
     }
 }
 
-/// Bytes before and behind a name of so many bytes.
+/// The bytes before and behind a name of `len` bytes, with that name between them.
 fn around_name(
     alloc: Global,
     before: &[u8],
@@ -118,6 +125,7 @@ fn around_name(
     Ok(text)
 }
 
+/// A name has at most 64 bytes, however it is written.
 #[test]
 fn names_of_64_bytes_and_more(rt: HostRuntime) -> Result<(), Fail> {
     let alloc = rt.alloc();

@@ -7,7 +7,8 @@ use std::alloc::{AllocError, Global};
 use std::process::Abort;
 use std::test::Fail;
 
-/// The canonical text of the specification that a text spells.
+/// The canonical text of the specification that a text spells. Errors are those of [`tokens`] and
+/// [`parse`].
 fn canonical(rt: &impl Abort, alloc: Global, text: &[u8]) -> Result<Vec<u8>, SpecError> {
     assert!(rt; text.len() <= MAX_TEXT_LEN);
     let tokens = tokens(alloc, text)?;
@@ -15,7 +16,7 @@ fn canonical(rt: &impl Abort, alloc: Global, text: &[u8]) -> Result<Vec<u8>, Spe
     Ok(print(alloc, &file)?)
 }
 
-/// Says that the text has this canonical text, which is its own canonical text.
+/// Asserts that the text has this canonical text, which is its own canonical text.
 fn becomes(rt: &impl Abort, alloc: Global, text: &[u8], wanted: &[u8]) -> Result<(), SpecError> {
     let found = canonical(rt, alloc, text)?;
     assert_eq!(rt; found.as_slice(), wanted);
@@ -24,12 +25,13 @@ fn becomes(rt: &impl Abort, alloc: Global, text: &[u8], wanted: &[u8]) -> Result
     Ok(())
 }
 
-/// Says that the text is refused so.
+/// Asserts that the text is refused with this fault.
 fn refused(rt: &impl Abort, alloc: Global, text: &[u8], fault: SpecError) {
     let found = canonical(rt, alloc, text).err();
     assert_eq!(rt; found, Some(fault), "{text:?}");
 }
 
+/// The level is written, and needless brackets and comments are left out.
 #[test]
 fn canonical_texts(rt: HostRuntime) -> Result<(), Fail> {
     let alloc = rt.alloc();
@@ -49,6 +51,7 @@ fn canonical_texts(rt: HostRuntime) -> Result<(), Fail> {
     Ok(())
 }
 
+/// Path expressions keep the brackets and quotes that they need.
 #[test]
 fn canonical_paths(rt: HostRuntime) -> Result<(), Fail> {
     let alloc = rt.alloc();
@@ -61,6 +64,8 @@ fn canonical_paths(rt: HostRuntime) -> Result<(), Fail> {
     Ok(())
 }
 
+/// Predicates and specifications keep the brackets that they need; prefixes are canonical, and `for
+/// all` is left out.
 #[test]
 fn canonical_checks(rt: HostRuntime) -> Result<(), Fail> {
     let alloc = rt.alloc();
@@ -73,6 +78,7 @@ fn canonical_checks(rt: HostRuntime) -> Result<(), Fail> {
     Ok(())
 }
 
+/// Texts are refused at their first fault, and bad numbers only where nothing else is at fault.
 #[test]
 fn refusals(rt: HostRuntime) {
     for (text, fault) in [
@@ -100,7 +106,7 @@ fn refusals(rt: HostRuntime) {
     }
 }
 
-/// A text that opens this many brackets.
+/// A text that opens this many brackets and closes none.
 fn opening(alloc: Global, count: usize) -> Result<Vec<u8>, AllocError> {
     let mut text = Vec::new(alloc);
     text.extend_from_slice(b"path p = ")?;
@@ -110,6 +116,7 @@ fn opening(alloc: Global, count: usize) -> Result<Vec<u8>, AllocError> {
     Ok(text)
 }
 
+/// A hundred brackets may be open, and no more.
 #[test]
 fn brackets(rt: HostRuntime) -> Result<(), Fail> {
     let alloc = rt.alloc();

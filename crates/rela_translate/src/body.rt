@@ -11,7 +11,7 @@ pub enum Expr {
     Class(u32),
     /// A path of the first, and then one of the second.
     Seq(Boxed<Expr>, Boxed<Expr>),
-    /// The paths of both.
+    /// The paths that are in one of them, or in both.
     Alt(Boxed<Expr>, Boxed<Expr>),
     /// The paths that are in both.
     Meet(Boxed<Expr>, Boxed<Expr>),

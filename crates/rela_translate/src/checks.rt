@@ -1,3 +1,5 @@
+//! Checks: what has to hold between the paths before and after a change, for some flows.
+
 ghost use Rattle.std.specs.Prelude.{◌≡◌};
 ghost use Rattle.std.specs.List.{All};
 ghost use Rattle.rela_translate.specs.Checked.{IsCheck, markers_of};
@@ -15,11 +17,17 @@ use std::marker::Model;
 /// two relations is at most 1,000, and those have together at most 20,000 nodes.
 #[derive(Debug, Drop)]
 pub struct Check {
+    /// The name that the check's rows are reported under.
     name: Name,
+    /// How finely its locations are told apart.
     level: Level,
+    /// Which flows it is for.
     when: Predicate,
+    /// Whether only paths that come new offend, and not those that are missing.
     at_most: bool,
+    /// The class table: the sets of path symbols that its body names by their places, from 0.
     classes: Vec<SymbolSet>,
+    /// What is asked for.
     body: Core,
 }
 

@@ -1,4 +1,5 @@
-//! Checks of changes, what they mean, and the terms that they are translated to.
+//! Checks of changes, what they mean, and the terms that they are translated to, after Xu and
+//! others, *Relational Network Verification*, SIGCOMM 2024.
 #![tactic(auto)]
 
 mod body;

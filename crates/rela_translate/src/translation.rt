@@ -21,11 +21,15 @@ use units::{after_of_unit, before_of_unit, both, outside, zone_of_unit};
 /// under the first the image that the paths after it have under the second.
 #[derive(Debug, PartialEq, Eq, Drop)]
 pub struct Relations {
+    /// The relation that the paths before the change are seen through.
     pub before: RelTerm,
+    /// The relation that the paths after the change are seen through.
     pub after: RelTerm,
 }
 
 /// The terms of the check's two relations, under the alphabet of the check's level.
+///
+/// Time and space: linear in the nodes of the two terms, of which there are at most 20,000.
 pub fn translate(alloc: Global, check: &Check, alphabet: &Alphabet) -> Result<Relations, AllocError>
     ensures before_term { IfOk result (λ r. r.before ≡ before_of (length alphabet.now) check.now.body) }
     ensures after_term { IfOk result (λ r. r.after ≡ after_of (length alphabet.now) check.now.body) }
@@ -44,6 +48,8 @@ pub fn translate(alloc: Global, check: &Check, alphabet: &Alphabet) -> Result<Re
 }
 
 /// The term of the words that the check speaks of, under the alphabet of the check's level.
+///
+/// Time and space: linear in the nodes of the term.
 pub fn zone_term(alloc: Global, check: &Check, alphabet: &Alphabet) -> Result<PathTerm, AllocError>
     ensures term { IfOk result (λ t. t ≡ zone_of (length alphabet.now) check.now.body) }
     ensures zone { IfOk result (λ t. (w : List ℕ) →
@@ -53,6 +59,7 @@ pub fn zone_term(alloc: Global, check: &Check, alphabet: &Alphabet) -> Result<Pa
     zone_of(alloc, check.body(), alphabet)
 }
 
+/// The relation through which a body sees the paths before the change.
 #[tactic(auto, using(crate::proofs::TermForms::body_forms, crate::proofs::Markers::in_unit))]
 fn before_of(alloc: Global, body: &Core, alphabet: &Alphabet) -> Result<RelTerm, AllocError>
     requires { All IsMarker (markers_of body.now) }
@@ -75,6 +82,7 @@ fn before_of(alloc: Global, body: &Core, alphabet: &Alphabet) -> Result<RelTerm,
     }
 }
 
+/// The relation through which a body sees the paths after the change.
 #[tactic(auto, using(crate::proofs::TermForms::body_forms, crate::proofs::Markers::in_unit))]
 fn after_of(alloc: Global, body: &Core, alphabet: &Alphabet) -> Result<RelTerm, AllocError>
     requires { All IsMarker (markers_of body.now) }
@@ -97,6 +105,7 @@ fn after_of(alloc: Global, body: &Core, alphabet: &Alphabet) -> Result<RelTerm, 
     }
 }
 
+/// The words that a body speaks of.
 #[tactic(auto, using(crate::proofs::TermForms::body_forms))]
 fn zone_of(alloc: Global, body: &Core, alphabet: &Alphabet) -> Result<PathTerm, AllocError>
     ensures { IfOk result (λ t. t ≡ zone_of (length alphabet.now) body.now) }

@@ -15,14 +15,17 @@ enum Notation {
     Colons,
 }
 
-/// How many fields a text has, and the number that they write one after another.
+/// The fields of a text.
 #[derive(Clone, Copy)]
 struct Fields {
+    /// How many they are: at most 8.
     count: u32,
+    /// The number that they write one after another, the first the most significant.
     number: u128,
 }
 
 impl Notation {
+    /// The byte between two fields.
     fn separator(self) -> u8
         ensures { result ≡ separator_of self }
     {
@@ -32,6 +35,7 @@ impl Notation {
         }
     }
 
+    /// How many bits a field writes.
     fn bits(self) -> u32
         ensures { result ≡ bits_of self }
     {
@@ -41,6 +45,7 @@ impl Notation {
         }
     }
 
+    /// The number that a field writes, or `None` where the text is no field.
     fn field(self, text: &[u8]) -> Option<u16>
         ensures { (n : ℕ) → (result ≡ Some n) ↔ IsField self text.now n }
     {
@@ -51,7 +56,8 @@ impl Notation {
     }
 }
 
-// The number that one to four digits of a radix write.
+/// The number that one to four digits of a radix write, or `None` where the text is no such
+/// numeral.
 fn short_numeral(text: &[u8], radix: u32) -> Option<u16>
     requires low { 2 ≤ radix }
     requires high { radix ≤ 16 }
@@ -69,7 +75,8 @@ fn short_numeral(text: &[u8], radix: u32) -> Option<u16>
     Some(number)
 }
 
-// The number below 256 that a decimal with no leading zero writes.
+/// The number below 256 that a decimal with no leading zero writes, or `None` where the text is
+/// none.
 pub(super) fn octet(text: &[u8]) -> Option<u16>
     ensures { (n : ℕ) → (result ≡ Some n) ↔ IsOctet text.now n }
 {
@@ -80,7 +87,8 @@ pub(super) fn octet(text: &[u8]) -> Option<u16>
     if number < 256 { Some(number) } else { None }
 }
 
-// What stands before the first separator, and what after it if there is one.
+/// What stands before the first separator, and what stands after it, or `None` where there is no
+/// separator.
 pub(super) fn cut(text: &[u8], separator: u8) -> (&[u8], Option<&[u8]>)
     ensures { slice_split (λ b. b == separator) text.now ≡ result.0.now ∷ parts_of separator (option_copied result.1) }
 {
@@ -90,7 +98,8 @@ pub(super) fn cut(text: &[u8], separator: u8) -> (&[u8], Option<&[u8]>)
     }
 }
 
-// The fields of a text, at most eight. The empty text has none.
+/// The fields of a text, or `None` where it has more than eight or one of them is no field of this
+/// notation. The empty text has none.
 fn read_fields(text: &[u8], notation: Notation) -> Option<Fields>
     ensures { (fields : Fields) → (result ≡ Some fields) ↔ Write notation text.now fields }
 {
@@ -113,7 +122,7 @@ fn read_fields(text: &[u8], notation: Notation) -> Option<Fields>
     Some(read)
 }
 
-// The address that four octets write.
+/// The address that four octets write, or `None` where the text is no such address.
 pub(super) fn ipv4_address(text: &[u8]) -> Option<u32>
     ensures { (a : ℕ) → (result ≡ Some a) ↔ IsIpv4Address text.now a }
 {
@@ -125,7 +134,8 @@ pub(super) fn ipv4_address(text: &[u8]) -> Option<u32>
     }
 }
 
-// Where two colons stand first.
+/// The place of the first of the first two colons that stand side by side, or `None` where no two
+/// do.
 fn gap(text: &[u8]) -> Option<usize>
     ensures { MatchOption result ((k : ℕ) → ¬ IsGap text.now k) (λ i. IsGap text.now i × ((k : ℕ) → k < i → ¬ IsGap text.now k)) }
 {
@@ -137,7 +147,8 @@ fn gap(text: &[u8]) -> Option<usize>
     None
 }
 
-// A shift to the left that loses nothing, which may be by all 128 bits if there is nothing to shift.
+/// The number shifted to the left, by which no set bit is lost. Zero may be shifted by all 128
+/// bits.
 fn shifted(number: u128, bits: u32) -> u128
     requires width { bits ≤ 128 }
     requires room { number * 2 ^ bits < 2 ^ 128 }
@@ -146,7 +157,8 @@ fn shifted(number: u128, bits: u32) -> u128
     number.checked_shl(bits).unwrap_or(0)
 }
 
-// The address that eight groups write, or fewer round two colons, which stand for zeros.
+/// The address that eight groups write, or fewer round two colons, which stand for groups of zeros.
+/// `None` where the text is no such address.
 pub(super) fn ipv6_address(text: &[u8]) -> Option<u128>
     ensures { (a : ℕ) → (result ≡ Some a) ↔ IsIpv6Address text.now a }
 {

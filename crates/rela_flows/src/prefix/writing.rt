@@ -8,7 +8,7 @@ ghost use Rattle.rela_flows.specs.declared.prefix.Prefix.TheVariants.{V4, V6};
 use super::{Ipv4Prefix, Ipv6Prefix};
 use std::alloc::{AllocError, Global};
 
-// The eight bits of the address from the place `shift` on.
+/// The eight bits of the address from the place `shift` on, where the last bit has place 0.
 fn octet(address: u32, shift: u32) -> u8
     requires { shift < 32 }
     ensures { result ≡ address / 2 ^ shift % 2 ^ 8 }
@@ -16,7 +16,7 @@ fn octet(address: u32, shift: u32) -> u8
     ((address >> shift) & 0xff) as u8
 }
 
-// The sixteen bits of the address from the place `shift` on.
+/// The sixteen bits of the address from the place `shift` on, where the last bit has place 0.
 fn group(address: u128, shift: u32) -> u16
     requires { shift < 128 }
     ensures { result ≡ address / 2 ^ shift % 2 ^ 16 }
@@ -24,6 +24,7 @@ fn group(address: u128, shift: u32) -> u16
     ((address >> shift) & 0xffff) as u16
 }
 
+/// The canonical text of an IPv4 prefix.
 pub(super) fn ipv4_text(alloc: Global, prefix: &Ipv4Prefix) -> Result<Vec<u8>, AllocError>
     ensures { IfOk result (λ v. v.items ≡ text_of (V4 prefix.now)) }
 {
@@ -36,13 +37,14 @@ pub(super) fn ipv4_text(alloc: Global, prefix: &Ipv4Prefix) -> Result<Vec<u8>, A
     Ok(text.into_bytes())
 }
 
-// Four groups, joined by colons.
+/// Four groups in hexadecimal, joined by colons.
 fn four_groups(alloc: Global, a: u16, b: u16, c: u16, d: u16) -> Result<String, AllocError>
     ensures { IfOk result (λ text. string_bytes text ≡ digits 16 false a ++ colon ∷ (digits 16 false b ++ colon ∷ (digits 16 false c ++ colon ∷ digits 16 false d))) }
 {
     format!(in alloc; "{a:x}:{b:x}:{c:x}:{d:x}")
 }
 
+/// The canonical text of an IPv6 prefix.
 pub(super) fn ipv6_text(alloc: Global, prefix: &Ipv6Prefix) -> Result<Vec<u8>, AllocError>
     ensures { IfOk result (λ v. v.items ≡ text_of (V6 prefix.now)) }
 {

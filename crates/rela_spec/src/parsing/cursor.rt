@@ -1,4 +1,5 @@
-//! The tokens that are left to read.
+//! The tokens that are left to read. What has to come next and doesn't is `Syntax`, at the token
+//! that comes instead or at the end of the text.
 
 ghost use Rattle.std.specs.Prelude.{◌≡◌, ◌≢◌, ◌+◌, ◌-◌, ◌<◌, ◌≤◌, true, false, Ok, Err, ℕ, length, List, IfOk, IfErr, OnOk};
 ghost use Rattle.std.specs.Option.{option_map, option_copied};
@@ -17,12 +18,14 @@ use std::alloc::Global;
 /// The tokens of a text that are left to read.
 #[derive(Drop)]
 pub(crate) struct Cursor<'a> {
+    /// The tokens that are left, the next one first.
     rest: &'a [Token],
     /// The number of bytes in the text.
     end: u32,
 }
 
 impl<'a> Cursor<'a> {
+    /// A cursor before the first of these tokens, of a text of `end` bytes.
     pub(crate) fn new(tokens: &'a [Token], end: u32) -> Cursor<'a>
         ensures rest { result.rest.now ≡ tokens.now }
         ensures end { result.end ≡ end }
@@ -30,7 +33,7 @@ impl<'a> Cursor<'a> {
         Cursor { rest: tokens, end }
     }
 
-    /// The offset of the next token, or the length of the text.
+    /// The offset of the next token in bytes, or the length of the text where none is left.
     pub(crate) fn here(&self) -> u32
         ensures { result ≡ offset self.now.end self.now.rest.now }
     {
@@ -40,7 +43,7 @@ impl<'a> Cursor<'a> {
         }
     }
 
-    /// No text goes on with the next token.
+    /// The syntax error of a text that cannot go on with the next token.
     pub(crate) fn syntax(&self) -> SpecError
         ensures { result ≡ Syntax (offset self.now.end self.now.rest.now) }
     {
@@ -54,6 +57,7 @@ impl<'a> Cursor<'a> {
         self.rest.split_first().is_some()
     }
 
+    /// Whether this mark comes next.
     pub(crate) fn is_at_mark(&self, mark: u8) -> bool
         ensures { result ≡ next_is (is_mark_of mark) self.now.rest.now }
     {
@@ -63,6 +67,7 @@ impl<'a> Cursor<'a> {
         }
     }
 
+    /// Whether this word comes next, without quotes.
     pub(crate) fn is_at_word(&self, word: &[u8]) -> bool
         ensures { result ≡ next_is (is_word_of word.now) self.now.rest.now }
     {
@@ -82,6 +87,7 @@ impl<'a> Cursor<'a> {
         }
     }
 
+    /// Whether a reference comes next.
     pub(crate) fn is_at_reference(&self) -> bool
         ensures { result ≡ next_is is_reference_kind self.now.rest.now }
     {
@@ -91,7 +97,7 @@ impl<'a> Cursor<'a> {
         }
     }
 
-    /// Goes past the mark if it comes next, and says so.
+    /// Goes past the mark if it comes next, and says whether it did.
     #[tactic(auto, unfolding(crate::specs::ReadWords::read_mark))]
     pub(crate) fn take_mark(&mut self, mark: u8) -> bool
         ensures end { self.new.end ≡ self.old.end }
@@ -112,7 +118,7 @@ impl<'a> Cursor<'a> {
         }
     }
 
-    /// Goes past the word if it comes next, and says so.
+    /// Goes past the word if it comes next, and says whether it did.
     #[tactic(auto, unfolding(crate::specs::ReadWords::read_word))]
     pub(crate) fn take_word(&mut self, word: &[u8]) -> bool
         ensures end { self.new.end ≡ self.old.end }
@@ -148,8 +154,9 @@ impl<'a> Cursor<'a> {
         }
     }
 
-    /// The value, where the mark comes next, which is passed. It is given back or dropped here, since
-    /// a caller that drops a tree has to be proved for each of its forms.
+    /// Goes past the mark, which has to come next, and gives the value back. Where another token
+    /// comes, the value is dropped here, since a caller that drops a tree has to be proved for each
+    /// of its forms.
     pub(crate) fn closed<T: Drop>(&mut self, value: T, mark: u8) -> Result<T, SpecError>
         ensures end { self.new.end ≡ self.old.end }
         ensures same { IfOk result (λ v. v ≡ value) }
@@ -176,8 +183,12 @@ impl<'a> Cursor<'a> {
         }
     }
 
-    /// Goes past the opening bracket, which has to come next, where `room` more may be opened. Says
-    /// how many may be opened within.
+    /// Goes past the opening bracket, which has to come next, and gives the number of brackets that
+    /// may be opened within it, where `room` more may be opened in all.
+    ///
+    /// # Errors
+    ///
+    /// `TooDeep` at the bracket where `room` is 0; `Syntax` where no such bracket comes next.
     #[tactic(auto, unfolding(crate::specs::Readings::read_open))]
     pub(crate) fn open(&mut self, bracket: u8, room: usize) -> Result<usize, SpecError>
         ensures end { self.new.end ≡ self.old.end }
@@ -239,7 +250,8 @@ impl<'a> Cursor<'a> {
         }
     }
 
-    /// The number that has to come next: a bare word of digits. A bad one counts as 0.
+    /// The number that has to come next: a bare word of digits. One that is above 64 or has a
+    /// leading zero counts as 0.
     #[tactic(auto, unfolding(crate::specs::ReadWords::read_number))]
     pub(crate) fn number(&mut self) -> Result<u32, SpecError>
         ensures end { self.new.end ≡ self.old.end }
@@ -290,6 +302,7 @@ pub(crate) fn is_mark(kind: &TokenKind, mark: u8) -> bool
     }
 }
 
+/// Whether the token is this word, without quotes.
 fn is_word(kind: &TokenKind, word: &[u8]) -> bool
     ensures { result ≡ is_word_of word.now kind.now }
 {
@@ -299,6 +312,7 @@ fn is_word(kind: &TokenKind, word: &[u8]) -> bool
     }
 }
 
+/// Whether the token is a name: a quoted word, or a bare word that is no keyword.
 fn is_name(kind: &TokenKind) -> bool
     ensures { result ≡ is_name_kind kind.now }
 {
@@ -309,13 +323,14 @@ fn is_name(kind: &TokenKind) -> bool
     }
 }
 
+/// Whether the token is a reference.
 fn is_reference(kind: &TokenKind) -> bool
     ensures { result ≡ is_reference_kind kind.now }
 {
     matches!(kind, TokenKind::Reference(_))
 }
 
-/// The name that the token is.
+/// The name that the token is, or `None` where it is none.
 fn name_in(kind: &TokenKind) -> Option<&Name>
     ensures { (at : ℕ) → name_in at kind.now ≡ option_map (named at) (option_copied result) }
 {
@@ -326,7 +341,7 @@ fn name_in(kind: &TokenKind) -> Option<&Name>
     }
 }
 
-/// The prefix that the token writes.
+/// The prefix that the token writes, or `None` where it writes none.
 fn prefix_in(kind: &TokenKind) -> Option<Prefix>
     ensures { result ≡ prefix_in kind.now }
 {
@@ -336,7 +351,7 @@ fn prefix_in(kind: &TokenKind) -> Option<Prefix>
     }
 }
 
-/// The prefix that the word writes.
+/// The prefix that the word writes, or `None` where it writes none.
 fn prefix_of(word: &[u8]) -> Option<Prefix>
     ensures { result ≡ prefix_of word.now }
 {

@@ -1,4 +1,4 @@
-//! Items, and the level that a text begins with.
+//! Items, and the level that a text may begin with.
 
 ghost use Rattle.std.specs.Prelude.{◌≡◌, ◌≢◌, ◌<◌, ◌≤◌, Ok, Err, length, IfOk, IfErr, OnOk};
 ghost use Rattle.rela_flows.specs.Selects.{depth};
@@ -16,7 +16,7 @@ use rela_lex::SpecError;
 use rela_names::Level;
 use std::alloc::Global;
 
-/// The level that the text begins with, or interface.
+/// The level that the text begins with, or that of interfaces where it begins with none.
 #[tactic(auto, unfolding(crate::specs::ReadFile::read_level_line))]
 pub(crate) fn level_line(cursor: &mut Cursor) -> Result<Level, SpecError>
     ensures end { cursor.new.end ≡ cursor.old.end }
@@ -32,6 +32,7 @@ pub(crate) fn level_line(cursor: &mut Cursor) -> Result<Level, SpecError>
     Ok(level)
 }
 
+/// The level whose word has to come next.
 #[tactic(auto, unfolding(crate::specs::ReadFile::read_level_word))]
 fn level_word(cursor: &mut Cursor) -> Result<Level, SpecError>
     ensures end { cursor.new.end ≡ cursor.old.end }
@@ -69,7 +70,7 @@ pub(crate) fn item(alloc: Global, cursor: &mut Cursor, room: usize) -> Result<It
     check_item(alloc, cursor, room)
 }
 
-/// A definition of paths, behind its first word.
+/// The rest of a definition of paths, behind the word `path`.
 #[tactic(auto, unfolding(crate::specs::ReadFile::read_path_item))]
 fn path_item(alloc: Global, cursor: &mut Cursor, room: usize) -> Result<Item, SpecError>
     ensures end { cursor.new.end ≡ cursor.old.end }
@@ -86,7 +87,7 @@ fn path_item(alloc: Global, cursor: &mut Cursor, room: usize) -> Result<Item, Sp
     Ok(Item::Path { name, at, body })
 }
 
-/// A definition of a specification, behind its first word.
+/// The rest of a definition of a specification, behind the word `spec`.
 #[tactic(auto, unfolding(crate::specs::ReadFile::read_spec_item))]
 fn spec_item(alloc: Global, cursor: &mut Cursor, room: usize) -> Result<Item, SpecError>
     ensures end { cursor.new.end ≡ cursor.old.end }
@@ -103,7 +104,7 @@ fn spec_item(alloc: Global, cursor: &mut Cursor, room: usize) -> Result<Item, Sp
     Ok(Item::Spec { name, at, body })
 }
 
-/// A check, behind its first word.
+/// The rest of a check, behind the word `check`.
 #[tactic(auto, unfolding(crate::specs::ReadFile::read_check_item))]
 fn check_item(alloc: Global, cursor: &mut Cursor, room: usize) -> Result<Item, SpecError>
     requires { room ≤ 100 }
@@ -129,7 +130,8 @@ fn check_item(alloc: Global, cursor: &mut Cursor, room: usize) -> Result<Item, S
     })
 }
 
-/// The value that stands before, and the flows that a check is for.
+/// The flows that a check is for, with the value that was read before it. An error drops the value
+/// here, for the reason that [`Cursor::closed`] has.
 fn condition_behind<T: Drop>(
     alloc: Global,
     cursor: &mut Cursor,
@@ -148,7 +150,7 @@ fn condition_behind<T: Drop>(
     Ok((before, when))
 }
 
-/// The flows that a check is for: all where it doesn't say.
+/// The flows that a check is for, which stand behind `for`: all where that word doesn't come next.
 #[tactic(auto, unfolding(crate::specs::ReadFile::read_condition), using(crate::proofs::Depths::depth_all))]
 fn condition(alloc: Global, cursor: &mut Cursor, room: usize) -> Result<Predicate, SpecError>
     requires { room ≤ 100 }

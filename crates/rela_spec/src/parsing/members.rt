@@ -23,7 +23,7 @@ pub(crate) fn is_at_member(cursor: &Cursor) -> bool
         || cursor.is_at_name()
 }
 
-/// Whether a word comes next that says what locations are picked by.
+/// Whether a word comes next that says by what locations are picked.
 fn is_at_picking(cursor: &Cursor) -> bool
     ensures { result ≡ next_is is_picking cursor.now.rest.now }
 {
@@ -33,7 +33,7 @@ fn is_at_picking(cursor: &Cursor) -> bool
         || cursor.is_at_word(b"tag")
 }
 
-/// What the word that has to come next picks locations by.
+/// By what locations are picked, of which the word has to come next.
 #[tactic(auto, unfolding(crate::specs::ReadPaths::read_picked_by))]
 fn picked_by(cursor: &mut Cursor) -> Result<By, SpecError>
     ensures end { cursor.new.end ≡ cursor.old.end }
@@ -54,7 +54,8 @@ fn picked_by(cursor: &mut Cursor) -> Result<By, SpecError>
     Ok(By::Tag)
 }
 
-/// The locations within what a name picks, where `room` more brackets may be opened.
+/// The member that picks locations by a word and a name in brackets, which has to come next, where
+/// `room` more brackets may be opened.
 #[tactic(auto, unfolding(crate::specs::ReadPaths::read_picked))]
 fn picked(alloc: Global, cursor: &mut Cursor, room: usize) -> Result<Member, SpecError>
     ensures end { cursor.new.end ≡ cursor.old.end }
@@ -92,7 +93,7 @@ pub(crate) fn member(alloc: Global, cursor: &mut Cursor, room: usize) -> Result<
     Ok(Member::Here { name, at })
 }
 
-/// The members that come next.
+/// The members that come next, which may be none.
 #[tactic(auto, unfolding(crate::specs::ReadPaths::read_members))]
 fn members(alloc: Global, cursor: &mut Cursor, room: usize) -> Result<Vec<Member>, SpecError>
     ensures end { cursor.new.end ≡ cursor.old.end }
@@ -107,7 +108,7 @@ fn members(alloc: Global, cursor: &mut Cursor, room: usize) -> Result<Vec<Member
     Ok(members)
 }
 
-/// The class in brackets that has to come next.
+/// The class in brackets that has to come next, where `room` more brackets may be opened.
 #[tactic(auto, unfolding(crate::specs::ReadPaths::read_class))]
 pub(crate) fn class(alloc: Global, cursor: &mut Cursor, room: usize) -> Result<PathExpr, SpecError>
     ensures end { cursor.new.end ≡ cursor.old.end }

@@ -1,4 +1,4 @@
-//! How often a path is repeated.
+//! Numbers of repetitions.
 
 ghost use Rattle.std.specs.Prelude.{◌≡◌, ◌<◌, true, if◌then◌else◌, Some, None};
 ghost use Rattle.std.specs.Char.{is_ascii_digit, digit_value};
@@ -12,7 +12,7 @@ use rela_lex::{Token, TokenKind};
 /// The greatest number of repetitions.
 const MAX_TIMES: u32 = 64;
 
-/// Whether the word is a number.
+/// Whether the word is a number: of decimal digits alone.
 pub(crate) fn is_number(word: &[u8]) -> bool
     ensures { result ≡ is_number word.now }
 {
@@ -36,7 +36,7 @@ pub(crate) fn number_of(word: &[u8]) -> u32
     good_number(word).unwrap_or(0)
 }
 
-/// The number, where it is at most 64 and has no leading zero unless it is `0`.
+/// The number, or `None` where it is above 64, or has a leading zero and is not `0`.
 fn good_number(word: &[u8]) -> Option<u32>
     requires { is_number word.now ≡ true }
     ensures { result ≡ (if is_good_number word.now then Some (digits_value 10 word.now) else None) }
@@ -54,7 +54,7 @@ fn good_number(word: &[u8]) -> Option<u32>
     Some(value)
 }
 
-/// The value of a digit.
+/// The value of a decimal digit, and 0 for any other byte.
 fn digit(byte: u8) -> u32
     ensures low { result < 10 }
     ensures value { is_ascii_digit byte ≡ true → result ≡ digit_value byte }
@@ -65,8 +65,8 @@ fn digit(byte: u8) -> u32
     }
 }
 
-/// Where the first bad number stands. In a text of the grammar a bare word of digits is a number
-/// exactly where it stands between `{` and `}`.
+/// The offset of the first bad number, or `None` where there is none. In a text of the grammar a
+/// bare word of digits is a number exactly where it stands between `{` and `}`.
 #[tactic(auto, unfolding(crate::specs::Grammar::bad_number))]
 pub(crate) fn bad_number(tokens: &[Token]) -> Option<u32>
     ensures { result ≡ bad_number tokens.now }
@@ -81,7 +81,7 @@ pub(crate) fn bad_number(tokens: &[Token]) -> Option<u32>
     None
 }
 
-/// Where a bad number stands, if the tokens begin with one in its brackets.
+/// The offset of a bad number in braces at the front of the tokens, or `None` where there is none.
 #[tactic(auto, unfolding(crate::specs::Grammar::bad_in_front))]
 fn bad_in_front(tokens: &[Token]) -> Option<u32>
     ensures { result ≡ bad_in_front tokens.now }
@@ -96,7 +96,7 @@ fn bad_in_front(tokens: &[Token]) -> Option<u32>
     }
 }
 
-/// Whether the token is a bad number, if it is a number.
+/// Whether the token is a number, and a bad one.
 fn is_bad_number(kind: &TokenKind) -> bool
     ensures { result ≡ is_bad_number kind.now }
 {

@@ -1,4 +1,5 @@
-//! Path expressions.
+//! Path expressions. From the loosest on, `|`, `&` and standing side by side join parts, `!`
+//! negates one, and what repeats a part binds most tightly.
 
 ghost use Rattle.std.specs.Prelude.{◌≡◌, ◌≢◌, ◌<◌, ◌≤◌, Ok, Err, length, IfOk, IfErr, OnOk};
 ghost use Rattle.rela_lex.specs.declared.error.SpecError.TheVariants.{Memory};
@@ -13,11 +14,14 @@ use rela_lex::SpecError;
 use rela_names::{Boxed, List};
 use std::alloc::Global;
 
-/// How the parts of a chain are joined.
+/// How the parts of a chain are joined, from the loosest on.
 #[derive(Clone, Copy)]
 enum Joint {
+    /// By `|`.
     Alt,
+    /// By `&`.
     And,
+    /// By standing side by side.
     Seq,
 }
 
@@ -33,7 +37,8 @@ pub(crate) fn path(alloc: Global, cursor: &mut Cursor, room: usize) -> Result<Pa
     chain(alloc, cursor, Joint::Alt, room)
 }
 
-/// The value that stands before, and the path expression that has to come next.
+/// The path expression that has to come next, with the value that was read before it. An error
+/// drops the value here, for the reason that [`Cursor::closed`] has.
 pub(crate) fn path_behind<T: Drop>(
     alloc: Global,
     cursor: &mut Cursor,
@@ -50,7 +55,7 @@ pub(crate) fn path_behind<T: Drop>(
     Ok((before, path))
 }
 
-/// A part, or two or more parts that are joined.
+/// A part, or a list of two or more parts that are joined so.
 #[cycle(path)]
 fn chain(
     alloc: Global,
@@ -73,7 +78,8 @@ fn chain(
     Ok(joined(joint, List::from_vec(parts)))
 }
 
-/// A part of a chain.
+/// A part of a chain: a chain that binds more tightly, or in a sequence a part with its `!`, if it
+/// has one.
 #[tactic(auto, unfolding(crate::specs::ReadPaths::part_at, crate::specs::ReadPaths::chain_at))]
 #[cycle(path)]
 fn part(
@@ -94,7 +100,7 @@ fn part(
     }
 }
 
-/// A further part of a chain, behind what joins it.
+/// What joins a further part to a chain, and then that part.
 #[tactic(auto, unfolding(crate::specs::ReadPaths::next_at, crate::specs::ReadPaths::chain_at))]
 #[cycle(path)]
 fn next_part(
@@ -121,7 +127,7 @@ fn next_part(
     }
 }
 
-/// Adds the further parts of a chain.
+/// Appends the further parts of a chain to `parts`, as long as it goes on.
 #[tactic(auto, unfolding(crate::specs::ReadPaths::more_at))]
 #[cycle(path)]
 fn more_parts(
@@ -142,7 +148,7 @@ fn more_parts(
     Ok(())
 }
 
-/// Whether the chain goes on.
+/// Whether the chain goes on with a further part.
 fn is_joined(cursor: &Cursor, joint: Joint) -> bool
     ensures { result ≡ next_is (goes_on joint) cursor.now.rest.now }
 {
@@ -153,6 +159,7 @@ fn is_joined(cursor: &Cursor, joint: Joint) -> bool
     }
 }
 
+/// The expression of these parts, joined so.
 fn joined(joint: Joint, parts: List<PathExpr>) -> PathExpr
     ensures { result ≡ form joint parts }
 {
@@ -176,6 +183,7 @@ fn is_at_path(cursor: &Cursor) -> bool
         || is_at_member(cursor)
 }
 
+/// A part of a sequence: with a `!` before it, its complement.
 #[tactic(auto, unfolding(crate::specs::ReadPaths::negation_at))]
 #[cycle(path)]
 fn negation(alloc: Global, cursor: &mut Cursor, room: usize) -> Result<PathExpr, SpecError>
@@ -191,6 +199,7 @@ fn negation(alloc: Global, cursor: &mut Cursor, room: usize) -> Result<PathExpr,
     Ok(PathExpr::Not(Boxed::new(alloc, part)?))
 }
 
+/// A path expression that binds most tightly, with what repeats it, if anything does.
 #[tactic(auto, unfolding(crate::specs::ReadPaths::postfixed_at))]
 #[cycle(path)]
 fn postfixed(alloc: Global, cursor: &mut Cursor, room: usize) -> Result<PathExpr, SpecError>
@@ -203,6 +212,8 @@ fn postfixed(alloc: Global, cursor: &mut Cursor, room: usize) -> Result<PathExpr
     postfix(alloc, cursor, room, part)
 }
 
+/// A path expression that binds most tightly: `.`, what stands in brackets, a class, a reference or
+/// a member.
 #[tactic(auto, unfolding(crate::specs::ReadPaths::atom_at))]
 #[cycle(path)]
 fn atom(alloc: Global, cursor: &mut Cursor, room: usize) -> Result<PathExpr, SpecError>
@@ -228,7 +239,7 @@ fn atom(alloc: Global, cursor: &mut Cursor, room: usize) -> Result<PathExpr, Spe
     Ok(PathExpr::One(member(alloc, cursor, room)?))
 }
 
-/// A path expression in brackets, or the empty path.
+/// A path expression in brackets, or the empty path, which is brackets with nothing inside.
 #[tactic(auto, unfolding(crate::specs::ReadPaths::group_at), using(crate::proofs::PathReadings::inside_is))]
 #[cycle(path)]
 fn group(alloc: Global, cursor: &mut Cursor, room: usize) -> Result<PathExpr, SpecError>

@@ -1,4 +1,4 @@
-//! How often a path expression is repeated.
+//! What repeats a path expression.
 
 ghost use Rattle.std.specs.Prelude.{◌≡◌, ◌≢◌, ◌<◌, ◌≤◌, Ok, Err, length, IfOk, IfErr, OnOk};
 ghost use Rattle.rela_lex.specs.declared.error.SpecError.TheVariants.{Memory};
@@ -15,13 +15,18 @@ use std::alloc::{AllocError, Global};
 /// How often a part is repeated.
 #[derive(Clone, Copy)]
 enum Repetition {
+    /// `*`: none, one or more times.
     Star,
+    /// `+`: one or more times.
     Plus,
+    /// `?`: none or one time.
     Maybe,
+    /// `{n}`: exactly so many times.
     Times(u32),
 }
 
-/// The part with what repeats it, if that comes next.
+/// The part, repeated as what comes next says, or the part itself where nothing repeats it. `room`
+/// more brackets may be opened.
 pub(crate) fn postfix(
     alloc: Global,
     cursor: &mut Cursor,
@@ -37,7 +42,8 @@ pub(crate) fn postfix(
     Ok(repeated(alloc, part, repetition)?)
 }
 
-/// The value that stands before, and how often it is repeated, if it is.
+/// The repetition that comes next, if one does, with the value that was read before it. An error
+/// drops the value here, for the reason that [`Cursor::closed`] has.
 fn repetition_behind<T: Drop>(
     cursor: &mut Cursor,
     room: usize,
@@ -53,7 +59,7 @@ fn repetition_behind<T: Drop>(
     Ok((before, repetition))
 }
 
-/// How often what stands before is repeated, if it is.
+/// The repetition that comes next, or `None` where none does.
 #[tactic(auto, unfolding(crate::specs::ReadPaths::read_postfix))]
 fn next_repetition(cursor: &mut Cursor, room: usize) -> Result<Option<Repetition>, SpecError>
     ensures end { cursor.new.end ≡ cursor.old.end }
@@ -76,7 +82,7 @@ fn next_repetition(cursor: &mut Cursor, room: usize) -> Result<Option<Repetition
     Ok(Some(Repetition::Times(times(cursor, room)?)))
 }
 
-/// The part, repeated so.
+/// The part, repeated so, or the part itself where there is no repetition.
 fn repeated(
     alloc: Global,
     part: PathExpr,
@@ -96,7 +102,7 @@ fn repeated(
     })
 }
 
-/// The number of repetitions, in its brackets.
+/// The number of repetitions in its braces, which has to come next. A bad one counts as 0.
 #[tactic(auto, unfolding(crate::specs::ReadPaths::read_times))]
 fn times(cursor: &mut Cursor, room: usize) -> Result<u32, SpecError>
     ensures end { cursor.new.end ≡ cursor.old.end }

@@ -1,4 +1,4 @@
-//! Predicates on flows.
+//! Predicates on flows. `or` binds more loosely than `and`, and `not` more tightly than both.
 
 ghost use Rattle.std.specs.Prelude.{◌≡◌, ◌≢◌, ◌<◌, ◌≤◌, ◌+◌, ◌*◌, Ok, Err, length, map, IfOk, IfErr, OnOk};
 ghost use Rattle.rela_flows.specs.Selects.{depth, greatest};
@@ -13,10 +13,12 @@ use rela_lex::SpecError;
 use rela_names::{Boxed, List};
 use std::alloc::Global;
 
-/// How the parts of a chain are joined.
+/// How the parts of a chain are joined, from the loosest on.
 #[derive(Clone, Copy)]
 enum Joint {
+    /// By `or`.
     Or,
+    /// By `and`.
     And,
 }
 
@@ -37,7 +39,7 @@ pub(crate) fn predicate(
     chain(alloc, cursor, Joint::Or, room)
 }
 
-/// A part, or two or more parts that are joined.
+/// A part, or a list of two or more parts that are joined so.
 #[tactic(auto, using(crate::proofs::Depths::greatest_append))]
 #[cycle(predicate)]
 fn chain(
@@ -62,7 +64,8 @@ fn chain(
     Ok(joined(joint, List::from_vec(parts)))
 }
 
-/// A part of a chain.
+/// A part of a chain: a chain that binds more tightly, or in a conjunction a part with its `not`,
+/// if it has one.
 #[tactic(auto, unfolding(crate::specs::ReadPredicates::part_at, crate::specs::ReadPredicates::chain_at))]
 #[cycle(predicate)]
 fn part(
@@ -83,7 +86,7 @@ fn part(
     }
 }
 
-/// A further part of a chain, behind what joins it.
+/// What joins a further part to a chain, and then that part.
 #[tactic(auto, unfolding(crate::specs::ReadPredicates::next_at))]
 #[cycle(predicate)]
 fn next_part(
@@ -102,7 +105,7 @@ fn next_part(
     part(alloc, cursor, joint, room)
 }
 
-/// Adds the further parts of a chain.
+/// Appends the further parts of a chain to `parts`, as long as it goes on.
 #[tactic(auto, unfolding(crate::specs::ReadPredicates::more_at), using(crate::proofs::Depths::greatest_append))]
 #[cycle(predicate)]
 fn more_parts(
@@ -125,7 +128,7 @@ fn more_parts(
     Ok(())
 }
 
-/// Whether the chain goes on.
+/// Whether the chain goes on with a further part.
 fn is_joined(cursor: &Cursor, joint: Joint) -> bool
     ensures { result ≡ next_is (is_word_of (between joint)) cursor.now.rest.now }
 {
@@ -135,7 +138,7 @@ fn is_joined(cursor: &Cursor, joint: Joint) -> bool
     }
 }
 
-/// Goes past the word that joins the next part.
+/// Goes past the word that joins the next part, which has to come next.
 fn join(cursor: &mut Cursor, joint: Joint) -> Result<(), SpecError>
     ensures end { cursor.new.end ≡ cursor.old.end }
     ensures read { IfOk result (λ _. read_word cursor.old.end (between joint) cursor.old.rest.now ≡ Ok (tt, cursor.new.rest.now)) }
@@ -148,6 +151,7 @@ fn join(cursor: &mut Cursor, joint: Joint) -> Result<(), SpecError>
     }
 }
 
+/// The predicate of these parts, joined so.
 #[tactic(auto, using(crate::proofs::Depths::depth_or, crate::proofs::Depths::depth_and))]
 fn joined(joint: Joint, parts: List<Predicate>) -> Predicate
     ensures form { result ≡ form joint parts }
@@ -159,6 +163,7 @@ fn joined(joint: Joint, parts: List<Predicate>) -> Predicate
     }
 }
 
+/// A part of a conjunction: with `not` before it, its negation.
 #[tactic(auto, unfolding(crate::specs::ReadPredicates::denial_at), using(crate::proofs::Depths::depth_not))]
 #[cycle(predicate)]
 fn denial(alloc: Global, cursor: &mut Cursor, room: usize) -> Result<Predicate, SpecError>
@@ -175,6 +180,7 @@ fn denial(alloc: Global, cursor: &mut Cursor, room: usize) -> Result<Predicate, 
     Ok(Predicate::Not(Boxed::new(alloc, part)?))
 }
 
+/// A predicate that binds most tightly: one in brackets, or one test.
 #[tactic(auto, unfolding(crate::specs::ReadPredicates::single_at))]
 #[cycle(predicate)]
 fn single(alloc: Global, cursor: &mut Cursor, room: usize) -> Result<Predicate, SpecError>
@@ -190,7 +196,7 @@ fn single(alloc: Global, cursor: &mut Cursor, room: usize) -> Result<Predicate, 
     test(alloc, cursor)
 }
 
-/// A predicate in brackets.
+/// A predicate in brackets, which has to come next.
 #[tactic(auto, unfolding(crate::specs::ReadPredicates::group_at), using(crate::proofs::PredicateReadings::inside_is))]
 #[cycle(predicate)]
 fn group(alloc: Global, cursor: &mut Cursor, room: usize) -> Result<Predicate, SpecError>
@@ -205,7 +211,7 @@ fn group(alloc: Global, cursor: &mut Cursor, room: usize) -> Result<Predicate, S
     cursor.closed(inside, b')')
 }
 
-/// A predicate of one test.
+/// A predicate of one test, which has to come next.
 #[tactic(auto, unfolding(crate::specs::ReadPredicates::read_test), using(crate::proofs::Depths::depth_all, crate::proofs::Depths::depth_flow, crate::proofs::Depths::depth_class))]
 fn test(alloc: Global, cursor: &mut Cursor) -> Result<Predicate, SpecError>
     ensures end { cursor.new.end ≡ cursor.old.end }
@@ -230,7 +236,7 @@ fn test(alloc: Global, cursor: &mut Cursor) -> Result<Predicate, SpecError>
     Ok(Predicate::Class(cursor.name(alloc)?))
 }
 
-/// A test of a flow's destinations, behind its first word.
+/// The rest of a test of a flow's destinations, behind the word `dst`.
 #[tactic(auto, unfolding(crate::specs::ReadPredicates::read_destination), using(crate::proofs::Depths::depth_dst_in, crate::proofs::Depths::depth_dst_overlaps))]
 fn destination(cursor: &mut Cursor) -> Result<Predicate, SpecError>
     ensures end { cursor.new.end ≡ cursor.old.end }
@@ -246,7 +252,7 @@ fn destination(cursor: &mut Cursor) -> Result<Predicate, SpecError>
     Ok(Predicate::DstOverlaps(cursor.prefix()?))
 }
 
-/// A test of a flow's sources, behind its first word.
+/// The rest of a test of a flow's sources, behind the word `src`.
 #[tactic(auto, unfolding(crate::specs::ReadPredicates::read_source), using(crate::proofs::Depths::depth_src_in, crate::proofs::Depths::depth_src_overlaps))]
 fn source(cursor: &mut Cursor) -> Result<Predicate, SpecError>
     ensures end { cursor.new.end ≡ cursor.old.end }

@@ -1,4 +1,4 @@
-//! Specifications of changes.
+//! Specifications of changes. `else` binds more loosely than `then`.
 
 ghost use Rattle.std.specs.Prelude.{◌≡◌, ◌≢◌, ◌<◌, ◌≤◌, Ok, Err, length, IfOk, IfErr, OnOk};
 ghost use Rattle.rela_lex.specs.declared.error.SpecError.TheVariants.{Memory};
@@ -13,10 +13,12 @@ use rela_lex::SpecError;
 use rela_names::List;
 use std::alloc::Global;
 
-/// How the parts of a chain are joined.
+/// How the parts of a chain are joined, from the loosest on.
 #[derive(Clone, Copy)]
 enum Joint {
+    /// By `else`.
     Else,
+    /// By `then`.
     Then,
 }
 
@@ -32,7 +34,8 @@ pub(crate) fn body(alloc: Global, cursor: &mut Cursor, room: usize) -> Result<Sp
     chain(alloc, cursor, Joint::Else, room)
 }
 
-/// The value that stands before, and the specification of changes that has to come next.
+/// The specification of changes that has to come next, with the value that was read before it. An
+/// error drops the value here, for the reason that [`Cursor::closed`] has.
 pub(crate) fn body_behind<T: Drop>(
     alloc: Global,
     cursor: &mut Cursor,
@@ -49,7 +52,7 @@ pub(crate) fn body_behind<T: Drop>(
     Ok((before, spec))
 }
 
-/// A part, or two or more parts that are joined.
+/// A part, or a list of two or more parts that are joined so.
 #[cycle(spec)]
 fn chain(
     alloc: Global,
@@ -72,7 +75,7 @@ fn chain(
     Ok(joined(joint, List::from_vec(parts)))
 }
 
-/// A part of a chain.
+/// A part of a chain: a chain that binds more tightly, or a specification that binds most tightly.
 #[tactic(auto, unfolding(crate::specs::ReadSpecs::part_at, crate::specs::ReadSpecs::chain_at))]
 #[cycle(spec)]
 fn part(
@@ -92,7 +95,7 @@ fn part(
     }
 }
 
-/// A further part of a chain, behind what joins it.
+/// What joins a further part to a chain, and then that part.
 #[tactic(auto, unfolding(crate::specs::ReadSpecs::next_at))]
 #[cycle(spec)]
 fn next_part(
@@ -110,7 +113,7 @@ fn next_part(
     part(alloc, cursor, joint, room)
 }
 
-/// Adds the further parts of a chain.
+/// Appends the further parts of a chain to `parts`, as long as it goes on.
 #[tactic(auto, unfolding(crate::specs::ReadSpecs::more_at))]
 #[cycle(spec)]
 fn more_parts(
@@ -131,7 +134,7 @@ fn more_parts(
     Ok(())
 }
 
-/// Whether the chain goes on.
+/// Whether the chain goes on with a further part.
 fn is_joined(cursor: &Cursor, joint: Joint) -> bool
     ensures { result ≡ next_is (is_word_of (between joint)) cursor.now.rest.now }
 {
@@ -141,7 +144,7 @@ fn is_joined(cursor: &Cursor, joint: Joint) -> bool
     }
 }
 
-/// Goes past the word that joins the next part.
+/// Goes past the word that joins the next part, which has to come next.
 fn join(cursor: &mut Cursor, joint: Joint) -> Result<(), SpecError>
     ensures end { cursor.new.end ≡ cursor.old.end }
     ensures read { IfOk result (λ _. read_word cursor.old.end (between joint) cursor.old.rest.now ≡ Ok (tt, cursor.new.rest.now)) }
@@ -154,6 +157,7 @@ fn join(cursor: &mut Cursor, joint: Joint) -> Result<(), SpecError>
     }
 }
 
+/// The specification of these parts, joined so.
 fn joined(joint: Joint, parts: List<SpecExpr>) -> SpecExpr
     ensures { result ≡ form joint parts }
 {
@@ -163,6 +167,7 @@ fn joined(joint: Joint, parts: List<SpecExpr>) -> SpecExpr
     }
 }
 
+/// A specification that binds most tightly: a reference, one in brackets, or a unit.
 #[tactic(auto, unfolding(crate::specs::ReadSpecs::single_at))]
 #[cycle(spec)]
 fn single(alloc: Global, cursor: &mut Cursor, room: usize) -> Result<SpecExpr, SpecError>
@@ -182,7 +187,7 @@ fn single(alloc: Global, cursor: &mut Cursor, room: usize) -> Result<SpecExpr, S
     unit(alloc, cursor, room)
 }
 
-/// A specification of changes in brackets.
+/// A specification of changes in brackets, which has to come next.
 #[tactic(auto, unfolding(crate::specs::ReadSpecs::group_at), using(crate::proofs::SpecReadings::inside_is))]
 #[cycle(spec)]
 fn group(alloc: Global, cursor: &mut Cursor, room: usize) -> Result<SpecExpr, SpecError>
@@ -196,7 +201,7 @@ fn group(alloc: Global, cursor: &mut Cursor, room: usize) -> Result<SpecExpr, Sp
     cursor.closed(inside, b')')
 }
 
-/// A zone with its modifier.
+/// A zone with its modifier, in braces.
 #[tactic(auto, unfolding(crate::specs::ReadSpecs::read_unit))]
 fn unit(alloc: Global, cursor: &mut Cursor, room: usize) -> Result<SpecExpr, SpecError>
     ensures end { cursor.new.end ≡ cursor.old.end }
@@ -212,7 +217,8 @@ fn unit(alloc: Global, cursor: &mut Cursor, room: usize) -> Result<SpecExpr, Spe
     Ok(SpecExpr::Unit { zone, modifier })
 }
 
-/// The value that stands before, and the modifier that has to come next.
+/// The modifier that has to come next, with the value that was read before it. An error drops the
+/// value here, for the reason that [`Cursor::closed`] has.
 fn change_behind<T: Drop>(
     alloc: Global,
     cursor: &mut Cursor,
@@ -229,7 +235,7 @@ fn change_behind<T: Drop>(
     Ok((before, modifier))
 }
 
-/// What has to become of the paths of a zone.
+/// The modifier that has to come next: what has to become of the paths of a zone.
 #[tactic(auto, unfolding(crate::specs::ReadSpecs::read_change))]
 fn change(alloc: Global, cursor: &mut Cursor, room: usize) -> Result<Modifier<PathExpr>, SpecError>
     ensures end { cursor.new.end ≡ cursor.old.end }
@@ -259,7 +265,7 @@ fn change(alloc: Global, cursor: &mut Cursor, room: usize) -> Result<Modifier<Pa
     Ok(Modifier::Ignore(argument(alloc, cursor, room)?))
 }
 
-/// A path expression in brackets.
+/// A path expression in brackets, which has to come next.
 #[tactic(auto, unfolding(crate::specs::ReadSpecs::read_argument))]
 fn argument(alloc: Global, cursor: &mut Cursor, room: usize) -> Result<PathExpr, SpecError>
     ensures end { cursor.new.end ≡ cursor.old.end }
@@ -272,7 +278,7 @@ fn argument(alloc: Global, cursor: &mut Cursor, room: usize) -> Result<PathExpr,
     cursor.closed(argument, b')')
 }
 
-/// The two path expressions of `replace`, in brackets.
+/// The two path expressions of `replace`, in brackets, which have to come next.
 #[tactic(auto, unfolding(crate::specs::ReadSpecs::read_replacement))]
 fn replacement(
     alloc: Global,

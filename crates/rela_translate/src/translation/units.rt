@@ -11,7 +11,7 @@ use rela_names::{Alphabet, Symbol};
 use rela_rir::{PathTerm, RelTerm};
 use std::alloc::{AllocError, Global};
 
-// The words that the unit speaks of.
+/// The words that the unit speaks of.
 pub(super) fn zone_of_unit(
     alloc: Global,
     zone: &Expr,
@@ -28,7 +28,7 @@ pub(super) fn zone_of_unit(
     }
 }
 
-// The relation that the paths before the change are seen through.
+/// The relation that the paths before the change are seen through.
 #[tactic(auto, using(crate::proofs::Markers::unit_markers))]
 pub(super) fn before_of_unit(
     alloc: Global,
@@ -53,7 +53,7 @@ pub(super) fn before_of_unit(
     }
 }
 
-// The relation that the paths after the change are seen through.
+/// The relation that the paths after the change are seen through.
 #[tactic(auto, using(crate::proofs::Markers::unit_markers))]
 pub(super) fn after_of_unit(
     alloc: Global,
@@ -73,7 +73,7 @@ pub(super) fn after_of_unit(
     }
 }
 
-// The words of the path expression.
+/// The words of the path expression.
 #[tactic(auto, using(crate::proofs::TermForms::path_forms))]
 pub(super) fn path_of(alloc: Global, path: &Expr) -> Result<PathTerm, AllocError>
     ensures { IfOk result (λ t. t ≡ path_of path.now) }
@@ -98,7 +98,8 @@ pub(super) fn path_of(alloc: Global, path: &Expr) -> Result<PathTerm, AllocError
     }
 }
 
-// Both terms, where both could be made. So no term is held where the making of another may end.
+/// Both terms, or the first error. A caller makes both before it looks at either, so that no term
+/// is held where the making of another may fail.
 pub(super) fn both<T: Drop, U: Drop>(
     first: Result<T, AllocError>,
     second: Result<U, AllocError>,
@@ -109,7 +110,7 @@ pub(super) fn both<T: Drop, U: Drop>(
     Ok((first?, second?))
 }
 
-// The words of both.
+/// The words of either expression.
 fn either(alloc: Global, x: &Expr, y: &Expr) -> Result<PathTerm, AllocError>
     ensures { IfOk result (λ t. t ≡ PathTerm.Union (path_of x.now) (path_of y.now)) }
 {
@@ -117,14 +118,14 @@ fn either(alloc: Global, x: &Expr, y: &Expr) -> Result<PathTerm, AllocError>
     PathTerm::union(alloc, x, y)
 }
 
-// The words of the expression, and the word of the symbol.
+/// The words of the expression, and the word of the symbol alone.
 fn or_symbol(alloc: Global, x: &Expr, symbol: Symbol) -> Result<PathTerm, AllocError>
     ensures { IfOk result (λ t. t ≡ PathTerm.Union (path_of x.now) (PathTerm.One symbol)) }
 {
     PathTerm::union(alloc, path_of(alloc, x)?, PathTerm::One(symbol))
 }
 
-// The words of the first that are not in the second.
+/// The words of path symbols in the first that are not in the second.
 fn without(alloc: Global, x: PathTerm, y: PathTerm) -> Result<PathTerm, AllocError>
     ensures { IfOk result (λ t. t ≡ without x y) }
 {
@@ -132,7 +133,7 @@ fn without(alloc: Global, x: PathTerm, y: PathTerm) -> Result<PathTerm, AllocErr
     PathTerm::meet(alloc, x, others)
 }
 
-// The words of the zone that are not paths of the expression, with themselves.
+/// The identity on the words of the zone that are not in the path expression.
 fn kept_without(alloc: Global, zone: &Expr, path: &Expr) -> Result<RelTerm, AllocError>
     ensures { IfOk result (λ r. r ≡ RelTerm.Identity (without (path_of zone.now) (path_of path.now))) }
 {
@@ -140,14 +141,14 @@ fn kept_without(alloc: Global, zone: &Expr, path: &Expr) -> Result<RelTerm, Allo
     RelTerm::identity(alloc, without(alloc, zone, path)?)
 }
 
-// The words of both, with themselves.
+/// The identity on the words of either expression.
 fn kept_or(alloc: Global, x: &Expr, y: &Expr) -> Result<RelTerm, AllocError>
     ensures { IfOk result (λ r. r ≡ RelTerm.Identity (PathTerm.Union (path_of x.now) (path_of y.now))) }
 {
     RelTerm::identity(alloc, either(alloc, x, y)?)
 }
 
-// Each word of the first with each of the second.
+/// The product: each word of the first with each word of the second.
 fn with_each(alloc: Global, x: &Expr, y: &Expr) -> Result<RelTerm, AllocError>
     ensures { IfOk result (λ r. r ≡ RelTerm.Product (path_of x.now) (path_of y.now)) }
 {
@@ -155,14 +156,15 @@ fn with_each(alloc: Global, x: &Expr, y: &Expr) -> Result<RelTerm, AllocError>
     RelTerm::product(alloc, x, y)
 }
 
-// The words of the set with the word of the symbol.
+/// Each word of the set with the word of the symbol alone.
 fn marked(alloc: Global, set: PathTerm, symbol: Symbol) -> Result<RelTerm, AllocError>
     ensures { IfOk result (λ r. r ≡ RelTerm.Product set (PathTerm.One symbol)) }
 {
     RelTerm::product(alloc, set, PathTerm::One(symbol))
 }
 
-// Each word of both sets stays, and where there is one of the first, each of the second comes.
+/// Each word of the zone and each added path with itself, and each word of the zone with each added
+/// path.
 fn added(alloc: Global, zone: &Expr, path: &Expr) -> Result<RelTerm, AllocError>
     ensures { IfOk result (λ r. r ≡ RelTerm.Union
         (RelTerm.Identity (PathTerm.Union (path_of zone.now) (path_of path.now)))
@@ -172,7 +174,8 @@ fn added(alloc: Global, zone: &Expr, path: &Expr) -> Result<RelTerm, AllocError>
     RelTerm::union(alloc, kept, come)
 }
 
-// The old paths go where they are of the zone, and where there is one of them, each new path comes.
+/// Each word of the zone and each new path with itself, but for the old paths of the zone, and each
+/// of those with each new path.
 fn replaced(alloc: Global, zone: &Expr, old: &Expr, new: &Expr) -> Result<RelTerm, AllocError>
     ensures { IfOk result (λ r. r ≡ RelTerm.Union
         (RelTerm.Identity (without (PathTerm.Union (path_of zone.now) (path_of new.now)) (PathTerm.Meet (path_of old.now) (path_of zone.now))))
@@ -185,7 +188,7 @@ fn replaced(alloc: Global, zone: &Expr, old: &Expr, new: &Expr) -> Result<RelTer
     RelTerm::union(alloc, kept, come)
 }
 
-// The words of the zone and the new paths, but for the old paths of the zone, with themselves.
+/// The identity on the words of the zone and the new paths, but for the old paths of the zone.
 fn not_replaced(alloc: Global, zone: &Expr, old: &Expr, new: &Expr) -> Result<RelTerm, AllocError>
     ensures { IfOk result (λ r. r ≡ RelTerm.Identity
         (without (PathTerm.Union (path_of zone.now) (path_of new.now)) (PathTerm.Meet (path_of old.now) (path_of zone.now)))) }
@@ -194,7 +197,7 @@ fn not_replaced(alloc: Global, zone: &Expr, old: &Expr, new: &Expr) -> Result<Re
     RelTerm::identity(alloc, without(alloc, all, gone)?)
 }
 
-// Each old path of the zone with each new path.
+/// Each old path of the zone with each new path.
 fn replacing(alloc: Global, zone: &Expr, old: &Expr, new: &Expr) -> Result<RelTerm, AllocError>
     ensures { IfOk result (λ r. r ≡ RelTerm.Product
         (PathTerm.Meet (path_of old.now) (path_of zone.now)) (path_of new.now)) }
@@ -203,7 +206,7 @@ fn replacing(alloc: Global, zone: &Expr, old: &Expr, new: &Expr) -> Result<RelTe
     RelTerm::product(alloc, gone, new)
 }
 
-// The words that are in both.
+/// The words that are in both.
 fn common(alloc: Global, x: &Expr, y: &Expr) -> Result<PathTerm, AllocError>
     ensures { IfOk result (λ t. t ≡ PathTerm.Meet (path_of x.now) (path_of y.now)) }
 {
@@ -211,7 +214,7 @@ fn common(alloc: Global, x: &Expr, y: &Expr) -> Result<PathTerm, AllocError>
     PathTerm::meet(alloc, x, y)
 }
 
-// Each word of the zone, and that of the end, with the end.
+/// Each word of the zone, and the word of the end alone, with the word of the end.
 fn dropped(alloc: Global, zone: &Expr, end: Symbol) -> Result<RelTerm, AllocError>
     ensures { IfOk result (λ r. r ≡ RelTerm.Product
         (PathTerm.Union (path_of zone.now) (PathTerm.One end)) (PathTerm.One end)) }
@@ -219,7 +222,7 @@ fn dropped(alloc: Global, zone: &Expr, end: Symbol) -> Result<RelTerm, AllocErro
     marked(alloc, or_symbol(alloc, zone, end)?, end)
 }
 
-// The paths that are asked for with the marker, and the others of the zone with themselves.
+/// Each path that is asked for with the marker, and the others of the zone with themselves.
 fn any_of(alloc: Global, zone: &Expr, path: &Expr, marker: Symbol) -> Result<RelTerm, AllocError>
     ensures { IfOk result (λ r. r ≡ RelTerm.Union
         (RelTerm.Product (path_of path.now) (PathTerm.One marker))
@@ -230,7 +233,7 @@ fn any_of(alloc: Global, zone: &Expr, path: &Expr, marker: Symbol) -> Result<Rel
     RelTerm::union(alloc, asked, kept)
 }
 
-// The pairs of the relation whose first word is of path symbols and not in the set.
+/// The pairs of the relation whose first word is of path symbols and not in the set.
 pub(super) fn outside(
     alloc: Global,
     set: PathTerm,
