@@ -74,13 +74,6 @@ impl Claimed {
         self.nodes.is_full()
     }
 
-    /// The roots.
-    pub(crate) fn roots(&self) -> &[u32]
-        ensures { result.now ≡ self.now.roots }
-    {
-        self.roots.as_slice()
-    }
-
     /// For each node that was claimed the place of its root, and 0 for any other.
     pub(crate) fn places(&self) -> &[usize]
         ensures places { result.now ≡ self.now.places }

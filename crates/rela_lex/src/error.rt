@@ -34,9 +34,6 @@ pub enum SpecError {
     /// No location has the name.
     #[error("unknown location at byte {at}")]
     UnknownLocation { at: u32 },
-    /// A form that cannot be decided yet begins here.
-    #[error("not built yet at byte {at}")]
-    NotBuilt { at: u32 },
     /// Memory ran out.
     #[error("out of memory")]
     Memory,

@@ -1,7 +1,7 @@
 -- A reading behind another is exact for the phrase behind the other's.
 use Rattle.std.proofs.Common.{◌≡◌, ℕ, zero, suc, ◌+◌, ◌<◌, ◌≤◌, Bool, true, false, Option, None, Some, Result, Ok, Err, List, [], ◌∷◌, ◌++◌, refl, sym, ap, ◌∙◌, subst, arith, append_assoc}
 use Rattle.rela_lex.specs.declared.error.SpecError.{SpecError}
-use Rattle.rela_lex.specs.declared.error.SpecError.TheVariants.{BadToken, Syntax, UnknownName, RepeatedName, TooDeep, TooLarge, BadNumber, FinerLevel, UnknownLocation, NotBuilt, Memory}
+use Rattle.rela_lex.specs.declared.error.SpecError.TheVariants.{BadToken, Syntax, UnknownName, RepeatedName, TooDeep, TooLarge, BadNumber, FinerLevel, UnknownLocation, Memory}
 use Rattle.rela_lex.specs.declared.token.Token.{Token}
 use Rattle.rela_lex.specs.declared.token.TokenKind.{TokenKind}
 use Rattle.rela_spec.specs.Grammar.{SameNext, room_behind}

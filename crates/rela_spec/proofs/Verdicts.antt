@@ -4,7 +4,7 @@ use Rattle.std.specs.Prelude.{⊤, IsSome}
 use Rattle.std.specs.Option.{option_and_then}
 use Rattle.std.proofs.lemmas.Bool.{cond-true}
 use Rattle.rela_lex.specs.declared.error.SpecError.{SpecError}
-use Rattle.rela_lex.specs.declared.error.SpecError.TheVariants.{BadToken, Syntax, UnknownName, RepeatedName, TooDeep, TooLarge, BadNumber, FinerLevel, UnknownLocation, NotBuilt, Memory}
+use Rattle.rela_lex.specs.declared.error.SpecError.TheVariants.{BadToken, Syntax, UnknownName, RepeatedName, TooDeep, TooLarge, BadNumber, FinerLevel, UnknownLocation, Memory}
 use Rattle.rela_lex.specs.declared.token.Token.{Token}
 use Rattle.rela_lex.specs.declared.token.TokenKind.{TokenKind}
 use Rattle.rela_spec.specs.Grammar.{Grammar, BeginsText, Spells, IsSyntax, IsTooDeep, IsBadNumber, IsFault, IsShallow, SameNext, bad_number, closes, file, offset, one_less, opens, room_after, room_behind}
@@ -79,7 +79,6 @@ parsed_fault end tokens (TooLarge at) e = absurd (found_at end tokens (Err (TooL
 parsed_fault end tokens (BadNumber at) e = absurd (found_at end tokens (Err (BadNumber at)) e)
 parsed_fault end tokens (FinerLevel at) e = absurd (found_at end tokens (Err (FinerLevel at)) e)
 parsed_fault end tokens (UnknownLocation at) e = absurd (found_at end tokens (Err (UnknownLocation at)) e)
-parsed_fault end tokens (NotBuilt at) e = absurd (found_at end tokens (Err (NotBuilt at)) e)
 
 -- two ways to cut one list: at one place, or one of them later
 pub data Cuts (first rest second later : List Token) : Type 0 where
@@ -173,7 +172,6 @@ fault_of end tokens (TooLarge at) h = parsed_fault end tokens (TooLarge at) (h (
 fault_of end tokens (BadNumber at) h = absurd (found_at end tokens (Err (BadNumber at)) (h (λ same. absurd (let clash = same in cc))))
 fault_of end tokens (FinerLevel at) h = parsed_fault end tokens (FinerLevel at) (h (λ same. absurd (let clash = same in cc)))
 fault_of end tokens (UnknownLocation at) h = parsed_fault end tokens (UnknownLocation at) (h (λ same. absurd (let clash = same in cc)))
-fault_of end tokens (NotBuilt at) h = parsed_fault end tokens (NotBuilt at) (h (λ same. absurd (let clash = same in cc)))
 
 -- a text that is spelled has no fault
 pub fault_not_spelled : (tokens : List Token) (end : ℕ) (e : SpecError) → IsFault tokens end e → (tree : SpecFile) → Spells tokens tree → e ≡ Memory
@@ -187,7 +185,6 @@ fault_not_spelled tokens end (RepeatedName at) fault tree s = absurd fault
 fault_not_spelled tokens end (TooLarge at) fault tree s = absurd fault
 fault_not_spelled tokens end (FinerLevel at) fault tree s = absurd fault
 fault_not_spelled tokens end (UnknownLocation at) fault tree s = absurd fault
-fault_not_spelled tokens end (NotBuilt at) fault tree s = absurd fault
 
 pub fault_is_syntax : (tokens : List Token) (end : ℕ) (e : SpecError) → IsFault tokens end e → (at : ℕ) → IsSyntax tokens end at → (e ≡ Syntax at) ⊎ (e ≡ Memory)
 fault_is_syntax tokens end (Syntax at) fault b s = inl (ap Syntax (syntax_once tokens end at b fault s))
@@ -200,7 +197,6 @@ fault_is_syntax tokens end (RepeatedName at) fault b s = absurd fault
 fault_is_syntax tokens end (TooLarge at) fault b s = absurd fault
 fault_is_syntax tokens end (FinerLevel at) fault b s = absurd fault
 fault_is_syntax tokens end (UnknownLocation at) fault b s = absurd fault
-fault_is_syntax tokens end (NotBuilt at) fault b s = absurd fault
 
 pub fault_is_deep : (tokens : List Token) (end : ℕ) (e : SpecError) → IsFault tokens end e → (at : ℕ) → IsTooDeep tokens at → (e ≡ TooDeep at) ⊎ (e ≡ Memory)
 fault_is_deep tokens end (Syntax at) fault b d = absurd (syntax_not_deep tokens end at b fault d)
@@ -213,7 +209,6 @@ fault_is_deep tokens end (RepeatedName at) fault b d = absurd fault
 fault_is_deep tokens end (TooLarge at) fault b d = absurd fault
 fault_is_deep tokens end (FinerLevel at) fault b d = absurd fault
 fault_is_deep tokens end (UnknownLocation at) fault b d = absurd fault
-fault_is_deep tokens end (NotBuilt at) fault b d = absurd fault
 
 same_offset : (a b : ℕ) → Some a ≡ Some b → a ≡ b
 same_offset a b e = cc
@@ -229,7 +224,6 @@ fault_is_bad tokens end (RepeatedName at) fault b n = absurd fault
 fault_is_bad tokens end (TooLarge at) fault b n = absurd fault
 fault_is_bad tokens end (FinerLevel at) fault b n = absurd fault
 fault_is_bad tokens end (UnknownLocation at) fault b n = absurd fault
-fault_is_bad tokens end (NotBuilt at) fault b n = absurd fault
 
 -- a bad number of a text that is read so
 pub bad_of : (tokens : List Token) (tree : SpecFile) (at : ℕ) → Parsed tokens tree → bad_number tokens ≡ Some at → IsBadNumber tokens at

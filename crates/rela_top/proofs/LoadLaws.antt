@@ -113,7 +113,6 @@ spec_refused (spec.TooLarge at) refusal h = record { real = λ m. cc; is = same_
 spec_refused (spec.BadNumber at) refusal h = record { real = λ m. cc; is = same_refusal _ refusal h }
 spec_refused (spec.FinerLevel at) refusal h = record { real = λ m. cc; is = same_refusal _ refusal h }
 spec_refused (spec.UnknownLocation at) refusal h = record { real = λ m. cc; is = same_refusal _ refusal h }
-spec_refused (spec.NotBuilt at) refusal h = record { real = λ m. cc; is = same_refusal _ refusal h }
 spec_refused spec.Memory refusal h = absurd (cc)
 
 pub asked_read : (holds : Option FilesByName) (name : List ℕ) (network : Network) (bytes slice : List ℕ) (specified : Specified)

@@ -59,7 +59,6 @@ text_refused bytes (spec.TooLarge at) fault real = absurd fault
 text_refused bytes (spec.BadNumber at) fault real = absurd fault
 text_refused bytes (spec.FinerLevel at) fault real = absurd fault
 text_refused bytes (spec.UnknownLocation at) fault real = absurd fault
-text_refused bytes (spec.NotBuilt at) fault real = absurd fault
 
 -- the file of `fmt` is too long
 pub format_too_long : (holds : Option FilesByName) (name : List ℕ) (refusal : Refusal)

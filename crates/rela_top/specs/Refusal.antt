@@ -61,7 +61,6 @@ spec_text (spec.TooLarge at) = at_offset (codes "36 TooLarge") at
 spec_text (spec.BadNumber at) = at_offset (codes "37 BadNumber") at
 spec_text (spec.FinerLevel at) = at_offset (codes "38 FinerLevel") at
 spec_text (spec.UnknownLocation at) = at_offset (codes "17 UnknownLocation") at
-spec_text (spec.NotBuilt at) = at_offset (codes "40 NotBuilt") at
 spec_text spec.Memory = []
 
 -- destination, source and class

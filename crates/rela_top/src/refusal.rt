@@ -155,7 +155,6 @@ fn spec_text(alloc: Global, error: &SpecError) -> Result<String, AllocError>
         SpecError::BadNumber { at } => at_offset(alloc, "37 BadNumber", at),
         SpecError::FinerLevel { at } => at_offset(alloc, "38 FinerLevel", at),
         SpecError::UnknownLocation { at } => at_offset(alloc, "17 UnknownLocation", at),
-        SpecError::NotBuilt { at } => at_offset(alloc, "40 NotBuilt", at),
         SpecError::Memory => Ok(String::new(alloc)),
     }
 }
