@@ -3,8 +3,8 @@
 
     tools/test_outside.py PROGRAM
 
-PROGRAM is the built program itself, which ./rela keeps as out/rela-*. A run may take 10 seconds, and nothing may stand on its
-standard error. The last line is `N passed, M failed`, and the status is 1 where one failed. It needs no kit, and takes seconds.
+PROGRAM is the built program itself, which ./rela keeps as out/rela-*. A run may be silent for two minutes, and nothing may stand on
+its standard error. The last line is `N passed, M failed`, and the status is 1 where one failed. It needs no kit, and takes seconds.
 """
 import os
 import resource
