@@ -3,13 +3,13 @@
 use rela_names::Name;
 
 /// A token, and how many bytes of the text stand before it.
-#[derive(Debug, PartialEq, Eq, Drop)]
+#[derive(Drop)]
 pub struct Token {
     pub at: u32,
     pub kind: TokenKind,
 }
 
-#[derive(Debug, PartialEq, Eq, Drop)]
+#[derive(Drop)]
 pub enum TokenKind {
     /// A mark of one byte: one of `(){}[]^*+?!&|,;=`, or a `.` or `:` that stands alone.
     Mark(u8),
