@@ -1,7 +1,7 @@
 use crate::term::PathTerm;
 
 /// What may be asserted of two sets of words.
-#[derive(Debug, PartialEq, Eq, Drop)]
+#[derive(PartialEq, Eq, Drop)]
 pub enum Assertion {
     /// They have the same words.
     Equal(PathTerm, PathTerm),
