@@ -5,14 +5,14 @@ use rela_locations::By;
 use rela_names::{Boxed, Level, List, Name};
 
 /// A specification: the level of its locations, and its items in their order.
-#[derive(Debug, PartialEq, Eq, Drop)]
+#[derive(Drop)]
 pub struct SpecFile {
     pub level: Level,
     pub items: List<Item>,
 }
 
 /// A definition or a check. `at` counts the bytes of the text before the token of its name.
-#[derive(Debug, PartialEq, Eq, Drop)]
+#[derive(Drop)]
 pub enum Item {
     /// A name for a set of paths.
     Path {
@@ -37,7 +37,7 @@ pub enum Item {
 }
 
 /// A regular expression over locations. A list has two parts or more.
-#[derive(Debug, PartialEq, Eq, Drop)]
+#[derive(Drop)]
 pub enum PathExpr {
     /// Any one location, `drop` or `loop`.
     Any,
@@ -70,7 +70,7 @@ pub enum PathExpr {
 }
 
 /// What a class lists. `at` counts the bytes of the text before the token of the name.
-#[derive(Debug, PartialEq, Eq, Drop)]
+#[derive(Drop)]
 pub enum Member {
     /// The location of this name at the level of the specification.
     Here { name: Name, at: u32 },
@@ -83,7 +83,7 @@ pub enum Member {
 }
 
 /// Which changes are wanted. A list has two parts or more.
-#[derive(Debug, PartialEq, Eq, Drop)]
+#[derive(Drop)]
 pub enum SpecExpr {
     /// The change that the modifier asks for on the paths of the zone.
     Unit {
@@ -100,7 +100,7 @@ pub enum SpecExpr {
 }
 
 /// What has to become of the paths of a zone.
-#[derive(Debug, PartialEq, Eq, Drop)]
+#[derive(Drop)]
 pub enum Modifier<E> {
     Preserve,
     Add(E),
