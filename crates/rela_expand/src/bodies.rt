@@ -11,7 +11,7 @@ use rela_spec::Modifier;
 use std::alloc::{AllocError, Global};
 
 /// How two parts are joined.
-#[derive(Clone, Copy, PartialEq, Eq, Debug)]
+#[derive(Clone, Copy)]
 pub(crate) enum BodyJoint {
     Then,
     Else,
@@ -19,7 +19,7 @@ pub(crate) enum BodyJoint {
 
 /// One layer of an expanded specification. Its parts are named by their places among the bodies, and
 /// its paths by theirs among the forms.
-#[derive(Debug, PartialEq, Eq, Drop)]
+#[derive(Drop)]
 pub(crate) enum BodyLayer {
     Unit {
         zone: usize,
@@ -29,7 +29,7 @@ pub(crate) enum BodyLayer {
 }
 
 /// How large the terms of a zone and of its two relations are.
-#[derive(Clone, Copy, PartialEq, Eq, Debug)]
+#[derive(Clone, Copy)]
 pub(crate) struct BodySize {
     pub(crate) zone: Size,
     pub(crate) before: Size,

@@ -12,7 +12,7 @@ use rela_spec::Member;
 use std::alloc::{AllocError, Global};
 
 /// How two parts are joined.
-#[derive(Clone, Copy, PartialEq, Eq, Debug)]
+#[derive(Clone, Copy)]
 pub(crate) enum Joint {
     Seq,
     Alt,
@@ -35,7 +35,7 @@ pub(crate) enum Layer<'a> {
 }
 
 /// How many nodes a term has and how deep it is. What passes 64 bits is the greatest number there.
-#[derive(Clone, Copy, PartialEq, Eq, Debug)]
+#[derive(Clone, Copy)]
 pub(crate) struct Size {
     pub(crate) nodes: u64,
     pub(crate) depth: u64,

@@ -15,7 +15,7 @@ use rela_spec::Member;
 use std::alloc::{AllocError, Global};
 
 /// What a member names, wherever it stands in the text.
-#[derive(Clone, Copy, PartialEq, Eq, Hash, Debug)]
+#[derive(Clone, Copy, PartialEq, Eq, Hash)]
 pub(crate) enum Pick<'a> {
     /// The locations within what the name picks.
     Within(By, &'a Name),
@@ -27,7 +27,7 @@ pub(crate) enum Pick<'a> {
 
 /// A class as it is written: what it lists, each once and in the order of the text, or, where
 /// negated, all but that.
-#[derive(PartialEq, Eq, Hash, Debug, Drop)]
+#[derive(PartialEq, Eq, Hash, Drop)]
 pub(crate) struct Written<'a> {
     pub(crate) negated: bool,
     pub(crate) picks: Vec<Pick<'a>>,
