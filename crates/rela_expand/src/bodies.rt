@@ -11,7 +11,7 @@ use rela_spec::Modifier;
 use std::alloc::{AllocError, Global};
 
 /// How two bodies are joined.
-#[derive(Clone, Copy, PartialEq, Eq, Debug)]
+#[derive(Clone, Copy)]
 pub(crate) enum BodyJoint {
     /// By `then`: a path has a front of the first and a rest of the second.
     Then,
@@ -21,7 +21,7 @@ pub(crate) enum BodyJoint {
 
 /// One layer of an expanded specification. Its parts are named by their places among the bodies, and
 /// its paths by theirs among the forms.
-#[derive(Debug, PartialEq, Eq, Drop)]
+#[derive(Drop)]
 pub(crate) enum BodyLayer {
     /// A zone with its modifier.
     Unit {
@@ -33,7 +33,7 @@ pub(crate) enum BodyLayer {
 }
 
 /// How large the terms of a zone and of its two relations are.
-#[derive(Clone, Copy, PartialEq, Eq, Debug)]
+#[derive(Clone, Copy)]
 pub(crate) struct BodySize {
     /// The size of the zone's term.
     pub(crate) zone: Size,

@@ -6,7 +6,7 @@ ghost use Rattle.std.specs.List.Sorted.{IsStrictlyIncreasing};
 use rela_names::Symbol;
 
 /// An entry of a class table: some path symbols, or all but those.
-#[derive(Debug, PartialEq, Eq, Hash, Drop)]
+#[derive(PartialEq, Eq, Hash, Drop)]
 pub(crate) struct Entry {
     /// Whether the entry is all path symbols but the members.
     pub(crate) negated: bool,

@@ -12,7 +12,7 @@ use rela_spec::Member;
 use std::alloc::{AllocError, Global};
 
 /// How two path expressions are joined.
-#[derive(Clone, Copy, PartialEq, Eq, Debug)]
+#[derive(Clone, Copy)]
 pub(crate) enum Joint {
     /// One after the other.
     Seq,
@@ -45,7 +45,7 @@ pub(crate) enum Layer<'a> {
 }
 
 /// How large a term is. Both numbers are at most 2^64 - 1, which also stands for any greater one.
-#[derive(Clone, Copy, PartialEq, Eq, Debug)]
+#[derive(Clone, Copy)]
 pub(crate) struct Size {
     /// The number of its nodes.
     pub(crate) nodes: u64,

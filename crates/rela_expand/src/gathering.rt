@@ -32,7 +32,7 @@ pub(crate) struct Scope<'a, 'b> {
 }
 
 /// What is made of one part.
-#[derive(Clone, Copy, PartialEq, Eq, Debug)]
+#[derive(Clone, Copy)]
 pub(crate) enum Wrap {
     /// `!e`: its complement.
     Not,

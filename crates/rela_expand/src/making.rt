@@ -110,7 +110,28 @@ fn unfolded(
 {
     let mut numbers = Numbers::new(alloc);
     let body = unfold_body(alloc, locations, level, forms, bodies, place, &mut numbers)?;
-    Ok((body, listed(alloc, numbers)?))
+    listed_behind(alloc, numbers, body)
+}
+
+/// The value that stands before, and the sets of the numbered classes. It knows of no form of a body, so
+/// that no drop of one is written out here.
+///
+/// # Errors
+///
+/// Those of [`listed`].
+fn listed_behind<T: Drop>(
+    alloc: Global,
+    numbers: Numbers<'_>,
+    before: T,
+) -> Result<(T, Vec<SymbolSet>), Unfit>
+    requires { IsCounted numbers }
+    ensures same { IfOk result (λ p. p.0 ≡ before) }
+    ensures classes { IfOk result (λ p. (numbering_of numbers.entry).classes ≡ map listing_of p.1.items) }
+    ensures few { OnOk result (symbols_in (numbering_of numbers.entry).classes ≤ 4000000) }
+    ensures too_large { IfErr result (λ e. e ≡ Unfit.TooLarge → 4000000 < symbols_in (numbering_of numbers.entry).classes) }
+{
+    let classes = listed(alloc, numbers)?;
+    Ok((before, classes))
 }
 
 /// The class table that the numbering ends with.

@@ -6,7 +6,7 @@ ghost use Rattle.rela_expand.specs.declared.unfit.Unfit.{Unfit};
 use std::alloc::{AllocError, AllocFailed};
 
 /// Why a form or a body isn't unfolded.
-#[derive(Clone, Copy, Debug, PartialEq, Eq)]
+#[derive(Clone, Copy)]
 pub(crate) enum Unfit {
     /// Its classes list more than 4,000,000 symbols together.
     TooLarge,

@@ -15,7 +15,7 @@ use rela_spec::Member;
 use std::alloc::{AllocError, Global};
 
 /// What a member picks, wherever it stands in the text.
-#[derive(Clone, Copy, PartialEq, Eq, Hash, Debug)]
+#[derive(Clone, Copy, PartialEq, Eq, Hash)]
 pub(crate) enum Pick<'a> {
     /// The locations within what the name picks.
     Within(By, &'a Name),
@@ -26,7 +26,7 @@ pub(crate) enum Pick<'a> {
 }
 
 /// A class as it is written.
-#[derive(PartialEq, Eq, Hash, Debug, Drop)]
+#[derive(PartialEq, Eq, Hash, Drop)]
 pub(crate) struct Written<'a> {
     /// Whether the class is all path symbols but those that are picked.
     pub(crate) negated: bool,

@@ -3,7 +3,7 @@
 use rela_names::Name;
 
 /// A token, and how many bytes of the text stand before it.
-#[derive(Debug, PartialEq, Eq, Drop)]
+#[derive(Drop)]
 pub struct Token {
     /// The number of bytes of the text before it.
     pub at: u32,
@@ -12,7 +12,7 @@ pub struct Token {
 }
 
 /// A mark, or a name with the way it is written.
-#[derive(Debug, PartialEq, Eq, Drop)]
+#[derive(Drop)]
 pub enum TokenKind {
     /// A mark of one byte: one of `(){}[]^*+?!&|,;=`, or a `.` or `:` that stands alone.
     Mark(u8),

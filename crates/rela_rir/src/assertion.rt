@@ -3,7 +3,7 @@
 use crate::term::PathTerm;
 
 /// An assertion about two sets of words.
-#[derive(Debug, PartialEq, Eq, Drop)]
+#[derive(PartialEq, Eq, Drop)]
 pub enum Assertion {
     /// They have the same words.
     Equal(PathTerm, PathTerm),

@@ -1,6 +1,7 @@
 //! A term once more. The only error is want of memory.
 ghost use Rattle.std.specs.Prelude.{◌≡◌, IfOk};
 
+use crate::made::both;
 use crate::term::{PathTerm, RelTerm};
 use rela_names::Boxed;
 use std::alloc::{AllocError, Global};
@@ -18,17 +19,26 @@ impl PathTerm {
             PathTerm::Empty => PathTerm::Empty,
             PathTerm::Class(entry) => PathTerm::Class(*entry),
             PathTerm::One(symbol) => PathTerm::One(*symbol),
-            PathTerm::Union(a, b) => PathTerm::Union(copy_path(alloc, a)?, copy_path(alloc, b)?),
-            PathTerm::Concat(a, b) => PathTerm::Concat(copy_path(alloc, a)?, copy_path(alloc, b)?),
+            PathTerm::Union(a, b) => {
+                let (a, b) = both(copy_path(alloc, a), copy_path(alloc, b))?;
+                PathTerm::Union(a, b)
+            }
+            PathTerm::Concat(a, b) => {
+                let (a, b) = both(copy_path(alloc, a), copy_path(alloc, b))?;
+                PathTerm::Concat(a, b)
+            }
             PathTerm::Star(part) => PathTerm::Star(copy_path(alloc, part)?),
-            PathTerm::Meet(a, b) => PathTerm::Meet(copy_path(alloc, a)?, copy_path(alloc, b)?),
+            PathTerm::Meet(a, b) => {
+                let (a, b) = both(copy_path(alloc, a), copy_path(alloc, b))?;
+                PathTerm::Meet(a, b)
+            }
             PathTerm::Complement(part) => PathTerm::Complement(copy_path(alloc, part)?),
             PathTerm::Pre => PathTerm::Pre,
             PathTerm::Post => PathTerm::Post,
-            PathTerm::Image(set, relation) => PathTerm::Image(
-                copy_path(alloc, set)?,
-                copy_relation(alloc, relation)?,
-            ),
+            PathTerm::Image(set, relation) => {
+                let (set, relation) = both(copy_path(alloc, set), copy_relation(alloc, relation))?;
+                PathTerm::Image(set, relation)
+            }
         })
     }
 }
@@ -43,20 +53,23 @@ impl RelTerm {
     {
         Ok(match self {
             RelTerm::Identity(set) => RelTerm::Identity(copy_path(alloc, set)?),
-            RelTerm::Product(a, b) => RelTerm::Product(copy_path(alloc, a)?, copy_path(alloc, b)?),
-            RelTerm::Union(a, b) => RelTerm::Union(
-                copy_relation(alloc, a)?,
-                copy_relation(alloc, b)?,
-            ),
-            RelTerm::Concat(a, b) => RelTerm::Concat(
-                copy_relation(alloc, a)?,
-                copy_relation(alloc, b)?,
-            ),
+            RelTerm::Product(a, b) => {
+                let (a, b) = both(copy_path(alloc, a), copy_path(alloc, b))?;
+                RelTerm::Product(a, b)
+            }
+            RelTerm::Union(a, b) => {
+                let (a, b) = both(copy_relation(alloc, a), copy_relation(alloc, b))?;
+                RelTerm::Union(a, b)
+            }
+            RelTerm::Concat(a, b) => {
+                let (a, b) = both(copy_relation(alloc, a), copy_relation(alloc, b))?;
+                RelTerm::Concat(a, b)
+            }
             RelTerm::Star(part) => RelTerm::Star(copy_relation(alloc, part)?),
-            RelTerm::Compose(a, b) => RelTerm::Compose(
-                copy_relation(alloc, a)?,
-                copy_relation(alloc, b)?,
-            ),
+            RelTerm::Compose(a, b) => {
+                let (a, b) = both(copy_relation(alloc, a), copy_relation(alloc, b))?;
+                RelTerm::Compose(a, b)
+            }
         })
     }
 }

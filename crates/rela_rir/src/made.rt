@@ -1,5 +1,5 @@
 //! Terms made of their parts, which go into boxes. The only error is want of memory.
-ghost use Rattle.std.specs.Prelude.{◌≡◌, IfOk};
+ghost use Rattle.std.specs.Prelude.{◌≡◌, IfOk, Ok};
 
 use crate::term::{PathTerm, RelTerm};
 use rela_names::Boxed;
@@ -10,14 +10,16 @@ impl PathTerm {
     pub fn union(alloc: Global, a: PathTerm, b: PathTerm) -> Result<PathTerm, AllocError>
         ensures { IfOk result (λ term. term ≡ PathTerm.Union a b) }
     {
-        Ok(PathTerm::Union(Boxed::new(alloc, a)?, Boxed::new(alloc, b)?))
+        let (a, b) = boxes(alloc, a, b)?;
+        Ok(PathTerm::Union(a, b))
     }
 
     /// A word of the first, and then one of the second.
     pub fn concat(alloc: Global, a: PathTerm, b: PathTerm) -> Result<PathTerm, AllocError>
         ensures { IfOk result (λ term. term ≡ PathTerm.Concat a b) }
     {
-        Ok(PathTerm::Concat(Boxed::new(alloc, a)?, Boxed::new(alloc, b)?))
+        let (a, b) = boxes(alloc, a, b)?;
+        Ok(PathTerm::Concat(a, b))
     }
 
     /// Words of the part, one after another: none, one or more.
@@ -31,7 +33,8 @@ impl PathTerm {
     pub fn meet(alloc: Global, a: PathTerm, b: PathTerm) -> Result<PathTerm, AllocError>
         ensures { IfOk result (λ term. term ≡ PathTerm.Meet a b) }
     {
-        Ok(PathTerm::Meet(Boxed::new(alloc, a)?, Boxed::new(alloc, b)?))
+        let (a, b) = boxes(alloc, a, b)?;
+        Ok(PathTerm::Meet(a, b))
     }
 
     /// The words of path symbols that are not in the part.
@@ -45,7 +48,8 @@ impl PathTerm {
     pub fn image(alloc: Global, set: PathTerm, relation: RelTerm) -> Result<PathTerm, AllocError>
         ensures { IfOk result (λ term. term ≡ PathTerm.Image set relation) }
     {
-        Ok(PathTerm::Image(Boxed::new(alloc, set)?, Boxed::new(alloc, relation)?))
+        let (set, relation) = boxes(alloc, set, relation)?;
+        Ok(PathTerm::Image(set, relation))
     }
 }
 
@@ -61,21 +65,24 @@ impl RelTerm {
     pub fn product(alloc: Global, a: PathTerm, b: PathTerm) -> Result<RelTerm, AllocError>
         ensures { IfOk result (λ term. term ≡ RelTerm.Product a b) }
     {
-        Ok(RelTerm::Product(Boxed::new(alloc, a)?, Boxed::new(alloc, b)?))
+        let (a, b) = boxes(alloc, a, b)?;
+        Ok(RelTerm::Product(a, b))
     }
 
     /// The pairs that are in one of them, or in both.
     pub fn union(alloc: Global, a: RelTerm, b: RelTerm) -> Result<RelTerm, AllocError>
         ensures { IfOk result (λ term. term ≡ RelTerm.Union a b) }
     {
-        Ok(RelTerm::Union(Boxed::new(alloc, a)?, Boxed::new(alloc, b)?))
+        let (a, b) = boxes(alloc, a, b)?;
+        Ok(RelTerm::Union(a, b))
     }
 
     /// A pair of the first, and then one of the second.
     pub fn concat(alloc: Global, a: RelTerm, b: RelTerm) -> Result<RelTerm, AllocError>
         ensures { IfOk result (λ term. term ≡ RelTerm.Concat a b) }
     {
-        Ok(RelTerm::Concat(Boxed::new(alloc, a)?, Boxed::new(alloc, b)?))
+        let (a, b) = boxes(alloc, a, b)?;
+        Ok(RelTerm::Concat(a, b))
     }
 
     /// Pairs of the part, one after another: none, one or more.
@@ -89,6 +96,30 @@ impl RelTerm {
     pub fn compose(alloc: Global, a: RelTerm, b: RelTerm) -> Result<RelTerm, AllocError>
         ensures { IfOk result (λ term. term ≡ RelTerm.Compose a b) }
     {
-        Ok(RelTerm::Compose(Boxed::new(alloc, a)?, Boxed::new(alloc, b)?))
+        let (a, b) = boxes(alloc, a, b)?;
+        Ok(RelTerm::Compose(a, b))
     }
+}
+
+/// Two values in boxes. It knows of no form of a term, so that no drop of one is written out here.
+fn boxes<T: Drop, U: Drop>(
+    alloc: Global,
+    first: T,
+    second: U,
+) -> Result<(Boxed<T>, Boxed<U>), AllocError>
+    ensures first { IfOk result (λ boxes. boxes.0 ≡ first) }
+    ensures second { IfOk result (λ boxes. boxes.1 ≡ second) }
+{
+    Ok((Boxed::new(alloc, first)?, Boxed::new(alloc, second)?))
+}
+
+/// Both, where both were made. So no term is held where the making of another may end.
+pub(crate) fn both<T: Drop, U: Drop>(
+    first: Result<T, AllocError>,
+    second: Result<U, AllocError>,
+) -> Result<(T, U), AllocError>
+    ensures first { IfOk result (λ values. first ≡ Ok values.0) }
+    ensures second { IfOk result (λ values. second ≡ Ok values.1) }
+{
+    Ok((first?, second?))
 }

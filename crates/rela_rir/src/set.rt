@@ -5,7 +5,7 @@ ghost use Rattle.std.specs.List.Sorted.{IsStrictlyIncreasing};
 use rela_names::Word;
 
 /// An entry of a class table: some path symbols, or all but those.
-#[derive(Debug, PartialEq, Eq, Drop)]
+#[derive(PartialEq, Eq, Drop)]
 pub struct SymbolSet {
     /// Whether the set is all path symbols but the members.
     pub negated: bool,

@@ -1,5 +1,5 @@
 -- Readings of path expressions. A reading with a number may open so many brackets one within the other.
-use Rattle.std.specs.Prelude.{ℕ, zero, suc, ◌-◌, Bool, ◌||◌, Err, List, codes}
+use Rattle.std.specs.Prelude.{ℕ, zero, suc, ◌-◌, Bool, ◌||◌, Err, List, codes, ⊤}
 use Rattle.rela_lex.specs.declared.error.SpecError.TheVariants.{Memory}
 use Rattle.rela_lex.specs.declared.token.TokenKind.{TokenKind}
 use Rattle.rela_locations.specs.declared.members.By.{By}
@@ -134,10 +134,14 @@ part_at joint.Alt end room = conjunction_at end room
 part_at joint.And end room = sequence_at end room
 part_at joint.Seq end room = negation_at end room
 
+-- what stands between two parts
+unfoldable pub read_joint : Joint → ℕ → Reading ⊤
+read_joint joint.Alt end = read_mark end 124
+read_joint joint.And end = read_mark end 38
+read_joint joint.Seq end = read_done tt
+
 unfoldable pub next_at : Joint → ℕ → ℕ → Reading PathExpr
-next_at joint.Alt end room = read_mark end 124 >> conjunction_at end room
-next_at joint.And end room = read_mark end 38 >> sequence_at end room
-next_at joint.Seq end room = negation_at end room
+next_at j end room = read_joint j end >> part_at j end room
 
 unfoldable pub chain_at : Joint → ℕ → ℕ → Reading PathExpr
 chain_at joint.Alt end room = alternation_at end room

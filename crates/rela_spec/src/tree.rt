@@ -5,7 +5,7 @@ use rela_locations::By;
 use rela_names::{Boxed, Level, List, Name};
 
 /// A specification: the level of its locations, and its items in their order.
-#[derive(Debug, PartialEq, Eq, Drop)]
+#[derive(Drop)]
 pub struct SpecFile {
     /// How finely its locations are told apart.
     pub level: Level,
@@ -14,7 +14,7 @@ pub struct SpecFile {
 }
 
 /// A definition or a check. `at` counts the bytes of the text before the token of its name.
-#[derive(Debug, PartialEq, Eq, Drop)]
+#[derive(Drop)]
 pub enum Item {
     /// A name for a set of paths.
     Path {
@@ -39,7 +39,7 @@ pub enum Item {
 }
 
 /// A regular expression over locations. A list has two parts or more.
-#[derive(Debug, PartialEq, Eq, Drop)]
+#[derive(Drop)]
 pub enum PathExpr {
     /// Any one location, `drop` or `loop`.
     Any,
@@ -79,7 +79,7 @@ pub enum PathExpr {
 }
 
 /// What a class lists. `at` counts the bytes of the text before the token of the name.
-#[derive(Debug, PartialEq, Eq, Drop)]
+#[derive(Drop)]
 pub enum Member {
     /// The location of this name at the level of the specification.
     Here { name: Name, at: u32 },
@@ -92,7 +92,7 @@ pub enum Member {
 }
 
 /// A specification of changes. A list has two parts or more.
-#[derive(Debug, PartialEq, Eq, Drop)]
+#[derive(Drop)]
 pub enum SpecExpr {
     /// The change that the modifier asks for on the paths of the zone.
     Unit {
@@ -113,7 +113,7 @@ pub enum SpecExpr {
 
 /// What has to become of the paths of a zone. The paths that a modifier brings in belong to the
 /// zone of its unit too.
-#[derive(Debug, PartialEq, Eq, Drop)]
+#[derive(Drop)]
 pub enum Modifier<E> {
     /// They stay.
     Preserve,

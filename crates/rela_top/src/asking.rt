@@ -14,7 +14,7 @@ use rela_translate::Check;
 use std::alloc::Global;
 
 /// What a specification asks for: checks over the locations of one level.
-#[derive(Debug, Drop)]
+#[derive(Drop)]
 pub struct Asked {
     /// The level of its locations.
     pub level: Level,

@@ -15,7 +15,7 @@ use std::marker::Model;
 /// the record of its parts. Each class of its body names an entry of the class table, and its markers
 /// are numbered 1, 2 and so on from left to right; the depth of its predicate and of the terms of its
 /// two relations is at most 1,000, and those have together at most 20,000 nodes.
-#[derive(Debug, Drop)]
+#[derive(Drop)]
 pub struct Check {
     /// The name that the check's rows are reported under.
     name: Name,

@@ -4,7 +4,7 @@
 ghost use Rattle.std.specs.Prelude.{◌≡◌, ◌≢◌, ◌<◌, ◌≤◌, Ok, Err, length, IfOk, IfErr, OnOk};
 ghost use Rattle.rela_lex.specs.declared.error.SpecError.TheVariants.{Memory};
 ghost use Rattle.rela_spec.specs.Readings.{next_is};
-ghost use Rattle.rela_spec.specs.ReadPaths.{starts_path, read_path, group_at, atom_at, postfixed_at, negation_at, form, goes_on, part_at, next_at, chain_at, more_at};
+ghost use Rattle.rela_spec.specs.ReadPaths.{starts_path, read_path, group_at, atom_at, postfixed_at, negation_at, form, goes_on, part_at, read_joint, next_at, chain_at, more_at};
 
 use crate::parsing::cursor::Cursor;
 use crate::parsing::members::{class, is_at_member, member};
@@ -101,7 +101,7 @@ fn part(
 }
 
 /// What joins a further part to a chain, and then that part.
-#[tactic(auto, unfolding(crate::specs::ReadPaths::next_at, crate::specs::ReadPaths::chain_at))]
+#[tactic(auto, unfolding(crate::specs::ReadPaths::next_at))]
 #[cycle(path)]
 fn next_part(
     alloc: Global,
@@ -114,17 +114,8 @@ fn next_part(
     ensures fault { IfErr result (λ e. e ≢ Memory → next_at joint cursor.old.end room cursor.old.rest.now ≡ Err e) }
     ensures less { OnOk result (length cursor.new.rest.now < length cursor.old.rest.now) }
 {
-    match joint {
-        Joint::Alt => {
-            cursor.mark(b'|')?;
-            chain(alloc, cursor, Joint::And, room)
-        }
-        Joint::And => {
-            cursor.mark(b'&')?;
-            chain(alloc, cursor, Joint::Seq, room)
-        }
-        Joint::Seq => negation(alloc, cursor, room),
-    }
+    join(cursor, joint)?;
+    part(alloc, cursor, joint, room)
 }
 
 /// Appends the further parts of a chain to `parts`, as long as it goes on.
@@ -156,6 +147,21 @@ fn is_joined(cursor: &Cursor, joint: Joint) -> bool
         Joint::Alt => cursor.is_at_mark(b'|'),
         Joint::And => cursor.is_at_mark(b'&'),
         Joint::Seq => is_at_path(cursor),
+    }
+}
+
+/// Goes past the mark that joins the next part, if one does.
+#[tactic(auto, unfolding(crate::specs::ReadPaths::read_joint))]
+fn join(cursor: &mut Cursor, joint: Joint) -> Result<(), SpecError>
+    ensures end { cursor.new.end ≡ cursor.old.end }
+    ensures read { IfOk result (λ _. read_joint joint cursor.old.end cursor.old.rest.now ≡ Ok (tt, cursor.new.rest.now)) }
+    ensures fault { IfErr result (λ e. read_joint joint cursor.old.end cursor.old.rest.now ≡ Err e) }
+    ensures left { OnOk result (length cursor.new.rest.now ≤ length cursor.old.rest.now) }
+{
+    match joint {
+        Joint::Alt => cursor.mark(b'|'),
+        Joint::And => cursor.mark(b'&'),
+        Joint::Seq => Ok(()),
     }
 }
 

@@ -12,31 +12,31 @@ height And = 1
 height Seq = 0
 
 abbrev pub decreases-path : goal.decreases-path
-decreases-path l = 16 * l.room + 15
+decreases-path l = 20 * l.room + 16
 
 abbrev pub decreases-chain : goal.decreases-chain
-decreases-chain l = 16 * l.room + (3 * height l.joint + 7)
+decreases-chain l = 20 * l.room + (4 * height l.joint + 7)
 
 abbrev pub decreases-more_parts : goal.decreases-more_parts
-decreases-more_parts l = 16 * l.room + (3 * height l.joint + 6)
+decreases-more_parts l = 20 * l.room + (4 * height l.joint + 6)
 
 abbrev pub decreases-part : goal.decreases-part
-decreases-part l = 16 * l.room + (3 * height l.joint + 5)
+decreases-part l = 20 * l.room + (4 * height l.joint + 4)
 
 abbrev pub decreases-next_part : goal.decreases-next_part
-decreases-next_part l = 16 * l.room + (3 * height l.joint + 5)
+decreases-next_part l = 20 * l.room + (4 * height l.joint + 5)
 
 abbrev pub decreases-negation : goal.decreases-negation
-decreases-negation l = 16 * l.room + 3
+decreases-negation l = 20 * l.room + 3
 
 abbrev pub decreases-postfixed : goal.decreases-postfixed
-decreases-postfixed l = 16 * l.room + 2
+decreases-postfixed l = 20 * l.room + 2
 
 abbrev pub decreases-atom : goal.decreases-atom
-decreases-atom l = 16 * l.room + 1
+decreases-atom l = 20 * l.room + 1
 
 abbrev pub decreases-group : goal.decreases-group
-decreases-group l = 16 * l.room
+decreases-group l = 20 * l.room
 
 abbrev pub invariant-more_parts-loop-alloc : goal.invariant-more_parts-loop-alloc
 invariant-more_parts-loop-alloc l = record {
