@@ -1,0 +1,9 @@
+use Rattle.std.proofs.Common.{refl}
+use Rattle.rela_rir.specs.declared.term.RelTerm.TheVariants as R
+use Rattle.rela_build.proofs.MadePairs as pairs
+use Rattle.rela_build.proofs.builder.Builder.compose.Goals as goal
+
+pub returns-clause-made : goal.returns-clause-made
+returns-clause-made g c x y one two =
+    pairs.compose g.C.Complements.tells_all c.args.self.now.letters.now (g.P.PathSets.paths c.args.self.now.paths.now) (R.Compose x y) x y c.args.parts.first c.args.parts.second c.in_ok-composition.composition c.as_transducer.result
+    refl c.are_covered.ensures.letters one two c.as_transducer.ensures.same c.as_transducer.ensures.machine c.in_ok-composition.ensures.letters c.in_ok-composition.ensures.pairs c.in_ok-composition.ensures.relation
