@@ -1,3 +1,4 @@
+pub mod Combined
 pub mod Complement
 pub mod Lettering
 pub mod Made

@@ -7,16 +7,18 @@ ghost use Rattle.rela_build.specs.Made.{IsLetterAutomaton, IsMade, IsMadeR};
 ghost use Rattle.rela_build.specs.Named.{Names, NamesR};
 ghost use Rattle.rela_build.specs.Notes.{Explains, IsComplementOf, Noted, NotedR, NotedTwo, NotedTwoR, NotesOne, RefusesOne, Stopped, StoppedR, StoppedTwo, StoppedTwoR};
 
+use crate::combined::Two;
+
 use crate::complements::Complements;
 use crate::letters::Letters;
 use crate::path_sets::PathSets;
 use crate::stop::Stop;
-use crate::well_formed::{as_automaton, as_transducer};
+use crate::well_formed::as_automaton;
 use rela_labels::WideSet;
 use rela_names::Symbol;
 use rela_nfa::{BuildError, Nfa};
 use rela_rir::{PathTerm, RelTerm};
-use rela_trans::{Transducer, image};
+use rela_trans::Transducer;
 use std::alloc::{AllocError, Global};
 
 /// What terms are built with: letters, path sets, a way to make complements, and a limit.
@@ -30,15 +32,6 @@ pub struct Builder<'a, C: Complements, P: PathSets> {
     pub complements: &'a C,
     /// How many states a meet, an image or a composition may have.
     pub limit: usize,
-}
-
-/// The automata of two path terms, or the transducers of two relation terms.
-#[derive(Drop)]
-struct Two<T: Drop> {
-    /// The machine of the first term.
-    first: T,
-    /// The machine of the second term.
-    second: T,
 }
 
 impl<'a, C: Complements, P: PathSets> Builder<'a, C, P> {
@@ -85,24 +78,20 @@ impl<'a, C: Complements, P: PathSets> Builder<'a, C, P> {
             PathTerm::One(symbol) => Ok(symbol_automaton(alloc, *symbol, self.letters)?),
             PathTerm::Union(a, b) => {
                 let parts = self.two(alloc, a.get(), b.get(), notes)?;
-                let union = parts.first.union(alloc, &parts.second)?;
-                Ok(as_automaton(union))
+                Ok(self.union(alloc, parts)?)
             }
             PathTerm::Concat(a, b) => {
                 let parts = self.two(alloc, a.get(), b.get(), notes)?;
-                let concat = parts.first.concat(alloc, &parts.second)?;
-                Ok(as_automaton(concat))
+                Ok(self.concat(alloc, parts)?)
             }
             PathTerm::Star(part) => {
                 let words = self.automaton(alloc, part.get(), notes)?;
-                let star = words.star(alloc)?;
-                Ok(as_automaton(star))
+                Ok(self.star(alloc, words)?)
             }
             PathTerm::Meet(a, b) => {
                 let parts = self.two(alloc, a.get(), b.get(), notes)?;
                 self.letters.are_covered();
-                let meet = parts.first.meet(alloc, &parts.second, self.limit)?;
-                Ok(as_automaton(meet))
+                Ok(self.meet(alloc, parts)?)
             }
             PathTerm::Complement(part) => {
                 let words = self.automaton(alloc, part.get(), notes)?;
@@ -114,8 +103,7 @@ impl<'a, C: Complements, P: PathSets> Builder<'a, C, P> {
                 let words = self.automaton(alloc, set.get(), notes)?;
                 let pairs = self.transducer(alloc, relation.get(), notes)?;
                 self.letters.are_covered();
-                let image = image(alloc, &words, &pairs, self.limit)?;
-                Ok(as_automaton(image))
+                Ok(self.image(alloc, words, pairs)?)
             }
         }
     }
@@ -142,34 +130,28 @@ impl<'a, C: Complements, P: PathSets> Builder<'a, C, P> {
         match term {
             RelTerm::Identity(set) => {
                 let words = self.automaton(alloc, set.get(), notes)?;
-                let identity = Transducer::identity(alloc, &words)?;
-                Ok(as_transducer(identity))
+                Ok(self.identity(alloc, words)?)
             }
             RelTerm::Product(a, b) => {
                 let parts = self.two(alloc, a.get(), b.get(), notes)?;
-                let product = Transducer::product(alloc, &parts.first, &parts.second)?;
-                Ok(as_transducer(product))
+                Ok(self.product(alloc, parts)?)
             }
             RelTerm::Union(a, b) => {
                 let parts = self.two_transducers(alloc, a.get(), b.get(), notes)?;
-                let union = parts.first.union(alloc, &parts.second)?;
-                Ok(as_transducer(union))
+                Ok(self.relation_union(alloc, parts)?)
             }
             RelTerm::Concat(a, b) => {
                 let parts = self.two_transducers(alloc, a.get(), b.get(), notes)?;
-                let concat = parts.first.concat(alloc, &parts.second)?;
-                Ok(as_transducer(concat))
+                Ok(self.relation_concat(alloc, parts)?)
             }
             RelTerm::Star(part) => {
                 let pairs = self.transducer(alloc, part.get(), notes)?;
-                let star = pairs.star(alloc)?;
-                Ok(as_transducer(star))
+                Ok(self.relation_star(alloc, pairs)?)
             }
             RelTerm::Compose(a, b) => {
                 let parts = self.two_transducers(alloc, a.get(), b.get(), notes)?;
                 self.letters.are_covered();
-                let composition = parts.first.compose(alloc, &parts.second, self.limit)?;
-                Ok(as_transducer(composition))
+                Ok(self.compose(alloc, parts)?)
             }
         }
     }

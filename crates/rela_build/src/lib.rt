@@ -4,6 +4,7 @@
 #![tactic(auto)]
 
 mod builder;
+mod combined;
 mod complements;
 mod letter_sets;
 mod letters;

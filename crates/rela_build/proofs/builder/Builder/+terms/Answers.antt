@@ -1,13 +1,15 @@
 use Rattle.std.proofs.Common.{ℕ, ◌<◌, List, length, refl, sym, ap, ◌∙◌, subst, rules, arith}
 use Rattle.std.proofs.lemmas.Result.{IfOk-weaker, IfErr-weaker, on_ok_weaker}
 use Rattle.rela_rir.specs.Places.{PathSetPlaces, PartsApart, NoParts}
+use Rattle.rela_rir.specs.declared.term.PathTerm.{PathTerm}
+use Rattle.rela_rir.specs.declared.term.RelTerm.{RelTerm}
 use Rattle.rela_rir.specs.declared.term.PathTerm.TheVariants as P
 use Rattle.rela_rir.specs.declared.term.RelTerm.TheVariants as R
 use Rattle.rela_rir.specs.declared.term.PathTerm.TheViews.{the_lemmas}
 use Rattle.rela_rir.proofs.term.PathTerm.TheLaws as path_sizes
 use Rattle.rela_rir.proofs.term.RelTerm.TheLaws as relation_sizes
 use Rattle.rela_build.specs.Lettering.{IsAlone}
-use Rattle.rela_build.specs.Made.{IsBuilt}
+use Rattle.rela_build.specs.Made.{IsBuilt, IsMade, IsMadeR}
 use Rattle.rela_build.specs.Named.{Names, NamesR}
 use Rattle.rela_build.specs.Notes.{Stopped, StoppedR, StoppedTwo, StoppedTwoR}
 use Rattle.rela_build.specs.declared.stop.Stop.{Stop}
@@ -26,10 +28,9 @@ automaton-returns-in_err-parts-in-Union-clause-stopped g t c =
 
 pub automaton-returns-in_ok-union-in-Union-clause-made : goal.automaton-returns-in_ok-union-in-Union-clause-made
 automaton-returns-in_ok-union-in-Union-clause-made g t c =
-    terms.union g.C.Complements.tells_all c.args.self.now.letters.now (g.P.PathSets.paths c.args.self.now.paths.now) c.args.term.now c.get.result.now c.get-in-Union.result.now c.in_ok-parts-in-Union.parts.first c.in_ok-parts-in-Union.parts.second c.in_ok-union-in-Union.union c.as_automaton-in-Union.result
+    part_named (λ (v : PathTerm). IsMade g.C.Complements.tells_all c.args.self.now.letters.now (g.P.PathSets.paths c.args.self.now.paths.now) v c.in_ok-union-in-Union.field-0) c.args.term.now (P.Union c.get.result.now c.get-in-Union.result.now)
     (form_of_two P.Union c.args.term.now c.in-Union.a c.get.result.now c.in-Union.b c.get-in-Union.result.now c.in-Union.is c.get.ensures c.get-in-Union.ensures)
-    c.in_ok-parts-in-Union.ensures.first c.in_ok-parts-in-Union.ensures.second c.as_automaton-in-Union.ensures.same c.as_automaton-in-Union.ensures.automaton
-    c.in_ok-union-in-Union.ensures.letters c.in_ok-union-in-Union.ensures.states c.in_ok-union-in-Union.ensures.start c.in_ok-union-in-Union.ensures.first c.in_ok-union-in-Union.ensures.second c.in_ok-union-in-Union.ensures.language
+    (c.in_ok-union-in-Union.ensures c.get.result.now c.get-in-Union.result.now c.in_ok-parts-in-Union.ensures.first c.in_ok-parts-in-Union.ensures.second)
 
 pub automaton-returns-in_ok-union-in-Union-clause-noted : goal.automaton-returns-in_ok-union-in-Union-clause-noted
 automaton-returns-in_ok-union-in-Union-clause-noted g t c =
@@ -37,7 +38,7 @@ automaton-returns-in_ok-union-in-Union-clause-noted g t c =
 
 pub automaton-union-requires : goal.automaton-union-requires
 automaton-union-requires g t c =
-    record { letters = terms.made_letters g.C.Complements.tells_all c.args.self.now.letters.now (g.P.PathSets.paths c.args.self.now.paths.now) c.get.result.now c.in_ok-parts-in-Union.parts.first c.in_ok-parts-in-Union.ensures.first ∙ sym (terms.made_letters g.C.Complements.tells_all c.args.self.now.letters.now (g.P.PathSets.paths c.args.self.now.paths.now) c.get-in-Union.result.now c.in_ok-parts-in-Union.parts.second c.in_ok-parts-in-Union.ensures.second) }
+    terms.made_letters g.C.Complements.tells_all c.args.self.now.letters.now (g.P.PathSets.paths c.args.self.now.paths.now) c.get.result.now c.in_ok-parts-in-Union.parts.first c.in_ok-parts-in-Union.ensures.first ∙ sym (terms.made_letters g.C.Complements.tells_all c.args.self.now.letters.now (g.P.PathSets.paths c.args.self.now.paths.now) c.get-in-Union.result.now c.in_ok-parts-in-Union.parts.second c.in_ok-parts-in-Union.ensures.second)
 
 pub automaton-returns-in_err-union-in-Union-clause-stopped : goal.automaton-returns-in_err-union-in-Union-clause-stopped
 automaton-returns-in_err-union-in-Union-clause-stopped g t c =
@@ -50,10 +51,9 @@ automaton-returns-in_err-parts-in-Concat-clause-stopped g t c =
 
 pub automaton-returns-in_ok-concat-in-Concat-clause-made : goal.automaton-returns-in_ok-concat-in-Concat-clause-made
 automaton-returns-in_ok-concat-in-Concat-clause-made g t c =
-    terms.concat g.C.Complements.tells_all c.args.self.now.letters.now (g.P.PathSets.paths c.args.self.now.paths.now) c.args.term.now c.get-in-Concat.result.now c.get-in-Concat-2.result.now c.in_ok-parts-in-Concat.parts.first c.in_ok-parts-in-Concat.parts.second c.in_ok-concat-in-Concat.concat c.as_automaton-in-Concat.result
+    part_named (λ (v : PathTerm). IsMade g.C.Complements.tells_all c.args.self.now.letters.now (g.P.PathSets.paths c.args.self.now.paths.now) v c.in_ok-concat-in-Concat.field-0) c.args.term.now (P.Concat c.get-in-Concat.result.now c.get-in-Concat-2.result.now)
     (form_of_two P.Concat c.args.term.now c.in-Concat.a c.get-in-Concat.result.now c.in-Concat.b c.get-in-Concat-2.result.now c.in-Concat.is c.get-in-Concat.ensures c.get-in-Concat-2.ensures)
-    c.in_ok-parts-in-Concat.ensures.first c.in_ok-parts-in-Concat.ensures.second c.as_automaton-in-Concat.ensures.same c.as_automaton-in-Concat.ensures.automaton
-    c.in_ok-concat-in-Concat.ensures.letters c.in_ok-concat-in-Concat.ensures.states c.in_ok-concat-in-Concat.ensures.first c.in_ok-concat-in-Concat.ensures.second c.in_ok-concat-in-Concat.ensures.language
+    (c.in_ok-concat-in-Concat.ensures c.get-in-Concat.result.now c.get-in-Concat-2.result.now c.in_ok-parts-in-Concat.ensures.first c.in_ok-parts-in-Concat.ensures.second)
 
 pub automaton-returns-in_ok-concat-in-Concat-clause-noted : goal.automaton-returns-in_ok-concat-in-Concat-clause-noted
 automaton-returns-in_ok-concat-in-Concat-clause-noted g t c =
@@ -61,7 +61,7 @@ automaton-returns-in_ok-concat-in-Concat-clause-noted g t c =
 
 pub automaton-concat-requires : goal.automaton-concat-requires
 automaton-concat-requires g t c =
-    record { letters = terms.made_letters g.C.Complements.tells_all c.args.self.now.letters.now (g.P.PathSets.paths c.args.self.now.paths.now) c.get-in-Concat.result.now c.in_ok-parts-in-Concat.parts.first c.in_ok-parts-in-Concat.ensures.first ∙ sym (terms.made_letters g.C.Complements.tells_all c.args.self.now.letters.now (g.P.PathSets.paths c.args.self.now.paths.now) c.get-in-Concat-2.result.now c.in_ok-parts-in-Concat.parts.second c.in_ok-parts-in-Concat.ensures.second) }
+    terms.made_letters g.C.Complements.tells_all c.args.self.now.letters.now (g.P.PathSets.paths c.args.self.now.paths.now) c.get-in-Concat.result.now c.in_ok-parts-in-Concat.parts.first c.in_ok-parts-in-Concat.ensures.first ∙ sym (terms.made_letters g.C.Complements.tells_all c.args.self.now.letters.now (g.P.PathSets.paths c.args.self.now.paths.now) c.get-in-Concat-2.result.now c.in_ok-parts-in-Concat.parts.second c.in_ok-parts-in-Concat.ensures.second)
 
 pub automaton-returns-in_err-concat-in-Concat-clause-stopped : goal.automaton-returns-in_err-concat-in-Concat-clause-stopped
 automaton-returns-in_err-concat-in-Concat-clause-stopped g t c =
@@ -74,10 +74,9 @@ automaton-returns-in_err-parts-in-Meet-clause-stopped g t c =
 
 pub automaton-returns-in_ok-meet-in-Meet-clause-made : goal.automaton-returns-in_ok-meet-in-Meet-clause-made
 automaton-returns-in_ok-meet-in-Meet-clause-made g t c =
-    terms.meet g.C.Complements.tells_all c.args.self.now.letters.now (g.P.PathSets.paths c.args.self.now.paths.now) c.args.term.now c.get-in-Meet.result.now c.get-in-Meet-2.result.now c.in_ok-parts-in-Meet.parts.first c.in_ok-parts-in-Meet.parts.second c.in_ok-meet-in-Meet.meet c.as_automaton-in-Meet.result
+    part_named (λ (v : PathTerm). IsMade g.C.Complements.tells_all c.args.self.now.letters.now (g.P.PathSets.paths c.args.self.now.paths.now) v c.in_ok-meet-in-Meet.field-0) c.args.term.now (P.Meet c.get-in-Meet.result.now c.get-in-Meet-2.result.now)
     (form_of_two P.Meet c.args.term.now c.in-Meet.a c.get-in-Meet.result.now c.in-Meet.b c.get-in-Meet-2.result.now c.in-Meet.is c.get-in-Meet.ensures c.get-in-Meet-2.ensures)
-    c.in_ok-parts-in-Meet.ensures.first c.in_ok-parts-in-Meet.ensures.second c.as_automaton-in-Meet.ensures.same c.as_automaton-in-Meet.ensures.automaton
-    c.in_ok-meet-in-Meet.ensures.letters c.in_ok-meet-in-Meet.ensures.pairs c.in_ok-meet-in-Meet.ensures.language
+    (c.in_ok-meet-in-Meet.ensures.made c.get-in-Meet.result.now c.get-in-Meet-2.result.now c.in_ok-parts-in-Meet.ensures.first c.in_ok-parts-in-Meet.ensures.second)
 
 pub automaton-returns-in_ok-meet-in-Meet-clause-noted : goal.automaton-returns-in_ok-meet-in-Meet-clause-noted
 automaton-returns-in_ok-meet-in-Meet-clause-noted g t c =
@@ -100,10 +99,9 @@ automaton-returns-in_err-words-in-Star-clause-stopped g t c =
 
 pub automaton-returns-in_ok-star-in-Star-clause-made : goal.automaton-returns-in_ok-star-in-Star-clause-made
 automaton-returns-in_ok-star-in-Star-clause-made g t c =
-    terms.star g.C.Complements.tells_all c.args.self.now.letters.now (g.P.PathSets.paths c.args.self.now.paths.now) c.args.term.now c.get-in-Star.result.now c.in_ok-words-in-Star.words c.in_ok-star-in-Star.star c.as_automaton-in-Star.result
+    part_named (λ (v : PathTerm). IsMade g.C.Complements.tells_all c.args.self.now.letters.now (g.P.PathSets.paths c.args.self.now.paths.now) v c.in_ok-star-in-Star.field-0) c.args.term.now (P.Star c.get-in-Star.result.now)
     (form_of_one P.Star c.args.term.now c.in-Star.part c.get-in-Star.result.now c.in-Star.is c.get-in-Star.ensures)
-    c.in_ok-words-in-Star.ensures.made c.as_automaton-in-Star.ensures.same c.as_automaton-in-Star.ensures.automaton
-    c.in_ok-star-in-Star.ensures.letters c.in_ok-star-in-Star.ensures.states c.in_ok-star-in-Star.ensures.start c.in_ok-star-in-Star.ensures.copies c.in_ok-star-in-Star.ensures.language
+    (c.in_ok-star-in-Star.ensures c.get-in-Star.result.now c.in_ok-words-in-Star.ensures.made)
 
 pub automaton-returns-in_ok-star-in-Star-clause-noted : goal.automaton-returns-in_ok-star-in-Star-clause-noted
 automaton-returns-in_ok-star-in-Star-clause-noted g t c =
@@ -149,10 +147,9 @@ automaton-returns-in_err-pairs-in-Image-clause-stopped g t c =
 
 pub automaton-returns-in_ok-image-in-Image-clause-made : goal.automaton-returns-in_ok-image-in-Image-clause-made
 automaton-returns-in_ok-image-in-Image-clause-made g t c =
-    terms.image g.C.Complements.tells_all c.args.self.now.letters.now (g.P.PathSets.paths c.args.self.now.paths.now) c.args.term.now c.get-in-Image.result.now c.get-in-Image-2.result.now c.in_ok-words-in-Image.words c.in_ok-pairs-in-Image.pairs c.in_ok-image-in-Image.image c.as_automaton-in-Image.result
+    part_named (λ (v : PathTerm). IsMade g.C.Complements.tells_all c.args.self.now.letters.now (g.P.PathSets.paths c.args.self.now.paths.now) v c.in_ok-image-in-Image.field-0) c.args.term.now (P.Image c.get-in-Image.result.now c.get-in-Image-2.result.now)
     (form_of_two P.Image c.args.term.now c.in-Image.set c.get-in-Image.result.now c.in-Image.relation c.get-in-Image-2.result.now c.in-Image.is c.get-in-Image.ensures c.get-in-Image-2.ensures)
-    c.are_covered-in-Image.ensures.letters c.in_ok-words-in-Image.ensures.made c.in_ok-pairs-in-Image.ensures.made c.as_automaton-in-Image.ensures.same c.as_automaton-in-Image.ensures.automaton
-    c.in_ok-image-in-Image.ensures.letters c.in_ok-image-in-Image.ensures.pairs c.in_ok-image-in-Image.ensures.language
+    (c.in_ok-image-in-Image.ensures.made c.get-in-Image.result.now c.get-in-Image-2.result.now c.in_ok-words-in-Image.ensures.made c.in_ok-pairs-in-Image.ensures.made)
 
 pub automaton-returns-in_ok-image-in-Image-clause-noted : goal.automaton-returns-in_ok-image-in-Image-clause-noted
 automaton-returns-in_ok-image-in-Image-clause-noted g t c =
@@ -175,10 +172,9 @@ transducer-returns-in_err-words-in-Identity-clause-stopped g t c =
 
 pub transducer-returns-in_ok-identity-in-Identity-clause-made : goal.transducer-returns-in_ok-identity-in-Identity-clause-made
 transducer-returns-in_ok-identity-in-Identity-clause-made g t c =
-    pairs.identity g.C.Complements.tells_all c.args.self.now.letters.now (g.P.PathSets.paths c.args.self.now.paths.now) c.args.term.now c.get.result.now c.in_ok-words-in-Identity.words c.in_ok-identity-in-Identity.identity c.as_transducer.result
+    part_named (λ (v : RelTerm). IsMadeR g.C.Complements.tells_all c.args.self.now.letters.now (g.P.PathSets.paths c.args.self.now.paths.now) v c.in_ok-identity-in-Identity.field-0) c.args.term.now (R.Identity c.get.result.now)
     (form_of_one R.Identity c.args.term.now c.in-Identity.set c.get.result.now c.in-Identity.is c.get.ensures)
-    c.in_ok-words-in-Identity.ensures.made c.as_transducer.ensures.same c.as_transducer.ensures.machine
-    c.in_ok-identity-in-Identity.ensures.letters c.in_ok-identity-in-Identity.ensures.states c.in_ok-identity-in-Identity.ensures.reached c.in_ok-identity-in-Identity.ensures.relation
+    (c.in_ok-identity-in-Identity.ensures c.get.result.now c.in_ok-words-in-Identity.ensures.made)
 
 pub transducer-returns-in_ok-identity-in-Identity-clause-noted : goal.transducer-returns-in_ok-identity-in-Identity-clause-noted
 transducer-returns-in_ok-identity-in-Identity-clause-noted g t c =
@@ -195,10 +191,9 @@ transducer-returns-in_err-parts-in-Product-clause-stopped g t c =
 
 pub transducer-returns-in_ok-product-in-Product-clause-made : goal.transducer-returns-in_ok-product-in-Product-clause-made
 transducer-returns-in_ok-product-in-Product-clause-made g t c =
-    pairs.product g.C.Complements.tells_all c.args.self.now.letters.now (g.P.PathSets.paths c.args.self.now.paths.now) c.args.term.now c.get-in-Product.result.now c.get-in-Product-2.result.now c.in_ok-parts-in-Product.parts.first c.in_ok-parts-in-Product.parts.second c.in_ok-product-in-Product.product c.as_transducer-in-Product.result
+    part_named (λ (v : RelTerm). IsMadeR g.C.Complements.tells_all c.args.self.now.letters.now (g.P.PathSets.paths c.args.self.now.paths.now) v c.in_ok-product-in-Product.field-0) c.args.term.now (R.Product c.get-in-Product.result.now c.get-in-Product-2.result.now)
     (form_of_two R.Product c.args.term.now c.in-Product.a c.get-in-Product.result.now c.in-Product.b c.get-in-Product-2.result.now c.in-Product.is c.get-in-Product.ensures c.get-in-Product-2.ensures)
-    c.in_ok-parts-in-Product.ensures.first c.in_ok-parts-in-Product.ensures.second c.as_transducer-in-Product.ensures.same c.as_transducer-in-Product.ensures.machine
-    c.in_ok-product-in-Product.ensures.letters c.in_ok-product-in-Product.ensures.states c.in_ok-product-in-Product.ensures.first c.in_ok-product-in-Product.ensures.second c.in_ok-product-in-Product.ensures.relation
+    (c.in_ok-product-in-Product.ensures c.get-in-Product.result.now c.get-in-Product-2.result.now c.in_ok-parts-in-Product.ensures.first c.in_ok-parts-in-Product.ensures.second)
 
 pub transducer-returns-in_ok-product-in-Product-clause-noted : goal.transducer-returns-in_ok-product-in-Product-clause-noted
 transducer-returns-in_ok-product-in-Product-clause-noted g t c =
@@ -206,7 +201,7 @@ transducer-returns-in_ok-product-in-Product-clause-noted g t c =
 
 pub transducer-product-requires : goal.transducer-product-requires
 transducer-product-requires g t c =
-    record { letters = terms.made_letters g.C.Complements.tells_all c.args.self.now.letters.now (g.P.PathSets.paths c.args.self.now.paths.now) c.get-in-Product.result.now c.in_ok-parts-in-Product.parts.first c.in_ok-parts-in-Product.ensures.first ∙ sym (terms.made_letters g.C.Complements.tells_all c.args.self.now.letters.now (g.P.PathSets.paths c.args.self.now.paths.now) c.get-in-Product-2.result.now c.in_ok-parts-in-Product.parts.second c.in_ok-parts-in-Product.ensures.second) }
+    terms.made_letters g.C.Complements.tells_all c.args.self.now.letters.now (g.P.PathSets.paths c.args.self.now.paths.now) c.get-in-Product.result.now c.in_ok-parts-in-Product.parts.first c.in_ok-parts-in-Product.ensures.first ∙ sym (terms.made_letters g.C.Complements.tells_all c.args.self.now.letters.now (g.P.PathSets.paths c.args.self.now.paths.now) c.get-in-Product-2.result.now c.in_ok-parts-in-Product.parts.second c.in_ok-parts-in-Product.ensures.second)
 
 pub transducer-returns-in_err-product-in-Product-clause-stopped : goal.transducer-returns-in_err-product-in-Product-clause-stopped
 transducer-returns-in_err-product-in-Product-clause-stopped g t c =
@@ -217,94 +212,90 @@ transducer-returns-in_err-parts-in-Union-clause-stopped g t c =
     exit _ _ c.from_residual-in_err-parts-in-Union.result c.from_residual-in_err-parts-in-Union.ensures.1
     (λ e is. subst (λ (s : Stop). StoppedR (g.C.Complements.refuses c.args.self.now.complements.now) g.C.Complements.tells_all c.args.self.now.letters.now (g.P.PathSets.paths c.args.self.now.paths.now) c.args.self.now.limit (length c.args.notes.now.items) c.args.term.now s) (sym is) (stop_union_r (g.C.Complements.refuses c.args.self.now.complements.now) g.C.Complements.tells_all c.args.self.now.letters.now (g.P.PathSets.paths c.args.self.now.paths.now) c.args.self.now.limit (length c.args.notes.now.items) c.args.term.now c.get-in-Union.result.now c.get-in-Union-2.result.now _ (form_of_two R.Union c.args.term.now c.in-Union.a c.get-in-Union.result.now c.in-Union.b c.get-in-Union-2.result.now c.in-Union.is c.get-in-Union.ensures c.get-in-Union-2.ensures) c.in_err-parts-in-Union.ensures.stopped))
 
-pub transducer-returns-in_ok-union-in-Union-clause-made : goal.transducer-returns-in_ok-union-in-Union-clause-made
-transducer-returns-in_ok-union-in-Union-clause-made g t c =
-    pairs.union g.C.Complements.tells_all c.args.self.now.letters.now (g.P.PathSets.paths c.args.self.now.paths.now) c.args.term.now c.get-in-Union.result.now c.get-in-Union-2.result.now c.in_ok-parts-in-Union.parts.first c.in_ok-parts-in-Union.parts.second c.in_ok-union-in-Union.union c.as_transducer-in-Union.result
+pub transducer-returns-in_ok-relation_union-in-Union-clause-made : goal.transducer-returns-in_ok-relation_union-in-Union-clause-made
+transducer-returns-in_ok-relation_union-in-Union-clause-made g t c =
+    part_named (λ (v : RelTerm). IsMadeR g.C.Complements.tells_all c.args.self.now.letters.now (g.P.PathSets.paths c.args.self.now.paths.now) v c.in_ok-relation_union-in-Union.field-0) c.args.term.now (R.Union c.get-in-Union.result.now c.get-in-Union-2.result.now)
     (form_of_two R.Union c.args.term.now c.in-Union.a c.get-in-Union.result.now c.in-Union.b c.get-in-Union-2.result.now c.in-Union.is c.get-in-Union.ensures c.get-in-Union-2.ensures)
-    c.in_ok-parts-in-Union.ensures.first c.in_ok-parts-in-Union.ensures.second c.as_transducer-in-Union.ensures.same c.as_transducer-in-Union.ensures.machine
-    c.in_ok-union-in-Union.ensures.letters c.in_ok-union-in-Union.ensures.states c.in_ok-union-in-Union.ensures.start c.in_ok-union-in-Union.ensures.first c.in_ok-union-in-Union.ensures.second c.in_ok-union-in-Union.ensures.relation
+    (c.in_ok-relation_union-in-Union.ensures c.get-in-Union.result.now c.get-in-Union-2.result.now c.in_ok-parts-in-Union.ensures.first c.in_ok-parts-in-Union.ensures.second)
 
-pub transducer-returns-in_ok-union-in-Union-clause-noted : goal.transducer-returns-in_ok-union-in-Union-clause-noted
-transducer-returns-in_ok-union-in-Union-clause-noted g t c =
+pub transducer-returns-in_ok-relation_union-in-Union-clause-noted : goal.transducer-returns-in_ok-relation_union-in-Union-clause-noted
+transducer-returns-in_ok-relation_union-in-Union-clause-noted g t c =
     note_union_r (g.C.Complements.answers c.args.self.now.complements.now) g.C.Complements.tells_all c.args.self.now.letters.now (g.P.PathSets.paths c.args.self.now.paths.now) c.args.notes.now.items _ c.args.term.now c.get-in-Union.result.now c.get-in-Union-2.result.now (form_of_two R.Union c.args.term.now c.in-Union.a c.get-in-Union.result.now c.in-Union.b c.get-in-Union-2.result.now c.in-Union.is c.get-in-Union.ensures c.get-in-Union-2.ensures) c.in_ok-parts-in-Union.ensures.noted
 
-pub transducer-union-requires : goal.transducer-union-requires
-transducer-union-requires g t c =
-    record { letters = pairs.made_letters g.C.Complements.tells_all c.args.self.now.letters.now (g.P.PathSets.paths c.args.self.now.paths.now) c.get-in-Union.result.now c.in_ok-parts-in-Union.parts.first c.in_ok-parts-in-Union.ensures.first ∙ sym (pairs.made_letters g.C.Complements.tells_all c.args.self.now.letters.now (g.P.PathSets.paths c.args.self.now.paths.now) c.get-in-Union-2.result.now c.in_ok-parts-in-Union.parts.second c.in_ok-parts-in-Union.ensures.second) }
+pub transducer-relation_union-requires : goal.transducer-relation_union-requires
+transducer-relation_union-requires g t c =
+    pairs.made_letters g.C.Complements.tells_all c.args.self.now.letters.now (g.P.PathSets.paths c.args.self.now.paths.now) c.get-in-Union.result.now c.in_ok-parts-in-Union.parts.first c.in_ok-parts-in-Union.ensures.first ∙ sym (pairs.made_letters g.C.Complements.tells_all c.args.self.now.letters.now (g.P.PathSets.paths c.args.self.now.paths.now) c.get-in-Union-2.result.now c.in_ok-parts-in-Union.parts.second c.in_ok-parts-in-Union.ensures.second)
 
-pub transducer-returns-in_err-union-in-Union-clause-stopped : goal.transducer-returns-in_err-union-in-Union-clause-stopped
-transducer-returns-in_err-union-in-Union-clause-stopped g t c =
-    exit _ _ c.from_residual-in_err-union-in-Union.result c.from_residual-in_err-union-in-Union.ensures.1 (λ e is. stop_memory_r (g.C.Complements.refuses c.args.self.now.complements.now) g.C.Complements.tells_all c.args.self.now.letters.now (g.P.PathSets.paths c.args.self.now.paths.now) c.args.self.now.limit (length c.args.notes.now.items) c.args.term.now e is)
+pub transducer-returns-in_err-relation_union-in-Union-clause-stopped : goal.transducer-returns-in_err-relation_union-in-Union-clause-stopped
+transducer-returns-in_err-relation_union-in-Union-clause-stopped g t c =
+    exit _ _ c.from_residual-in_err-relation_union-in-Union.result c.from_residual-in_err-relation_union-in-Union.ensures.1 (λ e is. stop_memory_r (g.C.Complements.refuses c.args.self.now.complements.now) g.C.Complements.tells_all c.args.self.now.letters.now (g.P.PathSets.paths c.args.self.now.paths.now) c.args.self.now.limit (length c.args.notes.now.items) c.args.term.now e is)
 
 pub transducer-returns-in_err-parts-in-Concat-clause-stopped : goal.transducer-returns-in_err-parts-in-Concat-clause-stopped
 transducer-returns-in_err-parts-in-Concat-clause-stopped g t c =
     exit _ _ c.from_residual-in_err-parts-in-Concat.result c.from_residual-in_err-parts-in-Concat.ensures.1
     (λ e is. subst (λ (s : Stop). StoppedR (g.C.Complements.refuses c.args.self.now.complements.now) g.C.Complements.tells_all c.args.self.now.letters.now (g.P.PathSets.paths c.args.self.now.paths.now) c.args.self.now.limit (length c.args.notes.now.items) c.args.term.now s) (sym is) (stop_concat_r (g.C.Complements.refuses c.args.self.now.complements.now) g.C.Complements.tells_all c.args.self.now.letters.now (g.P.PathSets.paths c.args.self.now.paths.now) c.args.self.now.limit (length c.args.notes.now.items) c.args.term.now c.get-in-Concat.result.now c.get-in-Concat-2.result.now _ (form_of_two R.Concat c.args.term.now c.in-Concat.a c.get-in-Concat.result.now c.in-Concat.b c.get-in-Concat-2.result.now c.in-Concat.is c.get-in-Concat.ensures c.get-in-Concat-2.ensures) c.in_err-parts-in-Concat.ensures.stopped))
 
-pub transducer-returns-in_ok-concat-in-Concat-clause-made : goal.transducer-returns-in_ok-concat-in-Concat-clause-made
-transducer-returns-in_ok-concat-in-Concat-clause-made g t c =
-    pairs.concat g.C.Complements.tells_all c.args.self.now.letters.now (g.P.PathSets.paths c.args.self.now.paths.now) c.args.term.now c.get-in-Concat.result.now c.get-in-Concat-2.result.now c.in_ok-parts-in-Concat.parts.first c.in_ok-parts-in-Concat.parts.second c.in_ok-concat-in-Concat.concat c.as_transducer-in-Concat.result
+pub transducer-returns-in_ok-relation_concat-in-Concat-clause-made : goal.transducer-returns-in_ok-relation_concat-in-Concat-clause-made
+transducer-returns-in_ok-relation_concat-in-Concat-clause-made g t c =
+    part_named (λ (v : RelTerm). IsMadeR g.C.Complements.tells_all c.args.self.now.letters.now (g.P.PathSets.paths c.args.self.now.paths.now) v c.in_ok-relation_concat-in-Concat.field-0) c.args.term.now (R.Concat c.get-in-Concat.result.now c.get-in-Concat-2.result.now)
     (form_of_two R.Concat c.args.term.now c.in-Concat.a c.get-in-Concat.result.now c.in-Concat.b c.get-in-Concat-2.result.now c.in-Concat.is c.get-in-Concat.ensures c.get-in-Concat-2.ensures)
-    c.in_ok-parts-in-Concat.ensures.first c.in_ok-parts-in-Concat.ensures.second c.as_transducer-in-Concat.ensures.same c.as_transducer-in-Concat.ensures.machine
-    c.in_ok-concat-in-Concat.ensures.letters c.in_ok-concat-in-Concat.ensures.states c.in_ok-concat-in-Concat.ensures.first c.in_ok-concat-in-Concat.ensures.second c.in_ok-concat-in-Concat.ensures.relation
+    (c.in_ok-relation_concat-in-Concat.ensures c.get-in-Concat.result.now c.get-in-Concat-2.result.now c.in_ok-parts-in-Concat.ensures.first c.in_ok-parts-in-Concat.ensures.second)
 
-pub transducer-returns-in_ok-concat-in-Concat-clause-noted : goal.transducer-returns-in_ok-concat-in-Concat-clause-noted
-transducer-returns-in_ok-concat-in-Concat-clause-noted g t c =
+pub transducer-returns-in_ok-relation_concat-in-Concat-clause-noted : goal.transducer-returns-in_ok-relation_concat-in-Concat-clause-noted
+transducer-returns-in_ok-relation_concat-in-Concat-clause-noted g t c =
     note_concat_r (g.C.Complements.answers c.args.self.now.complements.now) g.C.Complements.tells_all c.args.self.now.letters.now (g.P.PathSets.paths c.args.self.now.paths.now) c.args.notes.now.items _ c.args.term.now c.get-in-Concat.result.now c.get-in-Concat-2.result.now (form_of_two R.Concat c.args.term.now c.in-Concat.a c.get-in-Concat.result.now c.in-Concat.b c.get-in-Concat-2.result.now c.in-Concat.is c.get-in-Concat.ensures c.get-in-Concat-2.ensures) c.in_ok-parts-in-Concat.ensures.noted
 
-pub transducer-concat-requires : goal.transducer-concat-requires
-transducer-concat-requires g t c =
-    record { letters = pairs.made_letters g.C.Complements.tells_all c.args.self.now.letters.now (g.P.PathSets.paths c.args.self.now.paths.now) c.get-in-Concat.result.now c.in_ok-parts-in-Concat.parts.first c.in_ok-parts-in-Concat.ensures.first ∙ sym (pairs.made_letters g.C.Complements.tells_all c.args.self.now.letters.now (g.P.PathSets.paths c.args.self.now.paths.now) c.get-in-Concat-2.result.now c.in_ok-parts-in-Concat.parts.second c.in_ok-parts-in-Concat.ensures.second) }
+pub transducer-relation_concat-requires : goal.transducer-relation_concat-requires
+transducer-relation_concat-requires g t c =
+    pairs.made_letters g.C.Complements.tells_all c.args.self.now.letters.now (g.P.PathSets.paths c.args.self.now.paths.now) c.get-in-Concat.result.now c.in_ok-parts-in-Concat.parts.first c.in_ok-parts-in-Concat.ensures.first ∙ sym (pairs.made_letters g.C.Complements.tells_all c.args.self.now.letters.now (g.P.PathSets.paths c.args.self.now.paths.now) c.get-in-Concat-2.result.now c.in_ok-parts-in-Concat.parts.second c.in_ok-parts-in-Concat.ensures.second)
 
-pub transducer-returns-in_err-concat-in-Concat-clause-stopped : goal.transducer-returns-in_err-concat-in-Concat-clause-stopped
-transducer-returns-in_err-concat-in-Concat-clause-stopped g t c =
-    exit _ _ c.from_residual-in_err-concat-in-Concat.result c.from_residual-in_err-concat-in-Concat.ensures.1 (λ e is. stop_memory_r (g.C.Complements.refuses c.args.self.now.complements.now) g.C.Complements.tells_all c.args.self.now.letters.now (g.P.PathSets.paths c.args.self.now.paths.now) c.args.self.now.limit (length c.args.notes.now.items) c.args.term.now e is)
+pub transducer-returns-in_err-relation_concat-in-Concat-clause-stopped : goal.transducer-returns-in_err-relation_concat-in-Concat-clause-stopped
+transducer-returns-in_err-relation_concat-in-Concat-clause-stopped g t c =
+    exit _ _ c.from_residual-in_err-relation_concat-in-Concat.result c.from_residual-in_err-relation_concat-in-Concat.ensures.1 (λ e is. stop_memory_r (g.C.Complements.refuses c.args.self.now.complements.now) g.C.Complements.tells_all c.args.self.now.letters.now (g.P.PathSets.paths c.args.self.now.paths.now) c.args.self.now.limit (length c.args.notes.now.items) c.args.term.now e is)
 
 pub transducer-returns-in_err-pairs-in-Star-clause-stopped : goal.transducer-returns-in_err-pairs-in-Star-clause-stopped
 transducer-returns-in_err-pairs-in-Star-clause-stopped g t c =
     exit _ _ c.from_residual-in_err-pairs-in-Star.result c.from_residual-in_err-pairs-in-Star.ensures.1
     (λ e is. subst (λ (s : Stop). StoppedR (g.C.Complements.refuses c.args.self.now.complements.now) g.C.Complements.tells_all c.args.self.now.letters.now (g.P.PathSets.paths c.args.self.now.paths.now) c.args.self.now.limit (length c.args.notes.now.items) c.args.term.now s) (sym is) (stop_star_r (g.C.Complements.refuses c.args.self.now.complements.now) g.C.Complements.tells_all c.args.self.now.letters.now (g.P.PathSets.paths c.args.self.now.paths.now) c.args.self.now.limit (length c.args.notes.now.items) c.args.term.now c.get-in-Star.result.now _ (form_of_one R.Star c.args.term.now c.in-Star.part c.get-in-Star.result.now c.in-Star.is c.get-in-Star.ensures) c.in_err-pairs-in-Star.ensures.stopped))
 
-pub transducer-returns-in_ok-star-in-Star-clause-made : goal.transducer-returns-in_ok-star-in-Star-clause-made
-transducer-returns-in_ok-star-in-Star-clause-made g t c =
-    pairs.star g.C.Complements.tells_all c.args.self.now.letters.now (g.P.PathSets.paths c.args.self.now.paths.now) c.args.term.now c.get-in-Star.result.now c.in_ok-pairs-in-Star.pairs c.in_ok-star-in-Star.star c.as_transducer-in-Star.result
+pub transducer-returns-in_ok-relation_star-in-Star-clause-made : goal.transducer-returns-in_ok-relation_star-in-Star-clause-made
+transducer-returns-in_ok-relation_star-in-Star-clause-made g t c =
+    part_named (λ (v : RelTerm). IsMadeR g.C.Complements.tells_all c.args.self.now.letters.now (g.P.PathSets.paths c.args.self.now.paths.now) v c.in_ok-relation_star-in-Star.field-0) c.args.term.now (R.Star c.get-in-Star.result.now)
     (form_of_one R.Star c.args.term.now c.in-Star.part c.get-in-Star.result.now c.in-Star.is c.get-in-Star.ensures)
-    c.in_ok-pairs-in-Star.ensures.made c.as_transducer-in-Star.ensures.same c.as_transducer-in-Star.ensures.machine
-    c.in_ok-star-in-Star.ensures.letters c.in_ok-star-in-Star.ensures.states c.in_ok-star-in-Star.ensures.start c.in_ok-star-in-Star.ensures.copies c.in_ok-star-in-Star.ensures.relation
+    (c.in_ok-relation_star-in-Star.ensures c.get-in-Star.result.now c.in_ok-pairs-in-Star.ensures.made)
 
-pub transducer-returns-in_ok-star-in-Star-clause-noted : goal.transducer-returns-in_ok-star-in-Star-clause-noted
-transducer-returns-in_ok-star-in-Star-clause-noted g t c =
+pub transducer-returns-in_ok-relation_star-in-Star-clause-noted : goal.transducer-returns-in_ok-relation_star-in-Star-clause-noted
+transducer-returns-in_ok-relation_star-in-Star-clause-noted g t c =
     note_star_r (g.C.Complements.answers c.args.self.now.complements.now) g.C.Complements.tells_all c.args.self.now.letters.now (g.P.PathSets.paths c.args.self.now.paths.now) c.args.notes.now.items _ c.args.term.now c.get-in-Star.result.now (form_of_one R.Star c.args.term.now c.in-Star.part c.get-in-Star.result.now c.in-Star.is c.get-in-Star.ensures) c.in_ok-pairs-in-Star.ensures.noted
 
-pub transducer-returns-in_err-star-in-Star-clause-stopped : goal.transducer-returns-in_err-star-in-Star-clause-stopped
-transducer-returns-in_err-star-in-Star-clause-stopped g t c =
-    exit _ _ c.from_residual-in_err-star-in-Star.result c.from_residual-in_err-star-in-Star.ensures.1 (λ e is. stop_memory_r (g.C.Complements.refuses c.args.self.now.complements.now) g.C.Complements.tells_all c.args.self.now.letters.now (g.P.PathSets.paths c.args.self.now.paths.now) c.args.self.now.limit (length c.args.notes.now.items) c.args.term.now e is)
+pub transducer-returns-in_err-relation_star-in-Star-clause-stopped : goal.transducer-returns-in_err-relation_star-in-Star-clause-stopped
+transducer-returns-in_err-relation_star-in-Star-clause-stopped g t c =
+    exit _ _ c.from_residual-in_err-relation_star-in-Star.result c.from_residual-in_err-relation_star-in-Star.ensures.1 (λ e is. stop_memory_r (g.C.Complements.refuses c.args.self.now.complements.now) g.C.Complements.tells_all c.args.self.now.letters.now (g.P.PathSets.paths c.args.self.now.paths.now) c.args.self.now.limit (length c.args.notes.now.items) c.args.term.now e is)
 
 pub transducer-returns-in_err-parts-in-Compose-clause-stopped : goal.transducer-returns-in_err-parts-in-Compose-clause-stopped
 transducer-returns-in_err-parts-in-Compose-clause-stopped g t c =
     exit _ _ c.from_residual-in_err-parts-in-Compose.result c.from_residual-in_err-parts-in-Compose.ensures.1
     (λ e is. subst (λ (s : Stop). StoppedR (g.C.Complements.refuses c.args.self.now.complements.now) g.C.Complements.tells_all c.args.self.now.letters.now (g.P.PathSets.paths c.args.self.now.paths.now) c.args.self.now.limit (length c.args.notes.now.items) c.args.term.now s) (sym is) (stop_compose_r (g.C.Complements.refuses c.args.self.now.complements.now) g.C.Complements.tells_all c.args.self.now.letters.now (g.P.PathSets.paths c.args.self.now.paths.now) c.args.self.now.limit (length c.args.notes.now.items) c.args.term.now c.get-in-Compose.result.now c.get-in-Compose-2.result.now _ (form_of_two R.Compose c.args.term.now c.in-Compose.a c.get-in-Compose.result.now c.in-Compose.b c.get-in-Compose-2.result.now c.in-Compose.is c.get-in-Compose.ensures c.get-in-Compose-2.ensures) c.in_err-parts-in-Compose.ensures.stopped))
 
-pub transducer-returns-in_ok-composition-in-Compose-clause-made : goal.transducer-returns-in_ok-composition-in-Compose-clause-made
-transducer-returns-in_ok-composition-in-Compose-clause-made g t c =
-    pairs.compose g.C.Complements.tells_all c.args.self.now.letters.now (g.P.PathSets.paths c.args.self.now.paths.now) c.args.term.now c.get-in-Compose.result.now c.get-in-Compose-2.result.now c.in_ok-parts-in-Compose.parts.first c.in_ok-parts-in-Compose.parts.second c.in_ok-composition-in-Compose.composition c.as_transducer-in-Compose.result
+pub transducer-returns-in_ok-compose-in-Compose-clause-made : goal.transducer-returns-in_ok-compose-in-Compose-clause-made
+transducer-returns-in_ok-compose-in-Compose-clause-made g t c =
+    part_named (λ (v : RelTerm). IsMadeR g.C.Complements.tells_all c.args.self.now.letters.now (g.P.PathSets.paths c.args.self.now.paths.now) v c.in_ok-compose-in-Compose.field-0) c.args.term.now (R.Compose c.get-in-Compose.result.now c.get-in-Compose-2.result.now)
     (form_of_two R.Compose c.args.term.now c.in-Compose.a c.get-in-Compose.result.now c.in-Compose.b c.get-in-Compose-2.result.now c.in-Compose.is c.get-in-Compose.ensures c.get-in-Compose-2.ensures)
-    c.are_covered.ensures.letters c.in_ok-parts-in-Compose.ensures.first c.in_ok-parts-in-Compose.ensures.second c.as_transducer-in-Compose.ensures.same c.as_transducer-in-Compose.ensures.machine
-    c.in_ok-composition-in-Compose.ensures.letters c.in_ok-composition-in-Compose.ensures.pairs c.in_ok-composition-in-Compose.ensures.relation
+    (c.in_ok-compose-in-Compose.ensures.made c.get-in-Compose.result.now c.get-in-Compose-2.result.now c.in_ok-parts-in-Compose.ensures.first c.in_ok-parts-in-Compose.ensures.second)
 
-pub transducer-returns-in_ok-composition-in-Compose-clause-noted : goal.transducer-returns-in_ok-composition-in-Compose-clause-noted
-transducer-returns-in_ok-composition-in-Compose-clause-noted g t c =
+pub transducer-returns-in_ok-compose-in-Compose-clause-noted : goal.transducer-returns-in_ok-compose-in-Compose-clause-noted
+transducer-returns-in_ok-compose-in-Compose-clause-noted g t c =
     note_compose_r (g.C.Complements.answers c.args.self.now.complements.now) g.C.Complements.tells_all c.args.self.now.letters.now (g.P.PathSets.paths c.args.self.now.paths.now) c.args.notes.now.items _ c.args.term.now c.get-in-Compose.result.now c.get-in-Compose-2.result.now (form_of_two R.Compose c.args.term.now c.in-Compose.a c.get-in-Compose.result.now c.in-Compose.b c.get-in-Compose-2.result.now c.in-Compose.is c.get-in-Compose.ensures c.get-in-Compose-2.ensures) c.in_ok-parts-in-Compose.ensures.noted
 
 pub transducer-compose-requires-clause-letters : goal.transducer-compose-requires-clause-letters
 transducer-compose-requires-clause-letters g t c =
     pairs.made_letters g.C.Complements.tells_all c.args.self.now.letters.now (g.P.PathSets.paths c.args.self.now.paths.now) c.get-in-Compose.result.now c.in_ok-parts-in-Compose.parts.first c.in_ok-parts-in-Compose.ensures.first ∙ sym (pairs.made_letters g.C.Complements.tells_all c.args.self.now.letters.now (g.P.PathSets.paths c.args.self.now.paths.now) c.get-in-Compose-2.result.now c.in_ok-parts-in-Compose.parts.second c.in_ok-parts-in-Compose.ensures.second)
 
-pub transducer-returns-in_err-composition-in-Compose-clause-stopped : goal.transducer-returns-in_err-composition-in-Compose-clause-stopped
-transducer-returns-in_err-composition-in-Compose-clause-stopped g t c =
-    exit _ _ c.from_residual-in_err-composition-in-Compose.result c.from_residual-in_err-composition-in-Compose.ensures.1
+pub transducer-returns-in_err-compose-in-Compose-clause-stopped : goal.transducer-returns-in_err-compose-in-Compose-clause-stopped
+transducer-returns-in_err-compose-in-Compose-clause-stopped g t c =
+    exit _ _ c.from_residual-in_err-compose-in-Compose.result c.from_residual-in_err-compose-in-Compose.ensures.1
     (λ e is. stop_limit_r (g.C.Complements.refuses c.args.self.now.complements.now) g.C.Complements.tells_all c.args.self.now.letters.now (g.P.PathSets.paths c.args.self.now.paths.now) c.args.self.now.limit (length c.args.notes.now.items) c.args.term.now _ e is
-    (λ passed. limits.compose g.C.Complements.tells_all c.args.self.now.letters.now (g.P.PathSets.paths c.args.self.now.paths.now) c.are_covered.ensures.letters c.are_covered.ensures.symbols c.get-in-Compose.result.now c.get-in-Compose-2.result.now c.in_ok-parts-in-Compose.parts.first c.in_ok-parts-in-Compose.parts.second c.in_ok-parts-in-Compose.ensures.first c.in_ok-parts-in-Compose.ensures.second c.args.term.now c.args.self.now.limit (form_of_two R.Compose c.args.term.now c.in-Compose.a c.get-in-Compose.result.now c.in-Compose.b c.get-in-Compose-2.result.now c.in-Compose.is c.get-in-Compose.ensures c.get-in-Compose-2.ensures) (c.in_err-composition-in-Compose.ensures.limit passed)))
+    (λ passed. limits.compose g.C.Complements.tells_all c.args.self.now.letters.now (g.P.PathSets.paths c.args.self.now.paths.now) c.are_covered.ensures.letters c.are_covered.ensures.symbols c.get-in-Compose.result.now c.get-in-Compose-2.result.now c.in_ok-parts-in-Compose.parts.first c.in_ok-parts-in-Compose.parts.second c.in_ok-parts-in-Compose.ensures.first c.in_ok-parts-in-Compose.ensures.second c.args.term.now c.args.self.now.limit (form_of_two R.Compose c.args.term.now c.in-Compose.a c.get-in-Compose.result.now c.in-Compose.b c.get-in-Compose-2.result.now c.in-Compose.is c.get-in-Compose.ensures c.get-in-Compose-2.ensures) (c.in_err-compose-in-Compose.ensures.limit passed)))
 
 pub automaton-returns-in_ok-none-in-None-clause-made : goal.automaton-returns-in_ok-none-in-None-clause-made
 automaton-returns-in_ok-none-in-None-clause-made g t c =
