@@ -1,6 +1,7 @@
 pub mod Bools
 pub mod LoadLaws
 pub mod Loops
+pub mod WalkLaws
 pub mod NameOrder
 pub mod NameSets
 pub mod PairLaws

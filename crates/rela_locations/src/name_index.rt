@@ -1,7 +1,9 @@
 //! The symbols of locations, found by a hash of their names.
 
-ghost use Rattle.std.specs.Prelude.{◌≡◌, ◌≢◌, ◌↔◌, ℕ, Some, slice_get, IfOk, IfNone};
+ghost use Rattle.std.specs.Prelude.{◌≡◌, ◌≢◌, ◌↔◌, ◌<◌, ℕ, ◌+◌, Some, length, map, take, slice_get, IfOk, IfNone, OnOk};
 ghost use Rattle.std.specs.List.{All};
+ghost use Rattle.rela_names.specs.Name.{IsAscending};
+ghost use Rattle.rela_locations.specs.Index.{IsIndexOf};
 
 use indexmap::IndexSet;
 use rela_names::{Alphabet, Symbol};
@@ -39,13 +41,7 @@ impl NameIndex {
     pub(crate) fn new(alloc: Global, alphabet: Alphabet) -> Result<NameIndex, AllocError>
         ensures { IfOk result (λ index. index ≡ alphabet) }
     {
-        let count = alphabet.len() - 2;
-        let mut names = IndexSet::with_capacity(alloc, count as usize)?;
-        for symbol in 0..count {
-            if let Some(name) = alphabet.name_of(symbol) {
-                names.insert(Vec::from_slice(alloc, name.as_bytes())?)?;
-            }
-        }
+        let names = names_of(alloc, &alphabet)?;
         Ok(NameIndex { alphabet, names })
     }
 
@@ -64,4 +60,35 @@ impl NameIndex {
         let place = self.names.get_index_of(name)?;
         Some(place as Symbol)
     }
+}
+
+/// The names of an alphabet's locations, in their order.
+fn names_of(alloc: Global, alphabet: &Alphabet) -> Result<IndexSet<Vec<u8>>, AllocError>
+    ensures { IfOk result (λ names. IsIndexOf alphabet.now (map (λ name. name.items) names.keys)) }
+{
+    let count = alphabet.len() - 2;
+    let mut names = IndexSet::with_capacity(alloc, count as usize)?;
+    for symbol in 0..count {
+        add_name(alloc, &mut names, alphabet, symbol)?;
+    }
+    Ok(names)
+}
+
+/// Adds the name of a location, where there is one.
+fn add_name(
+    alloc: Global,
+    names: &mut IndexSet<Vec<u8>>,
+    alphabet: &Alphabet,
+    symbol: Symbol,
+) -> Result<(), AllocError>
+    requires before { map (λ name. name.items) names.old.keys ≡ take symbol alphabet.now }
+    requires ascending { IsAscending alphabet.now }
+    requires within { symbol < length alphabet.now }
+    ensures { OnOk result
+        (map (λ name. name.items) names.new.keys ≡ take (symbol + 1) alphabet.now) }
+{
+    if let Some(name) = alphabet.name_of(symbol) {
+        names.insert(Vec::from_slice(alloc, name.as_bytes())?)?;
+    }
+    Ok(())
 }

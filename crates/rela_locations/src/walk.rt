@@ -45,12 +45,34 @@ impl Seen {
             devices,
             interfaces,
         } = self;
+        let (interfaces, (devices, groups)) = both(
+            index_of(alloc, interfaces),
+            both(index_of(alloc, devices), index_of(alloc, groups)),
+        )?;
         Ok(Alphabets {
-            interfaces: NameIndex::new(alloc, interfaces.into_alphabet(alloc)?)?,
-            devices: NameIndex::new(alloc, devices.into_alphabet(alloc)?)?,
-            groups: NameIndex::new(alloc, groups.into_alphabet(alloc)?)?,
+            interfaces,
+            devices,
+            groups,
         })
     }
+}
+
+/// The names as an alphabet with its index.
+fn index_of(alloc: Global, names: NameSet) -> Result<NameIndex, AllocError>
+    ensures { IfOk result (λ index. index ≡ names) }
+{
+    NameIndex::new(alloc, names.into_alphabet(alloc)?)
+}
+
+/// Both values, where both could be made. So neither is held where the making of the other may end.
+fn both<T: Drop, U: Drop>(
+    first: Result<T, AllocError>,
+    second: Result<U, AllocError>,
+) -> Result<(T, U), AllocError>
+    ensures first { IfOk result (λ made. first ≡ Ok made.0) }
+    ensures second { IfOk result (λ made. second ≡ Ok made.1) }
+{
+    Ok((first?, second?))
 }
 
 /// The groups of a file, and the names of all that is in them.

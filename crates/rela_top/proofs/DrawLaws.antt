@@ -1,6 +1,7 @@
 -- What `fib` gives, from what its steps give.
 use Rattle.std.proofs.Common.{◌≡◌, ℕ, ◌≤◌, nat_lt, false, List, Option, Result, Ok, Err, IfOk, refl, sym, ap, subst, rules}
 use Rattle.std.specs.Result.{IfErr}
+use Rattle.rela_fib.specs.Loading.{LoadsAs}
 use Rattle.rela_fib.specs.Snapshot.{IsSnapshotOf, IsTooLong, IsTooMany}
 use Rattle.rela_fib.specs.declared.error.FibError.{FibError}
 use Rattle.rela_fib.specs.declared.error.FibError.TheVariants as fib
@@ -21,10 +22,10 @@ use Rattle.rela_top.proofs.InputLaws.{told}
 use Rattle.rela_top.proofs.LoadLaws.{same_refusal}
 
 pub drawn : (network : Network) (tables other : Forwarding) (text : List ℕ)
-    → IsSnapshotOf network tables other text → ¬ IsTooMany network tables other → ¬ IsTooLong network tables other
+    → IsSnapshotOf network tables other text → LoadsAs network tables other text → ¬ IsTooMany network tables other → ¬ IsTooLong network tables other
     → IsDrawing network tables other (Ok (record { text = text; status = 0 }))
 unfolding IsDrawing
-drawn network tables other text is few short = (Ok text, (is, few, short), refl)
+drawn network tables other text is loads few short = (Ok text, (is, loads, few, short), refl)
 
 pub too_large : (network : Network) (tables other : Forwarding) (e : FibError) (refusal : Refusal)
     → (e ≡ fib.TooMany → IsTooMany network tables other) → (e ≡ fib.TooLong → IsTooLong network tables other)

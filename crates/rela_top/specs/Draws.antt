@@ -1,6 +1,7 @@
 -- What the three files of `fib` give: the snapshot of the one table file, cut by the routes of both, or the first refusal in
 -- the order in which they are read.
 use Rattle.std.specs.Prelude.{◌≡◌, ℕ, List, Option, Result, Ok, Err}
+use Rattle.rela_fib.specs.Loading.{LoadsAs}
 use Rattle.rela_fib.specs.Snapshot.{IsSnapshotOf, IsTooLong, IsTooMany}
 use Rattle.rela_fib.specs.declared.error.FibError.{FibError}
 use Rattle.rela_fib.specs.declared.error.FibError.TheVariants as fib
@@ -14,10 +15,11 @@ use Rattle.rela_top.specs.declared.refusal.Input.TheVariants.{Locations, Tables,
 use Rattle.rela_top.specs.declared.refusal.Refusal.{Refusal}
 use Rattle.rela_top.specs.declared.refusal.Refusal.TheVariants.{Snapshot}
 
--- the text of the snapshot, or what there is too much of
+-- the text of the snapshot, which loads as just the flows that are drawn, or what there is too much of
 abbrev pub IsDrawnAs : Network → Forwarding → Forwarding → Result (List ℕ) FibError → Type 0
 IsDrawnAs network tables other (Ok text) =
-    IsSnapshotOf network tables other text × (¬ IsTooMany network tables other) × (¬ IsTooLong network tables other)
+    IsSnapshotOf network tables other text × LoadsAs network tables other text
+    × (¬ IsTooMany network tables other) × (¬ IsTooLong network tables other)
 IsDrawnAs network tables other (Err fib.TooMany) = IsTooMany network tables other
 IsDrawnAs network tables other (Err fib.TooLong) = IsTooLong network tables other × (¬ IsTooMany network tables other)
 IsDrawnAs network tables other (Err fib.Memory) = ⊥

@@ -17,7 +17,7 @@ pub returns-in-Ok-clause-draws : goal.returns-in-Ok-clause-draws
 returns-in-Ok-clause-draws g c =
     draws_over _ _ _ _ _ c.in_ok-tables.tables c.in_ok-other.other _
     c.in_ok-tables.ensures.tables c.in_ok-tables.ensures.same_holds c.in_ok-other.ensures.tables
-    (drawn _ _ _ c.in-Ok.text.items c.in-Ok.ensures.text c.in-Ok.ensures.few c.in-Ok.ensures.short)
+    (drawn _ _ _ c.in-Ok.text.items c.in-Ok.ensures.text c.in-Ok.ensures.loads c.in-Ok.ensures.few c.in-Ok.ensures.short)
 
 pub returns-clause-refused : goal.returns-clause-refused
 returns-clause-refused g c = λ refusal is.
