@@ -28,7 +28,7 @@ use Rattle.rela_snapshot.specs.Listed.{Listed}
 use Rattle.rela_snapshot.specs.Names.{has_name, place_of}
 use Rattle.rela_snapshot.specs.Nodes.{node_at, node_in}
 use Rattle.rela_snapshot.specs.Numbered.{edge_of, index_in, list_of, node_of, numbered_edges_of, numbered_nodes_of, numbered_of, optional_list_of, optional_places_of, or_place_error, places_of}
-use Rattle.rela_snapshot.specs.Parts.{entries_of, few_entries_of, part_of, string_of, two_entries_of, whole_number_of}
+use Rattle.rela_json.specs.Fields.{entries_of, few_entries_of, part_of, string_of, two_entries_of, whole_number_of}
 use Rattle.rela_snapshot.specs.Version.{flow_rules, version_of}
 use Rattle.rela_fib.specs.Graph.{Graph}
 use Rattle.rela_fib.specs.Loading.{everywhere, link_of, listed_graph}

@@ -2,6 +2,7 @@ pub use Rattle.serde_json.specs.Data
 pub use Rattle.serde_json.specs.Read
 pub use Rattle.serde_json.specs.Find
 pub use Rattle.serde_json.specs.View
+pub mod Fields
 pub mod Indexes
 pub mod LoadErrors
 pub mod Parts

@@ -14,7 +14,7 @@ use Rattle.rela_snapshot.specs.declared.version.Version.{Version}
 use Rattle.rela_snapshot.specs.declared.version.Version.TheVariants.{One, Two}
 use Rattle.rela_snapshot.specs.declared.version.FlowRules.{FlowRules}
 use Rattle.rela_snapshot.specs.Names.{has_name}
-use Rattle.rela_snapshot.specs.Parts.{part_of, string_of}
+use Rattle.rela_json.specs.Fields.{part_of, string_of}
 
 -- these bytes as a name
 unfoldable pub name_of : ℕ → List ℕ → Result (List ℕ) LoadError

@@ -4,7 +4,7 @@ use Rattle.serde_json.specs.Data.{Data}
 use Rattle.rela_json.specs.declared.error.LoadError.{LoadError}
 use Rattle.rela_json.specs.Results.{◌>>=◌}
 use Rattle.rela_snapshot.specs.declared.version.Version.{Version}
-use Rattle.rela_snapshot.specs.Parts.{part_of, whole_number_of, entries_of}
+use Rattle.rela_json.specs.Fields.{part_of, whole_number_of, entries_of}
 use Rattle.rela_snapshot.specs.Version.{version_of}
 
 unfoldable pub contents_of : Data → Result (Version × List Data) LoadError

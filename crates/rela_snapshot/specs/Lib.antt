@@ -13,7 +13,6 @@ pub mod Numbered
 pub mod Pair
 pub mod PairsLocated
 pub mod Partners
-pub mod Parts
 pub mod SnapshotFlows
 pub mod Steps
 pub mod Stored

@@ -10,7 +10,7 @@ use Rattle.rela_locations.specs.Network.{Network}
 use Rattle.rela_snapshot.specs.Class.{name_of}
 use Rattle.rela_snapshot.specs.Names.{has_name, place_of}
 use Rattle.rela_snapshot.specs.Nodes.{node_at}
-use Rattle.rela_snapshot.specs.Parts.{part_of, string_of, entries_of, few_entries_of, two_entries_of}
+use Rattle.rela_json.specs.Fields.{part_of, string_of, entries_of, few_entries_of, two_entries_of}
 use Rattle.rela_snapshot.specs.Listed.{Listed}
 
 -- nodes and their ids, in order

@@ -11,7 +11,7 @@ use Rattle.rela_graph.specs.declared.node.Link.{Link}
 use Rattle.rela_graph.specs.declared.node.Node.{Node}
 use Rattle.rela_locations.specs.Network.{Network}
 use Rattle.rela_snapshot.specs.Nodes.{node_at}
-use Rattle.rela_snapshot.specs.Parts.{part_of, string_of, few_entries_of, two_entries_of, whole_number_of}
+use Rattle.rela_json.specs.Fields.{part_of, string_of, few_entries_of, two_entries_of, whole_number_of}
 use Rattle.rela_snapshot.specs.Listed.{Listed}
 
 unfoldable pub node_of : Network → ℕ → Data → Result Node LoadError

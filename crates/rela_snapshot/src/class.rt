@@ -8,11 +8,10 @@ ghost use Rattle.rela_snapshot.specs.Names.{AreDistinct};
 ghost use Rattle.rela_snapshot.specs.Steps.{IsAnswer};
 
 use crate::name_table::NameTable;
-use crate::parts::{part, string};
 use crate::snapshot::MAX_FLOWS;
 use crate::version::{FlowRules, Version, flow_rules};
 use rela_flows::Prefix;
-use rela_json::{LoadError, Value};
+use rela_json::{LoadError, Value, part, string};
 use rela_names::{Name, NameError};
 use std::alloc::Global;
 

@@ -8,7 +8,6 @@ mod name_table;
 mod named;
 mod numbered;
 mod pairing;
-mod parts;
 mod snapshot;
 mod version;
 mod walk;

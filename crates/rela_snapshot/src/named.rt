@@ -11,9 +11,8 @@ ghost use Rattle.rela_json.specs.Results.{try_map, try_fold};
 
 use crate::listing::{Listing, node_at};
 use crate::name_table::NameTable;
-use crate::parts::{entries, few_entries, part, string, two_entries};
 use rela_graph::{Link, MAX_EDGES, MAX_NODES, Node};
-use rela_json::{LoadError, Value};
+use rela_json::{LoadError, Value, entries, few_entries, part, string, two_entries};
 use rela_locations::Locations;
 use rela_names::is_name;
 use std::alloc::Global;

@@ -9,9 +9,10 @@ ghost use Rattle.serde_json.specs.View.{view};
 ghost use Rattle.rela_json.specs.Results.{try_map};
 
 use crate::listing::{Listing, node_at};
-use crate::parts::{few_entries, part, string, two_entries, whole_number};
 use rela_graph::{Link, MAX_EDGES, MAX_NODES, Node};
-use rela_json::{ListError, LoadError, Value, index_list};
+use rela_json::{
+    ListError, LoadError, Value, few_entries, index_list, part, string, two_entries, whole_number,
+};
 use rela_locations::Locations;
 use std::alloc::Global;
 

@@ -8,7 +8,7 @@ use Rattle.rela_json.specs.Results.{◌>>=◌, try_map}
 use Rattle.rela_flows.specs.declared.prefix.Ipv4Prefix.{Ipv4Prefix}
 use Rattle.rela_names.specs.declared.level.Level.TheVariants.{Interface}
 use Rattle.rela_locations.specs.Network.{Network}
-use Rattle.rela_snapshot.specs.Parts.{entries_of, part_of, string_of}
+use Rattle.rela_json.specs.Fields.{entries_of, part_of, string_of}
 use Rattle.rela_tables.specs.Distinct.{is_same_key, key_of}
 use Rattle.rela_tables.specs.Entries.{symbol_of}
 use Rattle.rela_tables.specs.declared.route.Route.{Route}

@@ -5,7 +5,7 @@ use Rattle.rela_json.specs.declared.error.LoadError.{LoadError}
 use Rattle.rela_json.specs.Results.{◌>>=◌}
 use Rattle.rela_names.specs.declared.level.Level.TheVariants.{Interface}
 use Rattle.rela_locations.specs.Network.{Network}
-use Rattle.rela_snapshot.specs.Parts.{string_of}
+use Rattle.rela_json.specs.Fields.{string_of}
 use Rattle.rela_tables.specs.Entries.{symbol_of}
 
 unfoldable pub start_of : Network → ℕ → Data → Result ℕ LoadError

@@ -7,7 +7,7 @@ use Rattle.rela_json.specs.declared.error.LoadError.TheVariants.{BadVersion, Rep
 use Rattle.rela_json.specs.Results.{◌>>=◌}
 use Rattle.rela_names.specs.declared.level.Level.TheVariants.{Device}
 use Rattle.rela_locations.specs.Network.{Network}
-use Rattle.rela_snapshot.specs.Parts.{entries_of, few_entries_of, part_of, string_of, whole_number_of}
+use Rattle.rela_json.specs.Fields.{entries_of, few_entries_of, part_of, string_of, whole_number_of}
 use Rattle.rela_tables.specs.Entries.{symbol_of}
 use Rattle.rela_tables.specs.Starts.{starts_from}
 

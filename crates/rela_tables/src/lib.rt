@@ -1,7 +1,6 @@
 //! The forwarding tables of a network's devices, read from a JSON file.
 #![tactic(auto)]
 
-mod parts;
 mod route;
 mod starts;
 mod symbols;

@@ -13,11 +13,10 @@ ghost use Rattle.rela_tables.specs.Located.{AreInterfaces, IsRouteIn};
 ghost use Rattle.rela_tables.specs.RouteParts as parts;
 ghost use Rattle.rela_tables.specs.Routes as spec;
 
-use crate::parts::{entries, part, string};
 use crate::symbols::interface;
 use indexmap::IndexSet;
 use rela_flows::{Ipv4Prefix, Prefix};
-use rela_json::{LoadError, Value};
+use rela_json::{LoadError, Value, entries, part, string};
 use rela_locations::Locations;
 use rela_names::{List, Symbol};
 use std::alloc::Global;

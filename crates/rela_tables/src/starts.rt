@@ -7,9 +7,8 @@ ghost use Rattle.rela_names.specs.declared.level.Level.TheVariants.{Interface};
 ghost use Rattle.rela_tables.specs.Located.{AreInterfaces};
 ghost use Rattle.rela_tables.specs.Starts as spec;
 
-use crate::parts::string;
 use crate::symbols::interface;
-use rela_json::{LoadError, Value};
+use rela_json::{LoadError, Value, string};
 use rela_locations::Locations;
 use rela_names::Symbol;
 use std::alloc::Global;

@@ -12,11 +12,10 @@ ghost use Rattle.rela_tables.specs.Load as spec;
 ghost use Rattle.rela_tables.specs.Located.{IsTableIn};
 ghost use Rattle.rela_tables.specs.TableParts as parts;
 
-use crate::parts::{few_entries, part, string};
 use crate::route::{MAX_ROUTES, Route, read_routes};
 use crate::symbols::device;
 use indexmap::IndexSet;
-use rela_json::{LoadError, Value};
+use rela_json::{LoadError, Value, few_entries, part, string};
 use rela_locations::Locations;
 use rela_names::{List, Symbol};
 use std::alloc::Global;

@@ -8,10 +8,9 @@ ghost use Rattle.rela_tables.specs.Load as spec;
 ghost use Rattle.rela_tables.specs.Located.{AreInterfaces, IsForwardingIn};
 ghost use Rattle.rela_tables.specs.TableParts as parts;
 
-use crate::parts::{entries, part, whole_number};
 use crate::starts::read_starts;
 use crate::table::{Table, read_tables};
-use rela_json::{LoadError, Value, read};
+use rela_json::{LoadError, Value, entries, part, read, whole_number};
 use rela_locations::Locations;
 use rela_names::{List, Symbol};
 use std::alloc::Global;

@@ -1,18 +1,20 @@
-//! The parts of a JSON value, each with the rule that it breaks where it is of another kind.
+//! The parts of an entry of a JSON file, each with the rule that it breaks where it is of another kind.
 
 ghost use Rattle.std.specs.Prelude.{◌≡◌, ◌≤◌, Ok, Err, Some, IfOk, IfErr, length, map, option_map};
 ghost use Rattle.serde_json.specs.View.{view};
-ghost use Rattle.rela_snapshot.specs.Parts.{part_of, string_of, entries_of, whole_number_of, few_entries_of, two_entries_of};
+ghost use Rattle.rela_json.specs.Fields.{part_of, string_of, entries_of, whole_number_of, few_entries_of, two_entries_of};
 
-use rela_json::{LoadError, Value, array, member, number, text};
+use crate::error::LoadError;
+use crate::parts::{array, member, number, text};
+use serde_json::Value;
 
 /// An object's member of that name, and `None` where the object has none.
 ///
 /// # Errors
 ///
 /// `WrongShape` where the value is no object.
-#[tactic(auto, unfolding(crate::specs::Parts::part_of))]
-pub(crate) fn part<'a>(
+#[tactic(auto, unfolding(crate::specs::Fields::part_of))]
+pub fn part<'a>(
     value: &'a Value,
     name: &str,
     rule: u8,
@@ -29,8 +31,8 @@ pub(crate) fn part<'a>(
 /// # Errors
 ///
 /// `WrongShape` where it is missing or no string.
-#[tactic(auto, unfolding(crate::specs::Parts::string_of))]
-pub(crate) fn string(value: Option<&Value>, rule: u8, row: u32) -> Result<&[u8], LoadError>
+#[tactic(auto, unfolding(crate::specs::Fields::string_of))]
+pub fn string(value: Option<&Value>, rule: u8, row: u32) -> Result<&[u8], LoadError>
     ensures found { IfOk result (λ bytes. string_of rule row (option_map (λ v. view v.now) value.entry) ≡ Ok bytes.now) }
     ensures fault { IfErr result (λ e. string_of rule row (option_map (λ v. view v.now) value.entry) ≡ Err e) }
 {
@@ -43,8 +45,8 @@ pub(crate) fn string(value: Option<&Value>, rule: u8, row: u32) -> Result<&[u8],
 /// # Errors
 ///
 /// `WrongShape` where it is missing or no array.
-#[tactic(auto, unfolding(crate::specs::Parts::entries_of))]
-pub(crate) fn entries(value: Option<&Value>, rule: u8, row: u32) -> Result<&[Value], LoadError>
+#[tactic(auto, unfolding(crate::specs::Fields::entries_of))]
+pub fn entries(value: Option<&Value>, rule: u8, row: u32) -> Result<&[Value], LoadError>
     ensures found { IfOk result (λ vs. entries_of rule row (option_map (λ v. view v.now) value.entry) ≡ Ok (map view vs.now)) }
     ensures fault { IfErr result (λ e. entries_of rule row (option_map (λ v. view v.now) value.entry) ≡ Err e) }
 {
@@ -57,8 +59,8 @@ pub(crate) fn entries(value: Option<&Value>, rule: u8, row: u32) -> Result<&[Val
 /// # Errors
 ///
 /// `WrongShape` where it is missing or no whole number from 0 to 2^64 - 1.
-#[tactic(auto, unfolding(crate::specs::Parts::whole_number_of))]
-pub(crate) fn whole_number(value: Option<&Value>, rule: u8, row: u32) -> Result<u64, LoadError>
+#[tactic(auto, unfolding(crate::specs::Fields::whole_number_of))]
+pub fn whole_number(value: Option<&Value>, rule: u8, row: u32) -> Result<u64, LoadError>
     ensures found { IfOk result (λ n. whole_number_of rule row (option_map (λ v. view v.now) value.entry) ≡ Ok n) }
     ensures fault { IfErr result (λ e. whole_number_of rule row (option_map (λ v. view v.now) value.entry) ≡ Err e) }
 {
@@ -71,8 +73,8 @@ pub(crate) fn whole_number(value: Option<&Value>, rule: u8, row: u32) -> Result<
 /// # Errors
 ///
 /// `WrongShape` where it is missing or no array; else `TooMany` where it has more entries.
-#[tactic(auto, unfolding(crate::specs::Parts::few_entries_of))]
-pub(crate) fn few_entries(
+#[tactic(auto, unfolding(crate::specs::Fields::few_entries_of))]
+pub fn few_entries(
     value: Option<&Value>,
     most: usize,
     rule: u8,
@@ -94,8 +96,8 @@ pub(crate) fn few_entries(
 /// # Errors
 ///
 /// `WrongShape` where the value is no such array.
-#[tactic(auto, unfolding(crate::specs::Parts::two_entries_of))]
-pub(crate) fn two_entries(value: &Value, rule: u8, row: u32) -> Result<(&Value, &Value), LoadError>
+#[tactic(auto, unfolding(crate::specs::Fields::two_entries_of))]
+pub fn two_entries(value: &Value, rule: u8, row: u32) -> Result<(&Value, &Value), LoadError>
     ensures found { IfOk result (λ ends. two_entries_of rule row (view value.now) ≡ Ok (view ends.0.now, view ends.1.now)) }
     ensures fault { IfErr result (λ e. two_entries_of rule row (view value.now) ≡ Err e) }
 {

@@ -1,4 +1,4 @@
--- The parts of a JSON value, or the rule that it breaks in a row.
+-- The parts of an entry of a JSON file, or the rule that it breaks in a row.
 use Rattle.std.specs.Prelude.{ℕ, List, [], ◌∷◌, length, nat_lt, if◌then◌else◌, Option, Some, option_and_then, Result, Ok, Err}
 use Rattle.serde_json.specs.Data.{Data}
 use Rattle.rela_json.specs.declared.error.LoadError.{LoadError}
