@@ -260,7 +260,7 @@ impl<'a> Compiled<'a> {
         match &self.relations {
             Some(relations) => {
                 let before = relations.before();
-                &before.small
+                before.small()
             }
             None => unreachable!(),
         }
@@ -276,7 +276,7 @@ impl<'a> Compiled<'a> {
         match &self.relations {
             Some(relations) => {
                 let after = relations.after();
-                &after.small
+                after.small()
             }
             None => unreachable!(),
         }
