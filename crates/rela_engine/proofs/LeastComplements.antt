@@ -7,14 +7,7 @@ use Rattle.rela_subset.specs.Subsets.{KeepsApart, ReachSame}
 use Rattle.rela_minimise.specs.Classes.{AcceptSame, AreAlike}
 use Rattle.rela_minimise.proofs.Alike.{alike_states}
 use Rattle.rela_build.specs.Complement.{IsComplement}
-
--- the words over these letters that an automaton accepts, by a deterministic one: words that reach the same states lead
--- to one state of it, and words that lead to different ones reach different states
-pub record IsLeast (over : List Bool) (a : Automaton) (d : Deterministic) : Type 0 where
-  pub over_is : d.over ≡ over
-  pub language : (w : List ℕ) → IsAccepted d w ↔ (IsOver over w × Accepts a w)
-  pub alike : (v w : List ℕ) → IsOver over v → IsOver over w → ReachSame a v w → state_after d v ≡ state_after d w
-  pub told : KeepsApart a over d
+use Rattle.rela_engine.specs.Least.{IsLeast}
 
 -- the least one of a deterministic automaton whose states are the sets that words reach
 module _ (over : List Bool) (a : Automaton) (d m : Deterministic) (d_over : d.over ≡ over) (m_over : m.over ≡ d.over)

@@ -1,16 +1,44 @@
 -- The part that is complemented, with silent edges that add no word to its language.
-use Rattle.std.proofs.Common.{◌≡◌, ℕ, ◌↔◌, Bool, List, ◌++◌, inl, inr}
+use Rattle.std.proofs.Common.{◌≡◌, ℕ, ◌<◌, ◌≤◌, ◌↔◌, Bool, List, ◌++◌, length, get_or, take, inl, inr, sym, subst, arith}
 use Rattle.std.specs.List.{AllPairs}
+use Rattle.std.proofs.lemmas.List.{get_or-take, length-take-le}
+use Rattle.std.proofs.lemmas.List.Elements.{All-take}
 use Rattle.rela_nfa.specs.Automaton.{Automaton}
 use Rattle.rela_nfa.specs.Runs.{Accepts}
-use Rattle.rela_subset.specs.Deterministic.{Deterministic}
+use Rattle.rela_subset.specs.Deterministic.{Deterministic, IsOver}
 use Rattle.rela_subset.specs.Subsets.{AreApart, ReachSame, ReachSets}
 use Rattle.rela_engine.specs.Telling.{IsTold, TellsWords}
 use Rattle.rela_engine.proofs.Continued.{told_by_end}
-use Rattle.rela_engine.proofs.LeastComplements.{IsLeast}
+use Rattle.rela_engine.specs.Least.{IsLeast}
 
 weaker_pairs : {X : Type 0} (R S : X → X → Type 0) → ((x y : X) → R x y → S x y) → (xs : List X) → AllPairs R xs → AllPairs S xs
 weaker_pairs R S on xs pairs i j d before inside = on _ _ (pairs i j d before inside)
+
+-- the first of a list
+first_pairs : {X : Type 0} (R : X → X → Type 0) (xs : List X) (m : ℕ) → m ≤ length xs → AllPairs R xs → AllPairs R (take m xs)
+first_pairs R xs m within pairs i j d before inside =
+    let j_in : j < m = omega (arith, inside, length-take-le m xs within) in
+    let i_in : i < m = omega (arith, before, j_in) in
+    subst (λ y. R y (get_or (take m xs) j d)) (sym (get_or-take m xs i d i_in))
+    (subst (λ y. R (get_or xs i d) y) (sym (get_or-take m xs j d j_in)) (pairs i j d before (omega (arith, j_in, within))))
+
+-- where many words are told apart, fewer are
+pub fewer_told : (a : Automaton) (over : List Bool) (m n : ℕ) → m ≤ n → TellsWords a over n → TellsWords a over m
+fewer_told a over m n few told =
+    let within : m ≤ length told.words = omega (arith, few, told.count) in record {
+      words = take m told.words;
+      count = length-take-le m told.words within;
+      letters = All-take (IsOver over) m told.words told.letters;
+      told = first_pairs (IsTold a over) told.words m within told.told;
+    }
+
+-- words that are told apart by continuing them reach as many sets of states
+pub sets_of_told : (a : Automaton) (over : List Bool) (n : ℕ) → TellsWords a over n → ReachSets a over n
+sets_of_told a over n told =
+    record { words = told.words; count = told.count; letters = told.letters; apart = weaker_pairs (IsTold a over) (AreApart a) apart told.words told.told } where
+      apart : (v w : List ℕ) → IsTold a over v w → AreApart a v w
+      apart v w (z, within, inl (accepted, refused)) = let found = told_by_end a v w z accepted refused in (found.0, inl found.1)
+      apart v w (z, within, inr (accepted, refused)) = let found = told_by_end a w v z accepted refused in (found.0, inr found.1)
 
 module _ (over : List Bool) (a small : Automaton) (language : (w : List ℕ) → Accepts small w ↔ Accepts a w)
     (same : (v w : List ℕ) → ReachSame a v w → ReachSame small v w) (apart : (v w : List ℕ) → AreApart small v w → AreApart a v w) where
@@ -18,15 +46,16 @@ module _ (over : List Bool) (a small : Automaton) (language : (w : List ℕ) →
   pub small_sets : (n : ℕ) → ReachSets small over n → ReachSets a over n
   small_sets n sets = record { words = sets.words; count = sets.count; letters = sets.letters; apart = weaker_pairs (AreApart small) (AreApart a) apart sets.words sets.apart }
 
-  told_apart : (v w : List ℕ) → IsTold a over v w → AreApart small v w
-  told_apart v w (z, within, inl (accepted, refused)) =
-      let found = told_by_end small v w z ((language (v ++ z)).1 accepted) (λ other. refused ((language (w ++ z)).0 other)) in (found.0, inl found.1)
-  told_apart v w (z, within, inr (accepted, refused)) =
-      let found = told_by_end small w v z ((language (w ++ z)).1 accepted) (λ other. refused ((language (v ++ z)).0 other)) in (found.0, inr found.1)
+  -- words that the part tells, the other tells too
+  told_so : (v w : List ℕ) → IsTold a over v w → IsTold small over v w
+  told_so v w (z, within, inl (accepted, refused)) =
+      (z, within, inl ((language (v ++ z)).1 accepted, λ other. refused ((language (w ++ z)).0 other)))
+  told_so v w (z, within, inr (accepted, refused)) =
+      (z, within, inr ((language (w ++ z)).1 accepted, λ other. refused ((language (v ++ z)).0 other)))
 
-  -- words that the part tells reach as many
-  pub told_sets : (n : ℕ) → TellsWords a over n → ReachSets small over n
-  told_sets n told = record { words = told.words; count = told.count; letters = told.letters; apart = weaker_pairs (IsTold a over) (AreApart small) told_apart told.words told.told }
+  pub small_within : (n : ℕ) → ¬ TellsWords small over n → ¬ TellsWords a over n
+  small_within n within told =
+      within (record { words = told.words; count = told.count; letters = told.letters; told = weaker_pairs (IsTold a over) (IsTold small over) told_so told.words told.told })
 
   pub small_least : (d : Deterministic) → IsLeast over small d → IsLeast over a d
   small_least d least = record {

@@ -266,7 +266,7 @@ impl<'a> Compiled<'a> {
         match &self.relations {
             Some(relations) => {
                 let before = relations.before();
-                &before.small
+                before.small()
             }
             None => unreachable!(),
         }
@@ -283,7 +283,7 @@ impl<'a> Compiled<'a> {
         match &self.relations {
             Some(relations) => {
                 let after = relations.after();
-                &after.small
+                after.small()
             }
             None => unreachable!(),
         }

@@ -4,6 +4,7 @@ ghost use Rattle.rela_minimise.specs.Classes.{IsMinimal};
 ghost use Rattle.rela_nfa.specs.Runs.{Accepts};
 ghost use Rattle.rela_subset.specs.Deterministic.{IsAccepted, IsOver, state_after};
 ghost use Rattle.rela_subset.specs.Subsets.{KeepsApart, ReachSame, ReachSets};
+ghost use Rattle.rela_engine.specs.Least.{IsLeast};
 ghost use Rattle.rela_engine.specs.Telling.{TellsWords};
 
 use rela_build::{Answer, Complements};
@@ -59,15 +60,10 @@ impl Complements for Limited {
     }
 }
 
-/// The minimal automaton of the words over these letters that the automaton accepts. It is made by
-/// way of one that reaches fewer sets of states, and the one with all these sets, which may be far
-/// larger, is let go here.
-///
-/// # Errors
-///
-/// - `Limit` only where words over these letters reach more sets of states of the automaton than
-///   the limit, and always where more such words are told apart by continuing them.
-/// - `Memory` where there isn't memory.
+/// The minimal automaton of the words over these letters that the automaton accepts, where its states are
+/// no more than the limit. Where words reach no more sets of states than there are states, as those of
+/// listed words do, the sets are made as they are. Else the automaton is reduced first, so that words reach
+/// fewer of them: that costs more than so many sets.
 fn least_over(
     alloc: Global,
     a: &Nfa<WideSet>,
@@ -86,8 +82,52 @@ fn least_over(
     ensures within { IfOk result (λ _. ¬ TellsWords a.now over.now (limit + 1)) }
     ensures past { IfErr result (λ e. e ≡ BuildError.Limit → ReachSets a.now over.now (limit + 1)) }
 {
+    prove!(a.start() < a.states());
+    let few = a.states();
+    if limit <= few {
+        return least_by_fewer_sets(alloc, a, over, limit);
+    }
+    match least_by_sets(alloc, a, over, few) {
+        Ok(least) => Ok(least),
+        Err(BuildError::Limit) => least_by_fewer_sets(alloc, a, over, limit),
+        Err(BuildError::Memory) => Err(BuildError::Memory),
+    }
+}
+
+/// The minimal automaton of these words, by way of one that reaches fewer sets of states.
+fn least_by_fewer_sets(
+    alloc: Global,
+    a: &Nfa<WideSet>,
+    over: &WideSet,
+    limit: usize,
+) -> Result<Dfa<WideSet>, BuildError>
+    requires letters { length over.now ≡ a.now.letters }
+    requires limit { 1 ≤ limit }
+    ensures least { IfOk result (IsLeast over.now a.now) }
+    ensures minimal { IfOk result IsMinimal }
+    ensures within { IfOk result (λ _. ¬ TellsWords a.now over.now (limit + 1)) }
+    ensures past { IfErr result (λ e. e ≡ BuildError.Limit → ReachSets a.now over.now (limit + 1)) }
+{
     let small = reduce(alloc, a)?;
-    let sets = determinise(alloc, &small, over, limit)?;
-    let least = minimise(alloc, &sets)?;
+    least_by_sets(alloc, &small, over, limit)
+}
+
+/// The minimal automaton of these words, by way of the one with all sets of states that words reach, which
+/// may be far larger, and is let go here.
+fn least_by_sets(
+    alloc: Global,
+    a: &Nfa<WideSet>,
+    over: &WideSet,
+    limit: usize,
+) -> Result<Dfa<WideSet>, BuildError>
+    requires letters { length over.now ≡ a.now.letters }
+    requires limit { 1 ≤ limit }
+    ensures least { IfOk result (IsLeast over.now a.now) }
+    ensures minimal { IfOk result IsMinimal }
+    ensures within { IfOk result (λ _. ¬ TellsWords a.now over.now (limit + 1)) }
+    ensures past { IfErr result (λ e. e ≡ BuildError.Limit → ReachSets a.now over.now (limit + 1)) }
+{
+    let sets = determinise(alloc, a, over, limit)?;
+    let least = minimise(alloc, sets)?;
     Ok(least)
 }

@@ -1,4 +1,5 @@
 //! The transducers of a check's relation.
+ghost use Rattle.std.specs.Option.{unwrap_or};
 ghost use Rattle.std.specs.Prelude.{◌≡◌, ◌≢◌, ◌+◌, ◌≤◌, IfOk, IfErr};
 ghost use Rattle.rela_build.specs.Lettering.{IsAlone};
 ghost use Rattle.rela_build.specs.Made.{IsMadeR};
@@ -44,7 +45,7 @@ pub(crate) fn relation_of(
 {
     let plain = plain_relation(alloc, term, letters, limit)?;
     let small = small_relation(alloc, &plain, letters.partition())?;
-    Ok(Twofold { plain, small })
+    Ok(Twofold::new(plain, small))
 }
 
 /// The transducer of the term as it is built, with complements under the limit. Errors are those of
@@ -75,10 +76,31 @@ fn plain_relation(
     builder.transducer(alloc, term, &mut notes)
 }
 
-/// A transducer with the same pairs that has neither moves that lead to no final state nor silent
-/// detours. It is made once and walked beside the paths of each flow. It costs a step for each
-/// state and each move. The only error is want of memory.
+/// A relation of more states than this is kept once. Its states are nearly all those of complements, of
+/// which few are met beside the paths of a flow, and each state of a transducer takes some hundred bytes.
+const MOST_TWICE: usize = 8_192;
+
+/// The same pairs by a smaller transducer; `None` where this one has many states, and is to serve as it is.
 fn small_relation(
+    alloc: Global,
+    plain: &Transducer<WideSet>,
+    blocks: &Partition,
+) -> Result<Option<Transducer<WideSet>>, AllocError>
+    requires { plain.now.letters ≡ block_count blocks.now }
+    ensures { IfOk result (λ small. Realises blocks.now (Relates (read_by blocks.now) plain.now)
+        (unwrap_or small plain.now)) }
+{
+    if plain.states() > MOST_TWICE {
+        return Ok(None);
+    }
+    let small = shortened(alloc, plain, blocks)?;
+    Ok(Some(small))
+}
+
+/// The same pairs by a transducer that is made once and walked beside the paths of each flow, so the
+/// moves that lead to no final state are left out, and the silent detours too. It costs a step for each
+/// state and each move.
+fn shortened(
     alloc: Global,
     plain: &Transducer<WideSet>,
     blocks: &Partition,

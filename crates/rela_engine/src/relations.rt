@@ -6,21 +6,48 @@ use rela_labels::WideSet;
 use rela_trans::Transducer;
 use std::marker::Model;
 
-/// A relation by two transducers that have the same pairs. Contracts see it as a `Twofold`.
+/// A relation twice. Both transducers have the same pairs. Contracts see it as a `Twofold`, with both of
+/// them.
 #[derive(Drop)]
 pub(crate) struct Twofold {
-    /// As it was built of its term: each of its states stands for places of the term.
-    pub(crate) plain: Transducer<WideSet>,
-    /// Made small for many walks.
-    pub(crate) small: Transducer<WideSet>,
+    plain: Transducer<WideSet>,
+    // none where the plain one serves for many walks too
+    small: Option<Transducer<WideSet>>,
 }
 
 impl Model for Twofold {
+    ghost use Rattle.std.specs.Option.{unwrap_or};
     ghost use Rattle.rela_engine.specs.Compilation as kept;
 
     ghost Value = { kept.Twofold };
 
-    ghost view = { λ r. record { plain = r.plain; small = r.small } };
+    ghost view = { λ r. record { plain = r.plain; small = unwrap_or r.small r.plain } };
+}
+
+impl Twofold {
+    /// The relation as it was built, and made small. Where no small one is given, the other serves for it.
+    pub(crate) fn new(plain: Transducer<WideSet>, small: Option<Transducer<WideSet>>) -> Twofold
+        ensures { result ≡ record { plain = plain; small = unwrap_or small plain } }
+    {
+        Twofold { plain, small }
+    }
+
+    /// The relation as it was built of its term: each state stands for places of the term.
+    pub(crate) fn plain(&self) -> &Transducer<WideSet>
+        ensures { result.now ≡ self.now.plain }
+    {
+        &self.plain
+    }
+
+    /// The relation made small for many walks.
+    pub(crate) fn small(&self) -> &Transducer<WideSet>
+        ensures { result.now ≡ self.now.small }
+    {
+        match &self.small {
+            Some(small) => small,
+            None => &self.plain,
+        }
+    }
 }
 
 /// The relations that the paths before and after the change are seen through. Contracts see it as

@@ -203,8 +203,8 @@ fn relation_over<L: LabelSet>(
         LeadAlike coarse.now relation.now.plain blocks.now t) }
 {
     match form {
-        Form::Small => small_relation(alloc, &relation.small, paths, coarse, blocks),
-        Form::Plain => whole_relation(alloc, &relation.plain, coarse, blocks),
+        Form::Small => small_relation(alloc, relation.small(), paths, coarse, blocks),
+        Form::Plain => whole_relation(alloc, relation.plain(), coarse, blocks),
     }
 }
 

@@ -10,34 +10,43 @@ use rela_subset::{BuildError, Dfa, determinise};
 use std::alloc::{AllocError, Global};
 
 /// The automaton over the same letters with the fewest states that accepts the same words. Each of
-/// its states is reached, no two of them accept the same words, and they are numbered as words
-/// first arrive at them, in shortlex order: so it is the same for all automata of one language. A
-/// word leads to a state that follows from its continuations alone (J. Myhill and A. Nerode, 1958).
-///
-/// Time: classes of states are refined in rounds, at most as many as there are states (E. F. Moore,
-/// 1956); a round signs those states again from which a letter leads to a new class, by a step for
-/// each kind of letters, where letters that are in the same labels at every state are of one kind.
-/// Space: a number for each state and kind of letters, and for each edge.
+/// its states is reached, no two of them accept the same words, and they are numbered as words first
+/// arrive at them, in shortlex order: so it is the same for all automata of one language. A word
+/// leads to a state that follows from its continuations alone (J. Myhill and A. Nerode, 1958). The
+/// given one is let go as soon as its classes have edges of their own.
 ///
 /// Memory is the only error.
-pub fn minimise<L: LabelSet>(alloc: Global, dfa: &Dfa<L>) -> Result<Dfa<L>, AllocError>
-    ensures over { IfOk result (λ made. made.over ≡ dfa.now.over) }
+pub fn minimise<L: LabelSet>(alloc: Global, dfa: Dfa<L>) -> Result<Dfa<L>, AllocError>
+    ensures over { IfOk result (λ made. made.over ≡ dfa.over) }
     ensures start { IfOk result (λ made. made.start ≡ 0) }
-    ensures language { IfOk result (λ made. (word : List ℕ) → IsAccepted made word ↔ IsAccepted dfa.now word) }
+    ensures language { IfOk result (λ made. (word : List ℕ) → IsAccepted made word ↔ IsAccepted dfa word) }
     ensures reachable { IfOk result IsReachable }
     ensures minimal { IfOk result IsMinimal }
     ensures arrival { IfOk result IsByArrival }
-    ensures classes { IfOk result (λ made. (v w : List ℕ) → IsOver dfa.now.over v → IsOver dfa.now.over w
-        → (state_after made v ≡ state_after made w) ↔ AreAlike dfa.now v w) }
+    ensures classes { IfOk result (λ made. (v w : List ℕ) → IsOver dfa.over v → IsOver dfa.over w
+        → (state_after made v ≡ state_after made w) ↔ AreAlike dfa v w) }
 {
-    prove!(dfa.start() < dfa.states());
-    let refinement = refined(alloc, dfa)?;
-    let classes = quotient(alloc, dfa, &refinement.classes, refinement.members.len())?;
+    let over = dfa.over().copy(alloc)?;
+    let classes = merged(alloc, dfa)?;
     let nfa = classes.into_nfa(alloc)?;
-    match determinise(alloc, &nfa, dfa.over(), usize::MAX) {
+    match determinise(alloc, &nfa, &over, usize::MAX) {
         Ok(made) => Ok(made),
         Err(error) => Err(want_of_memory(error)),
     }
+}
+
+/// The automaton with one state for each class of states that accept the same words, in place of the
+/// given one.
+fn merged<L: LabelSet>(alloc: Global, dfa: Dfa<L>) -> Result<Dfa<L>, AllocError>
+    ensures over { IfOk result (λ made. made.over ≡ dfa.over) }
+    ensures language { IfOk result (λ made. (word : List ℕ) → IsAccepted made word ↔ IsAccepted dfa word) }
+    ensures alike { IfOk result (λ made. (v w : List ℕ) → IsOver dfa.over v → IsOver dfa.over w
+        → (state_after made v ≡ state_after made w) ↔ AreAlike dfa v w) }
+{
+    prove!(dfa.start() < dfa.states());
+    let refinement = refined(alloc, &dfa)?;
+    let classes = refinement.into_classes();
+    quotient(alloc, &dfa, &classes.numbers, classes.count)
 }
 
 /// The error for want of memory, which is the only one where no limit was set.

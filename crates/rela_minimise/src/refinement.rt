@@ -28,7 +28,32 @@ pub(crate) struct Refinement {
     pub(crate) stale: Vec<bool>,
 }
 
+/// The classes that a refinement ends with.
+#[derive(Drop)]
+pub(crate) struct Classes {
+    // the number of each state's class
+    pub(crate) numbers: Vec<usize>,
+    // how many classes there are
+    pub(crate) count: usize,
+}
+
 impl Refinement {
+    /// The classes alone: what only their refinement needed is let go.
+    pub(crate) fn into_classes(self) -> Classes
+        ensures numbers { result.numbers ≡ self.classes }
+        ensures count { result.count ≡ length self.members.items }
+    {
+        let Refinement {
+            classes,
+            members,
+            signatures: _,
+            stale: _,
+        } = self;
+        Classes {
+            numbers: classes,
+            count: members.len(),
+        }
+    }
     /// Makes sure that the class of the state has a state that is not stale: where it has none, the
     /// signature of this one becomes that of the class.
     fn settle<L: LabelSet>(

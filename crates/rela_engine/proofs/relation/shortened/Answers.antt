@@ -1,7 +1,7 @@
 use Rattle.rela_build.specs.Reading.{read_by}
 use Rattle.rela_trans.specs.Runs.{Relates}
 use Rattle.rela_engine.proofs.CheckedRelations.{realised_alike}
-use Rattle.rela_engine.proofs.relation.small_relation.Goals as goal
+use Rattle.rela_engine.proofs.relation.shortened.Goals as goal
 
 pub returns : goal.returns
 returns c =
