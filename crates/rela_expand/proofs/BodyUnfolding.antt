@@ -5,7 +5,7 @@ use Rattle.rela_spec.specs.declared.tree.Modifier.TheVariants as m
 use Rattle.std.proofs.lemmas.List.{length-map}
 use Rattle.rela_expand.specs.Bodies.{body_joined}
 use Rattle.rela_expand.specs.Expand.{symbols_in}
-use Rattle.rela_expand.specs.Numbered.{core_joined, two_parts, numbered, numbered_change, numbered_body}
+use Rattle.rela_expand.specs.Numbered.{core_joined, two_parts, marked, numbered, numbered_change, numbered_body}
 use Rattle.rela_expand.specs.Numbering.{Numbering, Step}
 use Rattle.rela_expand.specs.Places.{Place}
 use Rattle.rela_expand.specs.Measures.{weight_of, weight_of_modifier}
@@ -26,6 +26,10 @@ replace_large place p q n large =
     omega arith
 
 pub ruleset modifier_steps = (replace_large)
+
+pub any_numbered : (place : Place) (p : Shape) (c : Modifier Shape) (n after : Numbering) (path : Expr) → c ≡ m.AnyOf p
+    → numbered place p n ≡ record { value = path; after = after } → numbered_change place c n ≡ marked (record { value = path; after = after })
+any_numbered place p c n after path is step = ap (λ (x : Modifier Shape). numbered_change place x n) is ∙ ap marked step
 
 pub same_markers : (place : Place) (s : Shape) (n : Numbering) → (numbered place s n).after.markers ≡ n.markers
 same_markers place Empty n = refl

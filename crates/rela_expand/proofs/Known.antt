@@ -1,5 +1,5 @@
 -- What is known of classes that were listed before stays so as the table grows.
-use Rattle.std.proofs.Common.{◌≡◌, ℕ, Bool, true, false, cond, ◌&&◌, List, [], ◌∷◌, ◌++◌, map, Option, None, Some, refl, ap, sym, subst, ◌∙◌, rules, Vec, Global}
+use Rattle.std.proofs.Common.{◌≡◌, ℕ, Bool, true, false, cond, ◌&&◌, List, [], ◌∷◌, ◌++◌, map, Some, refl, ap, sym, subst, ◌∙◌, rules, Vec, Global}
 use Rattle.std.specs.Prelude.{nat_eq}
 use Rattle.std.specs.Bool.{beq}
 use Rattle.std.specs.Cmp.{booleans_Decides}
@@ -17,10 +17,9 @@ use Rattle.rela_expand.specs.Known.{AreWritten, ArePlaced, Gives, class_of, pick
 use Rattle.rela_expand.specs.Numbered.{or_none, listing, placed, numbered}
 use Rattle.rela_expand.specs.Numbering.{Listing, Numbering, Step}
 use Rattle.rela_expand.specs.Places.{Place, in_some, located}
-use Rattle.rela_expand.specs.Shapes.{Shape, Class}
+use Rattle.rela_expand.specs.Shapes.{Shape}
 use Rattle.rela_expand.specs.Tables.{entry_of, numbering_of}
 use Rattle.rela_expand.specs.contracts.written.PickPartialEq.TheImpl.{eq-value as pick_equal}
-use Rattle.rela_translate.specs.declared.body.Expr.{Expr}
 use Rattle.rela_translate.specs.declared.body.Expr.TheVariants as x
 use Rattle.rela_expand.specs.declared.entry.Entry.{Entry}
 use Rattle.rela_expand.specs.declared.numbers.Numbers.{Numbers}

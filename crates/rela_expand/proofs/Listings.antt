@@ -7,7 +7,7 @@ use Rattle.std.specs.Ordering.{nat_cmp}
 use Rattle.std.proofs.lemmas.Bool.Decides.{nat_tests}
 use Rattle.std.proofs.lemmas.Map.Keys.{IsStrictlyIncreasing-from_sorted}
 use Rattle.rela_locations.specs.Names.{has_name}
-use Rattle.rela_locations.specs.Network.{alphabet_of, by_level, is_finer, members_of, names_at, names_by, name_of, within}
+use Rattle.rela_locations.specs.Network.{alphabet_of, is_finer, members_of, names_at, names_by, name_of, within}
 use Rattle.rela_locations.specs.Tables.{has_number}
 use Rattle.rela_locations.specs.declared.members.By.{By}
 use Rattle.rela_locations.proofs.NumberLists.{kept_rise, has_number-kept, is_kept, dedup_rises, has_number-dedup}

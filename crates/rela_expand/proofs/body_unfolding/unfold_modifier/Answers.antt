@@ -5,7 +5,8 @@ use Rattle.rela_expand.specs.Forms.{shape_at, shapes_of}
 use Rattle.rela_expand.specs.Measures.{weight_of_modifier}
 use Rattle.rela_expand.specs.Places.{Place}
 use Rattle.rela_expand.specs.Shapes.{nodes_of_shape}
-use Rattle.rela_expand.proofs.BodyUnfolding.{kept_markers}
+use Rattle.rela_expand.specs.Tables.{numbering_of}
+use Rattle.rela_expand.proofs.BodyUnfolding.{any_numbered, kept_markers}
 use Rattle.rela_expand.proofs.PathUnfolding.{room_left}
 use Rattle.rela_expand.proofs.body_unfolding.unfold_modifier.Goals as goal
 
@@ -26,3 +27,10 @@ overflow_add-numbers c =
     let same = kept_markers place (shape_at shapes c.in-AnyOf.path) c.args.numbers.now c.unfold-in-AnyOf.new.numbers c.in_ok-path-in-AnyOf.path c.in_ok-path-in-AnyOf.ensures.unfolded in
     let few = c.requires.few in
     omega arith
+
+pub returns-in_ok-path-in-AnyOf-clause-unfolded : goal.returns-in_ok-path-in-AnyOf-clause-unfolded
+returns-in_ok-path-in-AnyOf-clause-unfolded c =
+    let place : Place = record { network = c.args.locations.now; level = c.args.level } in
+    let shapes = shapes_of c.args.forms.now.forms.items in
+    any_numbered place (shape_at shapes c.in-AnyOf.path) (modifier_at shapes c.args.modifier.now) (numbering_of c.args.numbers.now) (numbering_of c.unfold-in-AnyOf.new.numbers)
+    c.in_ok-path-in-AnyOf.path (ap (modifier_at shapes) c.in-AnyOf.is) c.in_ok-path-in-AnyOf.ensures.unfolded

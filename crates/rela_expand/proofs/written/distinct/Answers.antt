@@ -1,4 +1,4 @@
-use Rattle.std.proofs.Common.{◌≡◌, Bool, ◌||◌, List, ℕ, map, ap, ap₂, sym, ◌∙◌}
+use Rattle.std.proofs.Common.{Bool, ◌||◌, List, ℕ, map, ap, ap₂, sym, ◌∙◌}
 use Rattle.std.specs.List.{list_any}
 use Rattle.std.proofs.lemmas.List.{take_all}
 use Rattle.rela_locations.specs.Tables.{has_number}

@@ -1,8 +1,9 @@
-use Rattle.std.proofs.Common.{rules, ◌≡◌, ◌∷◌, [], arith}
+use Rattle.std.proofs.Common.{rules, ◌≡◌, ◌∷◌, [], arith, sym}
 use Rattle.std.proofs.lemmas.Grind.{common_steps}
 use Rattle.rela_print.specs.Printed.{within}
 use Rattle.rela_print.specs.SpecTexts.{printed_spec}
 use Rattle.rela_print.proofs.JoinedTexts.{row_is_whole, row_goes_on, row_begins, row_is_empty}
+use Rattle.rela_print.proofs.PrintedSpecs.{spec_else}
 use Rattle.rela_print.proofs.specs.+push_spec.Goals as goal
 
 pub push_parts-returns-in_default : goal.push_parts-returns-in_default
@@ -25,3 +26,6 @@ push_parts-returns t c =
     row_is_whole c.args.between.now (λ part. within c.args.above (printed_spec part)) c.args.out.now.items c.push_part.new.out.items c.loop-part.out.items
     c.in-Some.first.now c.in-Some.others.now c.args.parts.now c.loop-part.part-index all c.loop-part-test.false
     (c.in_ok-push_part.ensures {u = tt}) c.loop-part.invariant
+
+pub push_spec-returns-in-Else : goal.push_spec-returns-in-Else
+push_spec-returns-in-Else t c = rw (c.in-Else.is, spec_else c.in-Else.parts, sym c.as_slice-in-Else.ensures) c.push_parts-in-Else.ensures
