@@ -20,7 +20,7 @@ use std::alloc::Global;
 const DEFAULT_CLASS: &[u8] = b"default";
 
 /// The family of an address.
-#[derive(Clone, Copy, PartialEq, Eq, Debug)]
+#[derive(Clone, Copy)]
 pub(crate) enum Family {
     Ipv4,
     Ipv6,

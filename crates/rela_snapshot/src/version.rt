@@ -7,14 +7,14 @@ use rela_json::LoadError;
 
 /// A version of the format. The first names nodes by their places in the flow's list and holds IPv4
 /// alone; the second names them by ids of their own, and holds IPv6 too.
-#[derive(Clone, Copy, PartialEq, Eq, Debug)]
+#[derive(Clone, Copy)]
 pub(crate) enum Version {
     One,
     Two,
 }
 
 /// The numbers of the rules for the parts of a flow that both versions have.
-#[derive(Clone, Copy, PartialEq, Eq, Debug)]
+#[derive(Clone, Copy)]
 pub(crate) struct FlowRules {
     pub(crate) flow: u8,
     pub(crate) name: u8,
