@@ -11,7 +11,7 @@ use crate::name_table::NameTable;
 use crate::snapshot::MAX_FLOWS;
 use crate::version::{FlowRules, Version, flow_rules};
 use rela_flows::Prefix;
-use rela_json::{LoadError, Value, part, string};
+use rela_json::{LoadError, Value};
 use rela_names::{Name, NameError};
 use std::alloc::Global;
 
@@ -19,7 +19,7 @@ use std::alloc::Global;
 const DEFAULT_CLASS: &[u8] = b"default";
 
 /// The family of an address or a prefix.
-#[derive(Clone, Copy, PartialEq, Eq, Debug)]
+#[derive(Clone, Copy)]
 pub(crate) enum Family {
     /// Addresses of 32 bits.
     Ipv4,

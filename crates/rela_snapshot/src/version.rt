@@ -7,7 +7,7 @@ use rela_json::LoadError;
 
 /// A version of the format. The first names nodes by their indexes in the flow's list and holds
 /// IPv4 alone; the second names them by ids of their own, and holds IPv6 too.
-#[derive(Clone, Copy, PartialEq, Eq, Debug)]
+#[derive(Clone, Copy)]
 pub(crate) enum Version {
     /// The format with the number 1.
     One,
@@ -16,7 +16,7 @@ pub(crate) enum Version {
 }
 
 /// The numbers of the rules for the parts of a flow that both versions have.
-#[derive(Clone, Copy, PartialEq, Eq, Debug)]
+#[derive(Clone, Copy)]
 pub(crate) struct FlowRules {
     /// That a flow is an object.
     pub(crate) flow: u8,
