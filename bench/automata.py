@@ -70,9 +70,8 @@ fn sizes<L: LabelSet>(alloc: Global, size: u32, distance: usize) -> Result<(usiz
     let all: L = letters_below(alloc, size, size)?;
     let nfa = words(alloc, &all, distance)?;
     let dfa = determinise(alloc, &nfa, &all, usize::MAX)?;
-    let states = dfa.states();
-    let least = minimise(alloc, dfa)?;
-    Ok((states, least.states()))
+    let least = minimise(alloc, &dfa)?;
+    Ok((dfa.states(), least.states()))
 }
 
 fn number(word: Option<String>) -> usize {

@@ -14,7 +14,7 @@ use std::alloc::{AllocError, Global};
 /// All words but those of the automaton, minimal.
 fn minimal_others(alloc: Global, dfa: Dfa<Letters>) -> Result<Dfa<Letters>, AllocError> {
     let others = dfa.into_complement(alloc)?;
-    minimise(alloc, others)
+    minimise(alloc, &others)
 }
 
 /// Whether it has a state for the empty word, one for letter 0 alone and one for all other words, and
@@ -56,7 +56,7 @@ fn all_words_but_one_letter(rt: HostRuntime) {
 }
 
 /// Whether the minimal automaton has four states, and two edges from where it starts.
-fn has_four_states(alloc: Global, dfa: Dfa<Letters>) -> bool {
+fn has_four_states(alloc: Global, dfa: &Dfa<Letters>) -> bool {
     match minimise(alloc, dfa) {
         Ok(made) => made.states() == 4 && made.edges(0).len() == 2,
         Err(_) => false,
@@ -68,7 +68,7 @@ fn are_merged(alloc: Global, words: &Table) -> bool
     requires { words.now.letters ≡ 3 }
 {
     match determinised(alloc, words, &[0, 1, 2], 10) {
-        Ok(dfa) => dfa.states() > 4 && has_four_states(alloc, dfa),
+        Ok(dfa) => dfa.states() > 4 && has_four_states(alloc, &dfa),
         Err(_) => false,
     }
 }
@@ -138,7 +138,7 @@ fn many_letters_determinised(alloc: Global, all: &WideSet) -> Result<Dfa<WideSet
 }
 
 /// Whether the minimal automaton has 64 states.
-fn has_64_states(alloc: Global, dfa: Dfa<WideSet>) -> bool {
+fn has_64_states(alloc: Global, dfa: &Dfa<WideSet>) -> bool {
     match minimise(alloc, dfa) {
         Ok(made) => made.states() == 64,
         Err(_) => false,
@@ -150,7 +150,7 @@ fn are_of_two_kinds(alloc: Global, all: &WideSet) -> bool
     requires { length all.now ≡ 300 }
 {
     match many_letters_determinised(alloc, all) {
-        Ok(dfa) => dfa.states() > 64 && has_64_states(alloc, dfa),
+        Ok(dfa) => dfa.states() > 64 && has_64_states(alloc, &dfa),
         Err(_) => false,
     }
 }

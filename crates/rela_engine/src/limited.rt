@@ -9,7 +9,7 @@ ghost use Rattle.rela_engine.specs.Telling.{TellsWords};
 
 use rela_build::{Answer, Complements};
 use rela_labels::WideSet;
-use rela_minimise::minimise;
+use rela_minimise::into_minimal;
 use rela_nfa::{BuildError, Nfa};
 use rela_reduce::reduce;
 use rela_subset::{Dfa, determinise};
@@ -128,6 +128,6 @@ fn least_by_sets(
     ensures past { IfErr result (λ e. e ≡ BuildError.Limit → ReachSets a.now over.now (limit + 1)) }
 {
     let sets = determinise(alloc, a, over, limit)?;
-    let least = minimise(alloc, sets)?;
+    let least = into_minimal(alloc, sets)?;
     Ok(least)
 }

@@ -14,4 +14,4 @@ mod refining;
 mod signature;
 mod signatures;
 
-pub use minimising::minimise;
+pub use minimising::{into_minimal, minimise};

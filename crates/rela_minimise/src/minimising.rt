@@ -12,11 +12,29 @@ use std::alloc::{AllocError, Global};
 /// The automaton over the same letters with the fewest states that accepts the same words. Each of
 /// its states is reached, no two of them accept the same words, and they are numbered as words first
 /// arrive at them, in shortlex order: so it is the same for all automata of one language. A word
-/// leads to a state that follows from its continuations alone (J. Myhill and A. Nerode, 1958). The
-/// given one is let go as soon as its classes have edges of their own.
+/// leads to a state that follows from its continuations alone (J. Myhill and A. Nerode, 1958). What
+/// it does is done by [`into_minimal`], on a copy.
 ///
 /// Memory is the only error.
-pub fn minimise<L: LabelSet>(alloc: Global, dfa: Dfa<L>) -> Result<Dfa<L>, AllocError>
+pub fn minimise<L: LabelSet>(alloc: Global, dfa: &Dfa<L>) -> Result<Dfa<L>, AllocError>
+    ensures over { IfOk result (λ made. made.over ≡ dfa.now.over) }
+    ensures start { IfOk result (λ made. made.start ≡ 0) }
+    ensures language { IfOk result (λ made. (word : List ℕ) → IsAccepted made word ↔ IsAccepted dfa.now word) }
+    ensures reachable { IfOk result IsReachable }
+    ensures minimal { IfOk result IsMinimal }
+    ensures arrival { IfOk result IsByArrival }
+    ensures classes { IfOk result (λ made. (v w : List ℕ) → IsOver dfa.now.over v → IsOver dfa.now.over w
+        → (state_after made v ≡ state_after made w) ↔ AreAlike dfa.now v w) }
+{
+    let copy = dfa.copy(alloc)?;
+    into_minimal(alloc, copy)
+}
+
+/// The automaton that [`minimise`] gives, in place of the given one, which is let go as soon as its
+/// classes have edges of their own.
+///
+/// Memory is the only error.
+pub fn into_minimal<L: LabelSet>(alloc: Global, dfa: Dfa<L>) -> Result<Dfa<L>, AllocError>
     ensures over { IfOk result (λ made. made.over ≡ dfa.over) }
     ensures start { IfOk result (λ made. made.start ≡ 0) }
     ensures language { IfOk result (λ made. (word : List ℕ) → IsAccepted made word ↔ IsAccepted dfa word) }

@@ -11,7 +11,7 @@ use crate::name_table::NameTable;
 use crate::snapshot::MAX_FLOWS;
 use crate::version::{FlowRules, Version, flow_rules};
 use rela_flows::Prefix;
-use rela_json::{LoadError, Value};
+use rela_json::{LoadError, Value, part, string};
 use rela_names::{Name, NameError};
 use std::alloc::Global;
 

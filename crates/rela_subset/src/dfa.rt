@@ -134,7 +134,7 @@ impl<L: LabelSet> Dfa<L> {
 
     /// A copy of the automaton. Time and space: linear in the states and the edges, whose labels
     /// are copied.
-    pub(crate) fn copy(&self, alloc: Global) -> Result<Dfa<L>, AllocError>
+    pub fn copy(&self, alloc: Global) -> Result<Dfa<L>, AllocError>
         ensures { IfOk result (λ dfa. dfa ≡ self.now) }
     {
         let over = self.over.copy(alloc)?;

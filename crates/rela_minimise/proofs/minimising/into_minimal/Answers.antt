@@ -1,7 +1,7 @@
 use Rattle.std.proofs.Common.{◌∙◌, sym, subst}
 use Rattle.rela_subset.specs.Deterministic.{IsOver}
 use Rattle.rela_minimise.proofs.Minimal.{made_minimal, word_classes}
-use Rattle.rela_minimise.proofs.minimising.minimise.Goals as goal
+use Rattle.rela_minimise.proofs.minimising.into_minimal.Goals as goal
 
 pub returns-in-Ok-clause-language : goal.returns-in-Ok-clause-language
 returns-in-Ok-clause-language g c = λ word. (
