@@ -1,298 +1,252 @@
-//! Runs over files and sinks in memory, with the answers of a small network.
+//! Words, limits and faults of whole runs.
 
-use rela_io::{MemoryFile, MemoryFiles, MemorySink};
-use rela_top::{BAD_WORDS, MET, READ_FAULT, REFUSED, UNDECIDED, VIOLATED, WRITE_FAULT, run};
+use crate::cases::{CHECK, Case, Faults, Run, Text, hold, holds_with};
+use crate::network::{KEEP, LOCATIONS, OVER_R2, OVER_R3};
+use rela_top::{BAD_WORDS, MET, READ_FAULT, UNDECIDED, VIOLATED, WRITE_FAULT};
 use std::alloc::{AllocError, Global};
-use std::test::Fail;
+use std::process::Abort;
 
-pub(crate) const LOCATIONS: &str =
-    r#"{"version":1,"groups":[{"name":"core","devices":[{"name":"r2","interfaces":["r2:0"]},{"name":"r3","interfaces":["r3:0"]}]},{"name":"edge","devices":[{"name":"r1","tags":["border"],"interfaces":["r1:0"]},{"name":"r4","interfaces":["r4:0","r4:1"]}]}]}"#;
+/// A flow that stays as it is.
+const KEPT: &[(&str, Text)] = &[
+    ("before", OVER_R2),
+    ("after", OVER_R2),
+    ("locations", LOCATIONS),
+    ("spec", KEEP),
+];
 
-const OVER_R2: &str =
-    r#"{"version":1,"flows":[{"name":"f1","dst":"10.0.0.0/24","nodes":["r1:0","r2:0","r4:0","r4:1"],"edges":[[0,1],[1,2],[2,3]],"starts":[0],"delivered":[3]}]}"#;
+const COMPLIANT: Text = &[
+    "flow f1 check c1 compliant\n",
+    "total 1 compliant 1 violated 0 undecided 0 unselected 0\n",
+];
 
-const OVER_R3: &str =
-    r#"{"version":1,"flows":[{"name":"f1","dst":"10.0.0.0/24","nodes":["r1:0","r3:0","r4:0","r4:1"],"edges":[[0,1],[1,2],[2,3]],"starts":[0],"delivered":[3]}]}"#;
-
-const KEEP: &str = "check c1 : { r1:0 r2:0 r4:0 r4:1 : preserve };";
-
-const COMPLIANT: &str =
-    "flow f1 check c1 compliant\ntotal 1 compliant 1 violated 0 undecided 0 unselected 0\n";
-
-/// A check of the words whose eleventh symbol from the end isn't r1. These tell 2,048 words apart by
-/// how they may go on.
-const COMPLEMENT: &str = "level device; check c1 : { !(.* r1 .{10}) : preserve };";
-
-const OPEN: &str =
-    "flow f1 check c1 undecided\ntotal 1 compliant 0 violated 0 undecided 1 unselected 0\n";
-
-const UNREAD: &str = "rela: bad command line\n";
-
-const LOST: &str =
-    "flow f1 check c1 violated\n  missing: r1:0 r2:0 r4:0 r4:1\n  before: r1:0 r2:0 r4:0 r4:1\ntotal 1 compliant 0 violated 1 undecided 0 unselected 0\n";
-
-const LOST_DEVICES: &str =
-    "flow f1 check c1 violated\n  missing: r1 r2 r4\n  before: r1 r2 r4\ntotal 1 compliant 0 violated 1 undecided 0 unselected 0\n";
-
-pub(crate) fn strings(alloc: Global, texts: &[&str]) -> Result<Vec<String>, AllocError> {
-    let mut strings = Vec::new(alloc);
-    for text in texts {
-        strings.push(String::from_str(alloc, text)?)?;
-    }
-    Ok(strings)
-}
-
-pub(crate) fn file(alloc: Global, name: &str, text: &str) -> Result<MemoryFile, AllocError> {
-    Ok(MemoryFile {
-        name: String::from_str(alloc, name)?,
-        bytes: Vec::from_slice(alloc, text.as_bytes())?,
-    })
-}
-
-// The files `before`, `after`, `locations` and `spec`.
-fn files(alloc: Global, after: &str, spec: &str) -> Result<Vec<MemoryFile>, AllocError> {
-    Ok(vec![in alloc;
-        file(alloc, "before", OVER_R2)?,
-        file(alloc, "after", after)?,
-        file(alloc, "locations", LOCATIONS)?,
-        file(alloc, "spec", spec)?,
-    ]?)
-}
-
-pub(crate) fn check_words(alloc: Global) -> Result<Vec<String>, AllocError> {
-    strings(alloc, &["check", "before", "after", "locations", "spec"])
+#[test]
+fn a_failed_read_writes_nothing(rt: HostRuntime) -> Result<(), AllocError> {
+    let faults = Faults {
+        reads: &[3],
+        writes: &[],
+    };
+    let run = Run {
+        words: CHECK,
+        files: KEPT,
+        status: READ_FAULT,
+        text: &[],
+    };
+    holds_with(&rt, rt.alloc(), &faults, &run, 0)
 }
 
 #[test]
-fn answers_for_paths_kept_and_lost(rt: HostRuntime) -> Result<(), Fail> {
-    let alloc = rt.alloc();
-    for (after, status, text) in [(OVER_R2, MET, COMPLIANT), (OVER_R3, VIOLATED, LOST)] {
-        let mut files = MemoryFiles::new(files(alloc, after, KEEP)?, Vec::new(alloc), 1_000_000);
-        let mut out = MemorySink::new(alloc, 1_000, Vec::new(alloc), 1_000)?;
-        let words = check_words(alloc)?;
-        assert_eq!(rt; run(alloc, &words, &mut files, &mut out), status);
-        assert_eq!(rt; out.taken(), text.as_bytes());
-    }
-    Ok(())
+fn a_failed_write_ends_the_text(rt: HostRuntime) -> Result<(), AllocError> {
+    let faults = Faults {
+        reads: &[],
+        writes: &[2],
+    };
+    let run = Run {
+        words: CHECK,
+        files: KEPT,
+        status: WRITE_FAULT,
+        text: &["flo"],
+    };
+    holds_with(&rt, rt.alloc(), &faults, &run, 0)
 }
+
+/// A file that isn't there.
+const MISSING: &[Run<'static>] = &[
+    Run {
+        words: &["check", "before", "nowhere", "locations", "spec"],
+        files: KEPT,
+        status: READ_FAULT,
+        text: &[],
+    },
+    Run {
+        words: &["fmt", "nowhere"],
+        files: KEPT,
+        status: READ_FAULT,
+        text: &[],
+    },
+    Run {
+        words: &["fib", "nowhere", "other", "locations"],
+        files: KEPT,
+        status: READ_FAULT,
+        text: &[],
+    },
+];
 
 #[test]
-fn answers_for_paths_of_devices(rt: HostRuntime) -> Result<(), Fail> {
-    let alloc = rt.alloc();
-    let spec = "level device;\npath core = device(r2);\ncheck c1 : { (r1 $core) r4 : preserve };";
-    for (after, status, text) in [(OVER_R2, MET, COMPLIANT), (OVER_R3, VIOLATED, LOST_DEVICES)] {
-        let mut files = MemoryFiles::new(files(alloc, after, spec)?, Vec::new(alloc), 1_000_000);
-        let mut out = MemorySink::new(alloc, 1_000, Vec::new(alloc), 1_000)?;
-        let words = check_words(alloc)?;
-        assert_eq!(rt; run(alloc, &words, &mut files, &mut out), status);
-        assert_eq!(rt; out.taken(), text.as_bytes());
-    }
-    Ok(())
+fn a_missing_file_writes_nothing(rt: HostRuntime) -> Result<(), AllocError> {
+    hold(&rt, rt.alloc(), MISSING)
 }
 
-#[test]
-fn a_failed_read_writes_nothing(rt: HostRuntime) -> Result<(), Fail> {
-    let alloc = rt.alloc();
-    let mut files = MemoryFiles::new(files(alloc, OVER_R2, KEEP)?, vec![in alloc; 3]?, 8);
-    let mut out = MemorySink::new(alloc, 1_000, Vec::new(alloc), 1_000)?;
-    let words = check_words(alloc)?;
-    assert_eq!(rt; run(alloc, &words, &mut files, &mut out), READ_FAULT);
-    assert!(rt; out.taken().is_empty());
-    Ok(())
-}
-
-#[test]
-fn a_failed_write_ends_the_text(rt: HostRuntime) -> Result<(), Fail> {
-    let alloc = rt.alloc();
-    let mut files = MemoryFiles::new(files(alloc, OVER_R2, KEEP)?, Vec::new(alloc), 8);
-    let mut out = MemorySink::new(alloc, 1_000, vec![in alloc; 2]?, 3)?;
-    let words = check_words(alloc)?;
-    assert_eq!(rt; run(alloc, &words, &mut files, &mut out), WRITE_FAULT);
-    assert_eq!(rt; out.taken(), b"flo".as_slice());
-    Ok(())
-}
-
-#[test]
-fn refuses_what_it_cannot_take(rt: HostRuntime) -> Result<(), Fail> {
-    let alloc = rt.alloc();
-    for (after, spec, line) in [
-        (
-            OVER_R2,
-            "check c1 : { r1:0 r9:0 : preserve };",
-            "refused spec 17 UnknownLocation at 18\n",
-        ),
-        (OVER_R2, "check c1 % ;", "refused spec 31 BadToken at 9\n"),
-        (
-            OVER_R2,
-            "check c1 : { $p : preserve };",
-            "refused spec 33 UnknownName at 13\n",
-        ),
-        (
-            OVER_R2,
-            "path p = r1:0; path p = r2:0; check c1 : { $p : preserve };",
-            "refused spec 34 RepeatedName at 20\n",
-        ),
-        (
-            OVER_R2,
-            "level group; check c1 : { device(r1) : preserve };",
-            "refused spec 38 FinerLevel at 33\n",
-        ),
-        (
-            OVER_R2,
-            "path p = (.{64}){64}; check c1 : { $p $p $p : preserve };",
-            "refused spec 36 TooLarge at 28\n",
-        ),
-        (
-            OVER_R2,
-            "check c1 : { .* : preserve ;",
-            "refused spec 32 Syntax at 27\n",
-        ),
-        (
-            OVER_R2,
-            "check c1 : { .{65} : preserve };",
-            "refused spec 37 BadNumber at 15\n",
-        ),
-        ("{", "check c1 % ;", "refused after 11 NotJson\n"),
-    ] {
-        let mut files = MemoryFiles::new(files(alloc, after, spec)?, Vec::new(alloc), 1_000_000);
-        let mut out = MemorySink::new(alloc, 1_000, Vec::new(alloc), 1_000)?;
-        let words = check_words(alloc)?;
-        assert_eq!(rt; run(alloc, &words, &mut files, &mut out), REFUSED, "{spec}");
-        assert_eq!(rt; out.taken(), line.as_bytes());
-    }
-    Ok(())
-}
-
-#[test]
-fn writes_the_canonical_text(rt: HostRuntime) -> Result<(), Fail> {
-    let alloc = rt.alloc();
-    let spec = "check atmost c : { (.) : ignore(a) }; # as it is read";
-    let text = "level interface;\ncheck atmost c : { . : ignore(a) };\n";
-    let mut files = MemoryFiles::new(files(alloc, OVER_R2, spec)?, Vec::new(alloc), 1_000_000);
-    let mut out = MemorySink::new(alloc, 1_000, Vec::new(alloc), 1_000)?;
-    let words = strings(alloc, &["fmt", "spec"])?;
-    assert_eq!(rt; run(alloc, &words, &mut files, &mut out), MET);
-    assert_eq!(rt; out.taken(), text.as_bytes());
-    Ok(())
-}
-
-// The status and the text of a check of a flow that stays as it is, for these words.
-fn answer_to(alloc: Global, words: &[&str], spec: &str) -> Result<(u8, MemorySink), AllocError> {
-    let mut files = MemoryFiles::new(files(alloc, OVER_R2, spec)?, Vec::new(alloc), 1_000_000);
-    let mut out = MemorySink::new(alloc, 1_000, Vec::new(alloc), 1_000)?;
-    let words = strings(alloc, words)?;
-    let status = run(alloc, &words, &mut files, &mut out);
-    Ok((status, out))
-}
-
-#[test]
-fn keeps_to_the_limit(rt: HostRuntime) -> Result<(), Fail> {
-    let alloc = rt.alloc();
-    for (words, spec, wanted, text) in [
-        (
-            [
-                "check",
-                "--states",
-                "10",
-                "before",
-                "after",
-                "locations",
-                "spec",
-            ]
-            .as_slice(),
-            KEEP,
-            MET,
-            COMPLIANT,
-        ),
-        (
-            [
-                "check",
-                "before",
-                "after",
-                "locations",
-                "spec",
-                "--states=5",
-            ]
-            .as_slice(),
-            KEEP,
-            MET,
-            COMPLIANT,
-        ),
-        (
-            [
-                "check",
-                "before",
-                "--states=1000",
-                "after",
-                "--",
-                "locations",
-                "spec",
-            ]
-            .as_slice(),
-            COMPLEMENT,
-            UNDECIDED,
-            OPEN,
-        ),
-    ] {
-        let (status, out) = answer_to(alloc, words, spec)?;
-        assert_eq!(rt; out.taken(), text.as_bytes());
-        assert_eq!(rt; status, wanted);
-    }
-    Ok(())
-}
-
-#[test]
-fn refuses_words(rt: HostRuntime) -> Result<(), Fail> {
-    let alloc = rt.alloc();
-    for words in [
-        ["frob"].as_slice(),
-        ["check", "before", "after", "locations"].as_slice(),
-        [
+/// The words of a limit.
+const LIMITED: &[Run<'static>] = &[
+    Run {
+        words: &[
             "check",
             "--states",
-            "0",
+            "10",
             "before",
             "after",
             "locations",
             "spec",
-        ]
-        .as_slice(),
-        [
+        ],
+        files: KEPT,
+        status: MET,
+        text: COMPLIANT,
+    },
+    Run {
+        words: &[
             "check",
-            "--states=4000001",
-            "before",
-            "after",
-            "locations",
-            "spec",
-        ]
-        .as_slice(),
-        [
-            "check",
-            "--states=05",
-            "before",
-            "after",
-            "locations",
-            "spec",
-        ]
-        .as_slice(),
-        [
-            "check",
-            "--states=5",
             "before",
             "after",
             "locations",
             "spec",
             "--states=5",
-        ]
-        .as_slice(),
-        ["check", "before", "after", "locations", "spec", "--states"].as_slice(),
-        ["check", "before", "after", "locations", "-spec"].as_slice(),
-        ["fmt", "--states=5", "spec"].as_slice(),
-        ["fib", "--states=5", "tables", "other", "locations"].as_slice(),
-    ] {
-        let (status, out) = answer_to(alloc, words, KEEP)?;
-        assert_eq!(rt; out.taken(), UNREAD.as_bytes());
-        assert_eq!(rt; status, BAD_WORDS);
+        ],
+        files: KEPT,
+        status: MET,
+        text: COMPLIANT,
+    },
+    // The words whose eleventh symbol from the end isn't r1. These tell 2,048 words apart by how they may
+    // go on.
+    Run {
+        words: &[
+            "check",
+            "before",
+            "--states=1000",
+            "after",
+            "--",
+            "locations",
+            "spec",
+        ],
+        files: &[
+            ("before", OVER_R2),
+            ("after", OVER_R2),
+            ("locations", LOCATIONS),
+            (
+                "spec",
+                &["level device; check c1 : { !(.* r1 .{10}) : preserve };"],
+            ),
+        ],
+        status: UNDECIDED,
+        text: &[
+            "flow f1 check c1 undecided\n",
+            "total 1 compliant 0 violated 0 undecided 1 unselected 0\n",
+        ],
+    },
+    // What is violated counts more than what is open.
+    Run {
+        words: &[
+            "check",
+            "--states=1000",
+            "before",
+            "after",
+            "locations",
+            "spec",
+        ],
+        files: &[
+            ("before", OVER_R2),
+            ("after", OVER_R3),
+            ("locations", LOCATIONS),
+            (
+                "spec",
+                &[
+                    "level device;",
+                    "check keep : { .* : preserve };",
+                    "check open : { !(.* r1 .{10}) : preserve };",
+                ],
+            ),
+        ],
+        status: VIOLATED,
+        text: &[
+            "flow f1 check keep violated\n  missing: r1 r2 r4\n  before: r1 r2 r4\n",
+            "flow f1 check open undecided\n",
+            "total 2 compliant 0 violated 1 undecided 1 unselected 0\n",
+        ],
+    },
+];
+
+#[test]
+fn keeps_to_the_limit(rt: HostRuntime) -> Result<(), AllocError> {
+    hold(&rt, rt.alloc(), LIMITED)
+}
+
+/// Words that ask for nothing.
+struct Unread(Text);
+
+impl Case for Unread {
+    fn holds(&self, rt: &impl Abort, alloc: Global, place: usize) -> Result<(), AllocError> {
+        let run = Run {
+            words: self.0,
+            files: KEPT,
+            status: BAD_WORDS,
+            text: &["rela: bad command line\n"],
+        };
+        run.holds(rt, alloc, place)
     }
-    Ok(())
+}
+
+const UNREAD: &[Unread] = &[
+    Unread(&["frob"]),
+    Unread(&["check", "before", "after", "locations"]),
+    Unread(&[
+        "check",
+        "--states",
+        "0",
+        "before",
+        "after",
+        "locations",
+        "spec",
+    ]),
+    Unread(&[
+        "check",
+        "--states=4000001",
+        "before",
+        "after",
+        "locations",
+        "spec",
+    ]),
+    Unread(&[
+        "check",
+        "--states=05",
+        "before",
+        "after",
+        "locations",
+        "spec",
+    ]),
+    Unread(&[
+        "check",
+        "--states=5",
+        "before",
+        "after",
+        "locations",
+        "spec",
+        "--states=5",
+    ]),
+    Unread(&["check", "before", "after", "locations", "spec", "--states"]),
+    Unread(&["check", "before", "after", "locations", "-spec"]),
+    Unread(&[]),
+    Unread(&["fmt"]),
+    Unread(&["fmt", "spec", "spec"]),
+    Unread(&["fmt", "--states=5", "spec"]),
+    Unread(&["fib", "tables", "other"]),
+    Unread(&["fib", "--states=5", "tables", "other", "locations"]),
+];
+
+#[test]
+fn refuses_words(rt: HostRuntime) -> Result<(), AllocError> {
+    hold(&rt, rt.alloc(), UNREAD)
+}
+
+const CANONICAL: &[Run<'static>] = &[Run {
+    words: &["fmt", "spec"],
+    files: &[(
+        "spec",
+        &["check atmost c : { (.) : ignore(a) }; # as it is read"],
+    )],
+    status: MET,
+    text: &["level interface;\ncheck atmost c : { . : ignore(a) };\n"],
+}];
+
+#[test]
+fn writes_the_canonical_text(rt: HostRuntime) -> Result<(), AllocError> {
+    hold(&rt, rt.alloc(), CANONICAL)
 }
