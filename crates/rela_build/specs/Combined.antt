@@ -14,22 +14,26 @@ module _ (exactly : Type 0) (l : Lettering) (paths : Paths) where
   FromOne F a u = (x : PathTerm) → IsMade exactly l paths x a → IsMade exactly l paths (F x) u
 
   abbrev pub FromTwo : (PathTerm → PathTerm → PathTerm) → Automaton → Automaton → Automaton → Type 0
-  FromTwo F a b u = (x y : PathTerm) → IsMade exactly l paths x a → IsMade exactly l paths y b → IsMade exactly l paths (F x y) u
+  FromTwo F a b u = (x y : PathTerm) → IsMade exactly l paths x a → IsMade exactly l paths y b →
+      IsMade exactly l paths (F x y) u
 
   -- an automaton by that of a path term and the transducer of a relation term
   abbrev pub FromBoth : (PathTerm → RelTerm → PathTerm) → Automaton → Machine → Automaton → Type 0
-  FromBoth F a t u = (x : PathTerm) (r : RelTerm) → IsMade exactly l paths x a → IsMadeR exactly l paths r t → IsMade exactly l paths (F x r) u
+  FromBoth F a t u = (x : PathTerm) (r : RelTerm) → IsMade exactly l paths x a →
+      IsMadeR exactly l paths r t → IsMade exactly l paths (F x r) u
 
   -- a transducer by the automaton of one path term, or those of two
   abbrev pub FromWords : (PathTerm → RelTerm) → Automaton → Machine → Type 0
   FromWords F a u = (x : PathTerm) → IsMade exactly l paths x a → IsMadeR exactly l paths (F x) u
 
   abbrev pub FromSides : (PathTerm → PathTerm → RelTerm) → Automaton → Automaton → Machine → Type 0
-  FromSides F a b u = (x y : PathTerm) → IsMade exactly l paths x a → IsMade exactly l paths y b → IsMadeR exactly l paths (F x y) u
+  FromSides F a b u = (x y : PathTerm) → IsMade exactly l paths x a → IsMade exactly l paths y b →
+      IsMadeR exactly l paths (F x y) u
 
   -- a transducer by that of one relation term, or those of two
   abbrev pub FromOneR : (RelTerm → RelTerm) → Machine → Machine → Type 0
   FromOneR F t u = (r : RelTerm) → IsMadeR exactly l paths r t → IsMadeR exactly l paths (F r) u
 
   abbrev pub FromTwoR : (RelTerm → RelTerm → RelTerm) → Machine → Machine → Machine → Type 0
-  FromTwoR F s t u = (q r : RelTerm) → IsMadeR exactly l paths q s → IsMadeR exactly l paths r t → IsMadeR exactly l paths (F q r) u
+  FromTwoR F s t u = (q r : RelTerm) → IsMadeR exactly l paths q s → IsMadeR exactly l paths r t →
+      IsMadeR exactly l paths (F q r) u

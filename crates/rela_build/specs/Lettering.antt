@@ -22,8 +22,10 @@ AreListedAlike classes s t = All (λ set. Contains set.members s ↔ Contains se
 pub record AreLetterBlocks (l : Lettering) : Type 0 where
   pub symbols : length l.blocks ≡ l.path_symbols + l.markers
   pub partition : IsPartition l.blocks
-  pub of_path : (s t : ℕ) → s < length l.blocks → t < length l.blocks → Together l.blocks s t → s < l.path_symbols → t < l.path_symbols
-  pub of_classes : (s t : ℕ) → s < length l.blocks → t < length l.blocks → Together l.blocks s t → AreListedAlike l.classes s t
+  pub of_path : (s t : ℕ) → s < length l.blocks → t < length l.blocks → Together l.blocks s t →
+      s < l.path_symbols → t < l.path_symbols
+  pub of_classes : (s t : ℕ) → s < length l.blocks → t < length l.blocks → Together l.blocks s t →
+      AreListedAlike l.classes s t
 
 -- the symbol is a block of its own
 pub record IsAlone (blocks : List ℕ) (s : ℕ) : Type 0 where
@@ -32,14 +34,16 @@ pub record IsAlone (blocks : List ℕ) (s : ℕ) : Type 0 where
 
 -- the symbol is in the entry k of the class table
 abbrev pub IsInEntry : Lettering → ℕ → ℕ → Type 0
-IsInEntry l k s = (set : SymbolSet) × (slice_get l.classes k ≡ Some set) × HasSymbol l.path_symbols set s
+IsInEntry l k s = (set : SymbolSet) × (slice_get l.classes k ≡ Some set)
+    × HasSymbol l.path_symbols set s
 
 -- the letters of the path symbols, and those of each class
 pub record AreLetters (l : Lettering) (path : List Bool) (classes : List (List Bool)) : Type 0 where
   pub blocks : AreLetterBlocks l
   pub of_path : HoldsJust l.blocks (λ s. s < l.path_symbols) path
   pub count : length classes ≡ length l.classes
-  pub each : (k : ℕ) (set : List Bool) → slice_get classes k ≡ Some set → HoldsJust l.blocks (IsInEntry l k) set
+  pub each : (k : ℕ) (set : List Bool) → slice_get classes k ≡ Some set →
+      HoldsJust l.blocks (IsInEntry l k) set
 
 -- the block has one of the members
 abbrev pub HasMember : List ℕ → List ℕ → ℕ → Type 0
@@ -48,9 +52,11 @@ HasMember blocks members k = (s : ℕ) × Contains members s × (block_of blocks
 -- the block has a member of the class, or, where the class is negated, it is of path symbols and has none
 abbrev pub IsClassLetter : List ℕ → List Bool → SymbolSet → ℕ → Type 0
 IsClassLetter blocks path class k =
-    MatchBool class.negated ((has path k ≡ true) × (¬ HasMember blocks class.members k)) (HasMember blocks class.members k)
+    MatchBool class.negated ((has path k ≡ true) × (¬ HasMember blocks class.members k))
+    (HasMember blocks class.members k)
 
 -- the letters of the class, where those of the path symbols are given
-pub record AreClassLetters (blocks : List ℕ) (path : List Bool) (class : SymbolSet) (set : List Bool) : Type 0 where
+pub record AreClassLetters (blocks : List ℕ) (path : List Bool) (class : SymbolSet)
+    (set : List Bool) : Type 0 where
   pub size : length set ≡ block_count blocks
   pub letters : (k : ℕ) → (has set k ≡ true) ↔ IsClassLetter blocks path class k

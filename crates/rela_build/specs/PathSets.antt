@@ -22,7 +22,12 @@ no_paths = record {
 -- what terms are read in: the class table and the symbols of the letters, and the two path sets
 abbrev pub scene_of : Lettering → Paths → Scene
 scene_of l paths = record {
-  setting = record { classes = l.classes; path_symbols = l.path_symbols; pre = paths.pre; post = paths.post };
+  setting = record {
+    classes = l.classes;
+    path_symbols = l.path_symbols;
+    pre = paths.pre;
+    post = paths.post;
+  };
   markers = l.markers;
   pre = paths.at_pre;
   post = paths.at_post;

@@ -8,7 +8,6 @@ ghost use Rattle.rela_build.specs.Named.{Names, NamesR};
 ghost use Rattle.rela_build.specs.Notes.{Explains, IsComplementOf, Noted, NotedR, NotedTwo, NotedTwoR, NotesOne, RefusesOne, Stopped, StoppedR, StoppedTwo, StoppedTwoR};
 
 use crate::combined::Two;
-
 use crate::complements::Complements;
 use crate::letters::Letters;
 use crate::path_sets::PathSets;
@@ -60,7 +59,8 @@ impl<'a, C: Complements, P: PathSets> Builder<'a, C, P> {
         ensures made { IfOk result (IsMade C.tells_all self.now.letters.now
             (P.paths self.now.paths.now) term.now) }
         ensures noted { OnOk result (Noted (C.answers self.now.complements.now) C.tells_all
-            self.now.letters.now (P.paths self.now.paths.now) term.now notes.old.items notes.new.items) }
+            self.now.letters.now (P.paths self.now.paths.now) term.now notes.old.items
+            notes.new.items) }
         ensures stopped { IfErr result (Stopped (C.refuses self.now.complements.now) C.tells_all
             self.now.letters.now (P.paths self.now.paths.now) self.now.limit
             (length notes.old.items) term.now) }
@@ -122,7 +122,8 @@ impl<'a, C: Complements, P: PathSets> Builder<'a, C, P> {
         ensures made { IfOk result (IsMadeR C.tells_all self.now.letters.now
             (P.paths self.now.paths.now) term.now) }
         ensures noted { OnOk result (NotedR (C.answers self.now.complements.now) C.tells_all
-            self.now.letters.now (P.paths self.now.paths.now) term.now notes.old.items notes.new.items) }
+            self.now.letters.now (P.paths self.now.paths.now) term.now notes.old.items
+            notes.new.items) }
         ensures stopped { IfErr result (StoppedR (C.refuses self.now.complements.now) C.tells_all
             self.now.letters.now (P.paths self.now.paths.now) self.now.limit
             (length notes.old.items) term.now) }
@@ -174,7 +175,8 @@ impl<'a, C: Complements, P: PathSets> Builder<'a, C, P> {
         ensures second { IfOk result (λ parts. IsMade C.tells_all self.now.letters.now
             (P.paths self.now.paths.now) b.now parts.second) }
         ensures noted { OnOk result (NotedTwo (C.answers self.now.complements.now) C.tells_all
-            self.now.letters.now (P.paths self.now.paths.now) a.now b.now notes.old.items notes.new.items) }
+            self.now.letters.now (P.paths self.now.paths.now) a.now b.now notes.old.items
+            notes.new.items) }
         ensures stopped { IfErr result (StoppedTwo (C.refuses self.now.complements.now) C.tells_all
             self.now.letters.now (P.paths self.now.paths.now) self.now.limit
             (length notes.old.items) a.now b.now) }
@@ -202,7 +204,8 @@ impl<'a, C: Complements, P: PathSets> Builder<'a, C, P> {
         ensures second { IfOk result (λ parts. IsMadeR C.tells_all self.now.letters.now
             (P.paths self.now.paths.now) b.now parts.second) }
         ensures noted { OnOk result (NotedTwoR (C.answers self.now.complements.now) C.tells_all
-            self.now.letters.now (P.paths self.now.paths.now) a.now b.now notes.old.items notes.new.items) }
+            self.now.letters.now (P.paths self.now.paths.now) a.now b.now notes.old.items
+            notes.new.items) }
         ensures stopped { IfErr result (StoppedTwoR (C.refuses self.now.complements.now) C.tells_all
             self.now.letters.now (P.paths self.now.paths.now) self.now.limit
             (length notes.old.items) a.now b.now) }

@@ -78,7 +78,8 @@ impl<'a, C: Complements, P: PathSets> Builder<'a, C, P> {
     ) -> Result<Nfa<WideSet>, BuildError>
         requires limit { 1 ≤ self.now.limit }
         requires letters { parts.first.letters ≡ parts.second.letters }
-        ensures made { IfOk result (FromTwo C.tells_all self.now.letters.now (P.paths self.now.paths.now)
+        ensures made { IfOk result (FromTwo C.tells_all self.now.letters.now
+            (P.paths self.now.paths.now)
             sets.Meet parts.first parts.second) }
         ensures limit { IfErr result (λ e. e ≡ BuildError.Limit
             → MoreThan self.now.limit (AreReachedTogether parts.first parts.second)) }
@@ -96,7 +97,8 @@ impl<'a, C: Complements, P: PathSets> Builder<'a, C, P> {
     ) -> Result<Nfa<WideSet>, BuildError>
         requires limit { 1 ≤ self.now.limit }
         requires letters { words.letters ≡ pairs.letters }
-        ensures made { IfOk result (FromBoth C.tells_all self.now.letters.now (P.paths self.now.paths.now)
+        ensures made { IfOk result (FromBoth C.tells_all self.now.letters.now
+            (P.paths self.now.paths.now)
             sets.Image words pairs) }
         ensures limit { IfErr result (λ e. e ≡ BuildError.Limit
             → MoreThan self.now.limit (AreReachedFrom words pairs)) }
@@ -112,7 +114,8 @@ impl<'a, C: Complements, P: PathSets> Builder<'a, C, P> {
         alloc: Global,
         words: Nfa<WideSet>,
     ) -> Result<Transducer<WideSet>, AllocError>
-        ensures { IfOk result (FromWords C.tells_all self.now.letters.now (P.paths self.now.paths.now)
+        ensures { IfOk result (FromWords C.tells_all self.now.letters.now
+            (P.paths self.now.paths.now)
             relations.Identity words) }
     {
         let identity = Transducer::identity(alloc, &words)?;
@@ -126,7 +129,8 @@ impl<'a, C: Complements, P: PathSets> Builder<'a, C, P> {
         parts: Two<Nfa<WideSet>>,
     ) -> Result<Transducer<WideSet>, AllocError>
         requires { parts.first.letters ≡ parts.second.letters }
-        ensures { IfOk result (FromSides C.tells_all self.now.letters.now (P.paths self.now.paths.now)
+        ensures { IfOk result (FromSides C.tells_all self.now.letters.now
+            (P.paths self.now.paths.now)
             relations.Product parts.first parts.second) }
     {
         let product = Transducer::product(alloc, &parts.first, &parts.second)?;
@@ -140,7 +144,8 @@ impl<'a, C: Complements, P: PathSets> Builder<'a, C, P> {
         parts: Two<Transducer<WideSet>>,
     ) -> Result<Transducer<WideSet>, AllocError>
         requires { parts.first.letters ≡ parts.second.letters }
-        ensures { IfOk result (FromTwoR C.tells_all self.now.letters.now (P.paths self.now.paths.now)
+        ensures { IfOk result (FromTwoR C.tells_all self.now.letters.now
+            (P.paths self.now.paths.now)
             relations.Union parts.first parts.second) }
     {
         let union = parts.first.union(alloc, &parts.second)?;
@@ -154,7 +159,8 @@ impl<'a, C: Complements, P: PathSets> Builder<'a, C, P> {
         parts: Two<Transducer<WideSet>>,
     ) -> Result<Transducer<WideSet>, AllocError>
         requires { parts.first.letters ≡ parts.second.letters }
-        ensures { IfOk result (FromTwoR C.tells_all self.now.letters.now (P.paths self.now.paths.now)
+        ensures { IfOk result (FromTwoR C.tells_all self.now.letters.now
+            (P.paths self.now.paths.now)
             relations.Concat parts.first parts.second) }
     {
         let concat = parts.first.concat(alloc, &parts.second)?;
@@ -167,7 +173,8 @@ impl<'a, C: Complements, P: PathSets> Builder<'a, C, P> {
         alloc: Global,
         pairs: Transducer<WideSet>,
     ) -> Result<Transducer<WideSet>, AllocError>
-        ensures { IfOk result (FromOneR C.tells_all self.now.letters.now (P.paths self.now.paths.now)
+        ensures { IfOk result (FromOneR C.tells_all self.now.letters.now
+            (P.paths self.now.paths.now)
             relations.Star pairs) }
     {
         let star = pairs.star(alloc)?;
@@ -182,7 +189,8 @@ impl<'a, C: Complements, P: PathSets> Builder<'a, C, P> {
     ) -> Result<Transducer<WideSet>, BuildError>
         requires limit { 1 ≤ self.now.limit }
         requires letters { parts.first.letters ≡ parts.second.letters }
-        ensures made { IfOk result (FromTwoR C.tells_all self.now.letters.now (P.paths self.now.paths.now)
+        ensures made { IfOk result (FromTwoR C.tells_all self.now.letters.now
+            (P.paths self.now.paths.now)
             relations.Compose parts.first parts.second) }
         ensures limit { IfErr result (λ e. e ≡ BuildError.Limit
             → MoreThan self.now.limit (AreReachedThrough parts.first parts.second)) }

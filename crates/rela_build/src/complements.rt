@@ -48,6 +48,8 @@ pub trait Complements {
         requires { length over.now ≡ a.now.letters }
         ensures complement { IfOk result (λ answer. IsComplement a.now over.now answer.nfa) }
         ensures told { IfOk result (λ answer. tells_all → TellsAll a.now answer.nfa) }
-        ensures answered { IfOk result (λ answer. answers self.now number a.now over.now answer.note) }
-        ensures refused { IfErr result (λ e. e ≡ BuildError.Limit → refuses self.now number a.now over.now) };
+        ensures answered { IfOk result (λ answer.
+            answers self.now number a.now over.now answer.note) }
+        ensures refused { IfErr result (λ e. e ≡ BuildError.Limit →
+            refuses self.now number a.now over.now) };
 }

@@ -15,7 +15,8 @@ pub(crate) fn letters_below(
 ) -> Result<WideSet, AllocError>
     requires { end ≤ length blocks.now }
     ensures size { IfOk result (λ set. length set ≡ block_count blocks.now) }
-    ensures letters { IfOk result (λ set. (k : ℕ) → (has set k ≡ true) ↔ ((s : ℕ) × (s < end) × (block_of blocks.now s ≡ k))) }
+    ensures letters { IfOk result (λ set. (k : ℕ) → (has set k ≡ true) ↔
+        ((s : ℕ) × (s < end) × (block_of blocks.now s ≡ k))) }
 {
     let mut set = WideSet::none(alloc, blocks.blocks())?;
     for s in 0..end {
@@ -32,7 +33,8 @@ pub(crate) fn letters_of(
 ) -> Result<WideSet, AllocError>
     requires { All (λ s. s < length blocks.now) symbols.now }
     ensures size { IfOk result (λ set. length set ≡ block_count blocks.now) }
-    ensures letters { IfOk result (λ set. (k : ℕ) → (has set k ≡ true) ↔ ((s : ℕ) × Contains symbols.now s × (block_of blocks.now s ≡ k))) }
+    ensures letters { IfOk result (λ set. (k : ℕ) → (has set k ≡ true) ↔
+        ((s : ℕ) × Contains symbols.now s × (block_of blocks.now s ≡ k))) }
 {
     let mut set = WideSet::none(alloc, blocks.blocks())?;
     for s in symbols {

@@ -37,9 +37,20 @@ impl<'a> Model for Letters<'a> {
 
     ghost Value = { Lettering };
 
-    ghost view = { λ l. record { classes = l.table.now; path_symbols = l.path_symbols; markers = l.markers; blocks = l.blocks.now } };
+    ghost view = { λ l. record {
+      classes = l.table.now;
+      path_symbols = l.path_symbols;
+      markers = l.markers;
+      blocks = l.blocks.now;
+    } };
 
-    ghost invariant = { λ l. AreLetters (record { classes = l.table.now; path_symbols = l.path_symbols; markers = l.markers; blocks = l.blocks.now }) l.path l.classes.items };
+    ghost invariant = { λ l. AreLetters (record {
+      classes = l.table.now;
+      path_symbols = l.path_symbols;
+      markers = l.markers;
+      blocks = l.blocks.now;
+    }) l.path
+        l.classes.items };
 }
 
 impl<'a> Letters<'a> {
@@ -60,9 +71,19 @@ impl<'a> Letters<'a> {
         markers: u32,
         blocks: &'a Partition,
     ) -> Result<Letters<'a>, AllocError>
-        requires blocks { AreLetterBlocks (record { classes = table.now; path_symbols = path_symbols; markers = markers; blocks = blocks.now }) }
+        requires blocks { AreLetterBlocks (record {
+          classes = table.now;
+          path_symbols = path_symbols;
+          markers = markers;
+          blocks = blocks.now;
+        }) }
         requires members { All (λ set. All (λ s. s < path_symbols) set.members) table.now }
-        ensures { IfOk result (λ letters. letters ≡ record { classes = table.now; path_symbols = path_symbols; markers = markers; blocks = blocks.now }) }
+        ensures { IfOk result (λ letters. letters ≡ record {
+          classes = table.now;
+          path_symbols = path_symbols;
+          markers = markers;
+          blocks = blocks.now;
+        }) }
     {
         let path = letters_below(alloc, blocks, path_symbols)?;
         let classes = letters_of_classes(alloc, table, blocks, &path)?;
@@ -119,7 +140,8 @@ impl<'a> Letters<'a> {
 
     /// The letters of a class, and `None` where the table has no such entry.
     pub fn class(&self, entry: u32) -> Option<&WideSet>
-        ensures letters { IfSome result (λ set. HoldsJust self.now.blocks (IsInEntry self.now entry) set.now) }
+        ensures letters { IfSome result (λ set.
+            HoldsJust self.now.blocks (IsInEntry self.now entry) set.now) }
         ensures none { IfNone result ((s : ℕ) → ¬ IsInEntry self.now entry s) }
     {
         self.classes.get(entry as usize)
@@ -136,8 +158,10 @@ fn letters_of_classes(
     requires members { All (λ class. All (λ s. s < length blocks.now) class.members) classes.now }
     requires path { length path.now ≡ block_count blocks.now }
     ensures count { IfOk result (λ sets. length sets.items ≡ length classes.now) }
-    ensures letters { IfOk result (λ sets. (k : ℕ) (class : SymbolSet) (set : List Bool) → k < length classes.now
-        → AreClassLetters blocks.now path.now (slice_index_or classes.now k class) (slice_index_or sets.items k set)) }
+    ensures letters { IfOk result (λ sets. (k : ℕ) (class : SymbolSet) (set : List Bool) →
+        k < length classes.now
+        → AreClassLetters blocks.now path.now (slice_index_or classes.now k class)
+        (slice_index_or sets.items k set)) }
 {
     let mut sets = Vec::with_capacity(alloc, classes.len())?;
     for class in classes {

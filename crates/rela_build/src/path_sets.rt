@@ -21,12 +21,14 @@ pub trait PathSets {
     /// The paths before the change, read by these blocks.
     fn before(&self, alloc: Global, blocks: &Partition) -> Result<Nfa<WideSet>, AllocError>
         requires { readable self.now blocks.now }
-        ensures { IfOk result (IsBuilt (Unit {0}) blocks.now (paths self.now).pre (PathSetPlaces (paths self.now).at_pre) (PartsApart NoParts NoParts)) };
+        ensures { IfOk result (IsBuilt (Unit {0}) blocks.now (paths self.now).pre
+            (PathSetPlaces (paths self.now).at_pre) (PartsApart NoParts NoParts)) };
 
     /// The paths after the change, read by these blocks.
     fn after(&self, alloc: Global, blocks: &Partition) -> Result<Nfa<WideSet>, AllocError>
         requires { readable self.now blocks.now }
-        ensures { IfOk result (IsBuilt (Unit {0}) blocks.now (paths self.now).post (PathSetPlaces (paths self.now).at_post) (PartsApart NoParts NoParts)) };
+        ensures { IfOk result (IsBuilt (Unit {0}) blocks.now (paths self.now).post
+            (PathSetPlaces (paths self.now).at_post) (PartsApart NoParts NoParts)) };
 }
 
 /// No paths at all, for terms that name neither set, or of which nothing is known yet.
@@ -49,7 +51,8 @@ impl PathSets for NoPaths {
 
 /// The automaton that accepts no word, whose letters are these blocks.
 fn no_words(alloc: Global, blocks: &Partition) -> Result<Nfa<WideSet>, AllocError>
-    ensures { IfOk result (IsBuilt (Unit {0}) blocks.now no_paths.pre (PathSetPlaces no_paths.at_pre) (PartsApart NoParts NoParts)) }
+    ensures { IfOk result (IsBuilt (Unit {0}) blocks.now no_paths.pre
+        (PathSetPlaces no_paths.at_pre) (PartsApart NoParts NoParts)) }
 {
     let letters = blocks.blocks();
     let none = Nfa::none(alloc, letters)?;

@@ -31,10 +31,14 @@ pub fn equal<L: LabelSet>(
     limit: usize,
 ) -> Result<Verdict, BuildError>
     requires { a.now.letters ≡ b.now.letters }
-    ensures same { IfOk result (λ verdict. (verdict ≡ Verdict.Same) ↔ ((word : List ℕ) → Accepts a.now word ↔ Accepts b.now word)) }
-    ensures first { IfOk result (λ verdict. IfDiffer verdict (λ word side. First (IsInOneAlone a.now b.now) word)) }
-    ensures side { IfOk result (λ verdict. IfDiffer verdict (λ word side. IsOnSide a.now b.now word side)) }
-    ensures limit { IfErr result (λ e. e ≡ BuildError.Limit → ReachPairsBefore a.now b.now (IsInOneAlone a.now b.now) (limit + 1)) }
+    ensures same { IfOk result (λ verdict. (verdict ≡ Verdict.Same) ↔
+        ((word : List ℕ) → Accepts a.now word ↔ Accepts b.now word)) }
+    ensures first { IfOk result (λ verdict. IfDiffer verdict (λ word side.
+        First (IsInOneAlone a.now b.now) word)) }
+    ensures side { IfOk result (λ verdict. IfDiffer verdict (λ word side.
+        IsOnSide a.now b.now word side)) }
+    ensures limit { IfErr result (λ e. e ≡ BuildError.Limit →
+        ReachPairsBefore a.now b.now (IsInOneAlone a.now b.now) (limit + 1)) }
     ensures bounded { IfErr result (λ e. e ≡ BuildError.Limit → limit < 2 ^ 63) }
 {
     match first_difference(alloc, a, b, Sought::EitherAlone, limit)? {
@@ -56,10 +60,13 @@ pub fn included<L: LabelSet>(
     limit: usize,
 ) -> Result<Verdict, BuildError>
     requires { a.now.letters ≡ b.now.letters }
-    ensures same { IfOk result (λ verdict. (verdict ≡ Verdict.Same) ↔ ((word : List ℕ) → Accepts a.now word → Accepts b.now word)) }
-    ensures first { IfOk result (λ verdict. IfDiffer verdict (λ word side. First (IsInFirstAlone a.now b.now) word)) }
+    ensures same { IfOk result (λ verdict. (verdict ≡ Verdict.Same) ↔
+        ((word : List ℕ) → Accepts a.now word → Accepts b.now word)) }
+    ensures first { IfOk result (λ verdict. IfDiffer verdict (λ word side.
+        First (IsInFirstAlone a.now b.now) word)) }
     ensures side { IfOk result (λ verdict. IfDiffer verdict (λ word side. side ≡ Which.First)) }
-    ensures limit { IfErr result (λ e. e ≡ BuildError.Limit → ReachPairsBefore a.now b.now (IsInFirstAlone a.now b.now) (limit + 1)) }
+    ensures limit { IfErr result (λ e. e ≡ BuildError.Limit →
+        ReachPairsBefore a.now b.now (IsInFirstAlone a.now b.now) (limit + 1)) }
     ensures bounded { IfErr result (λ e. e ≡ BuildError.Limit → limit < 2 ^ 63) }
 {
     match first_difference(alloc, a, b, Sought::FirstAlone, limit)? {

@@ -26,8 +26,10 @@ pub(crate) fn first_difference<L: LabelSet>(
 ) -> Result<Option<Word>, BuildError>
     requires { a.now.letters ≡ b.now.letters }
     ensures first { IfOk result (λ found. IfSome found (First (Differs sought a.now b.now))) }
-    ensures none { IfOk result (λ found. IfNone found ((word : List ℕ) → IsAgreed sought (Accepts a.now word) (Accepts b.now word))) }
-    ensures limit { IfErr result (λ e. e ≡ BuildError.Limit → ReachPairsBefore a.now b.now (Differs sought a.now b.now) (limit + 1)) }
+    ensures none { IfOk result (λ found. IfNone found ((word : List ℕ) →
+        IsAgreed sought (Accepts a.now word) (Accepts b.now word))) }
+    ensures limit { IfErr result (λ e. e ≡ BuildError.Limit →
+        ReachPairsBefore a.now b.now (Differs sought a.now b.now) (limit + 1)) }
     ensures bounded { IfErr result (λ e. e ≡ BuildError.Limit → limit < 2 ^ 63) }
 {
     let both = a.union(alloc, b)?;

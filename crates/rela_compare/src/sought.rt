@@ -31,7 +31,8 @@ pub(crate) struct SoughtSets<'a, L: LabelSet> {
 }
 
 impl<'a, L: LabelSet> Wanted for SoughtSets<'a, L> {
-    ghost wants = { λ sets set. IsSought sets.sought (HasFinalFrom sets.first.now 1 set) (HasFinalFrom sets.second.now sets.split set) };
+    ghost wants = { λ sets set. IsSought sets.sought (HasFinalFrom sets.first.now 1 set)
+        (HasFinalFrom sets.second.now sets.split set) };
 
     fn is_wanted(&self, set: &[usize]) -> bool {
         let in_first = has_final(self.first, 1, set);

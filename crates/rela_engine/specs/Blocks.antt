@@ -29,4 +29,5 @@ AreSetApart first end s t = (k : ℕ) → first ≤ k → k < end → (s ≡ k) 
 pub record AreBlocks (check : Checked) (locations : ℕ) (blocks : List ℕ) : Type 0 where
   pub symbols : length blocks ≡ symbols_of check locations
   pub partition : IsPartition blocks
-  pub together : (s t : ℕ) → s < length blocks → t < length blocks → Together blocks s t ↔ AreOne check.classes locations s t
+  pub together : (s t : ℕ) → s < length blocks → t < length blocks → Together blocks s t ↔
+      AreOne check.classes locations s t

@@ -35,24 +35,31 @@ pub record Compilation : Type 0 where
 -- some counted term in one of the two relations has more reached places than the limit
 abbrev pub PassesLimit : Compilation → Type 0
 PassesLimit c =
-    ReachedInsideR (bare_scene c.check c.locations) (c.states + 1) (before_of c.locations c.check.body)
-    ⊎ ReachedInsideR (bare_scene c.check c.locations) (c.states + 1) (after_of c.locations c.check.body)
+    ReachedInsideR (bare_scene c.check c.locations) (c.states + 1)
+    (before_of c.locations c.check.body)
+    ⊎ ReachedInsideR (bare_scene c.check c.locations) (c.states + 1)
+    (after_of c.locations c.check.body)
 
 -- some complement in one of the two relations has a part that tells more words than the limit
 abbrev pub MustPassLimit : Compilation → Type 0
 MustPassLimit c =
-    ForcedInsideR (bare_scene c.check c.locations) (c.states + 1) (before_of c.locations c.check.body)
-    ⊎ ForcedInsideR (bare_scene c.check c.locations) (c.states + 1) (after_of c.locations c.check.body)
+    ForcedInsideR (bare_scene c.check c.locations) (c.states + 1)
+    (before_of c.locations c.check.body)
+    ⊎ ForcedInsideR (bare_scene c.check c.locations) (c.states + 1)
+    (after_of c.locations c.check.body)
 
 -- both machines have the pairs of the relation, and the states of the plain one stand for places of its term
-pub record IsTwofold (c : Compilation) (term : RelTerm) (pairs : List ℕ → List ℕ → Type 0) (r : Twofold) : Type 0 where
+pub record IsTwofold (c : Compilation) (term : RelTerm) (pairs : List ℕ → List ℕ → Type 0)
+    (r : Twofold) : Type 0 where
   pub plain : IsMadeR ⊥ (lettering_of c.check c.locations c.blocks) no_paths term r.plain
   pub small : Realises c.blocks pairs r.small
 
 -- the letters are the blocks of the check's symbols, and the relations are those of its body
 pub record AreRelations (c : Compilation) (relations : Relations) : Type 0 where
-  pub before : IsTwofold c (before_of c.locations c.check.body) (Before c.check.classes c.locations c.check.body) relations.before
-  pub after : IsTwofold c (after_of c.locations c.check.body) (After c.check.classes c.locations c.check.body) relations.after
+  pub before : IsTwofold c (before_of c.locations c.check.body) (Before c.check.classes c.locations
+      c.check.body) relations.before
+  pub after : IsTwofold c (after_of c.locations c.check.body) (After c.check.classes c.locations
+      c.check.body) relations.after
   pub within : ¬ MustPassLimit c
 
 -- The relations are those of the check's body, over the blocks of its symbols. There are none only where some counted

@@ -10,5 +10,6 @@ use Rattle.rela_subset.specs.Subsets.{KeepsApart, ReachSame}
 pub record IsLeast (over : List Bool) (a : Automaton) (d : Deterministic) : Type 0 where
   pub over_is : d.over ≡ over
   pub language : (w : List ℕ) → IsAccepted d w ↔ (IsOver over w × Accepts a w)
-  pub alike : (v w : List ℕ) → IsOver over v → IsOver over w → ReachSame a v w → state_after d v ≡ state_after d w
+  pub alike : (v w : List ℕ) → IsOver over v → IsOver over w → ReachSame a v w → state_after d v
+      ≡ state_after d w
   pub told : KeepsApart a over d

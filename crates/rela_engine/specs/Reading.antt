@@ -13,11 +13,13 @@ pub record Recognises (blocks : List ℕ) (words : List ℕ → Type 0) (a : Aut
   pub language : (w : List ℕ) → Accepts a (map (read_by blocks) w) ↔ words w
 
 -- the letters are blocks, and the pairs of words of symbols that are related are those of the relation
-pub record Realises (blocks : List ℕ) (pairs : List ℕ → List ℕ → Type 0) (t : Machine) : Type 0 where
+pub record Realises (blocks : List ℕ) (pairs : List ℕ → List ℕ → Type 0)
+    (t : Machine) : Type 0 where
   pub letters : t.letters ≡ block_count blocks
   pub relation : (u v : List ℕ) → Relates (read_by blocks) t u v ↔ pairs u v
 
 -- the letters are blocks, and of the pairs whose first word is one of the set those that are related are those of the relation
-pub record RealisesFrom (blocks : List ℕ) (words : List ℕ → Type 0) (pairs : List ℕ → List ℕ → Type 0) (t : Machine) : Type 0 where
+pub record RealisesFrom (blocks : List ℕ) (words : List ℕ → Type 0)
+    (pairs : List ℕ → List ℕ → Type 0) (t : Machine) : Type 0 where
   pub letters : t.letters ≡ block_count blocks
   pub relation : (u v : List ℕ) → words u → Relates (read_by blocks) t u v ↔ pairs u v

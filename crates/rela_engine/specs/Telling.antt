@@ -7,7 +7,8 @@ use Rattle.rela_subset.specs.Deterministic.{IsOver}
 -- just one of the two words is accepted with some continuation over the letters
 abbrev pub IsTold : Automaton → List Bool → List ℕ → List ℕ → Type 0
 IsTold a over v w =
-    (z : List ℕ) × IsOver over z × ((Accepts a (v ++ z) × ¬ Accepts a (w ++ z)) ⊎ (Accepts a (w ++ z) × ¬ Accepts a (v ++ z)))
+    (z : List ℕ) × IsOver over z × ((Accepts a (v ++ z) × ¬ Accepts a (w ++ z))
+    ⊎ (Accepts a (w ++ z) × ¬ Accepts a (v ++ z)))
 
 -- n words over the letters, of which each two are told apart by a continuation
 pub record TellsWords (a : Automaton) (over : List Bool) (n : ℕ) : Type 0 where

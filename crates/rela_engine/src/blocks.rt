@@ -48,7 +48,8 @@ fn split_by_classes(
     requires { All (λ set. All (λ s. s < length splitter.old) set.members) classes.now }
     ensures symbols { length splitter.new ≡ length splitter.old }
     ensures split { IfOk result (λ _. (s t : ℕ) → s < length splitter.old → t < length splitter.old
-        → Together splitter.new s t ↔ (Together splitter.old s t × AreListedAlike classes.now s t)) }
+        → Together splitter.new s t ↔ (Together splitter.old s t
+        × AreListedAlike classes.now s t)) }
 {
     for set in classes {
         splitter.split(alloc, set.members.as_slice())?;

@@ -83,7 +83,8 @@ pub fn compile<'a>(
     alphabet: &Alphabet,
     states: usize,
 ) -> Result<Compiled<'a>, AllocError>
-    requires classes { All (λ set. All (λ s. s < path_symbols alphabet.now) set.members) check.now.classes }
+    requires classes { All (λ set. All (λ s. s < path_symbols alphabet.now) set.members)
+        check.now.classes }
     requires some { 1 ≤ states }
     ensures check { IfOk result (λ compiled. compiled.check ≡ check.now) }
     ensures locations { IfOk result (λ compiled. compiled.locations ≡ length alphabet.now) }
@@ -112,7 +113,8 @@ fn relations_over(
     states: usize,
 ) -> Result<Option<Relations>, AllocError>
     requires blocks { AreBlocks check.now (length alphabet.now) blocks.now }
-    requires listed { All (λ set. All (λ s. s < path_symbols alphabet.now) set.members) check.now.classes }
+    requires listed { All (λ set. All (λ s. s < path_symbols alphabet.now) set.members)
+        check.now.classes }
     requires some { 1 ≤ states }
     ensures { IfOk result (λ relations. IsCompiled (record {
       check = check.now;
@@ -138,7 +140,8 @@ fn letters_of<'a>(
     blocks: &'a Partition,
 ) -> Result<Letters<'a>, AllocError>
     requires blocks { AreBlocks check.now (length alphabet.now) blocks.now }
-    requires listed { All (λ set. All (λ s. s < path_symbols alphabet.now) set.members) check.now.classes }
+    requires listed { All (λ set. All (λ s. s < path_symbols alphabet.now) set.members)
+        check.now.classes }
     ensures { IfOk result (λ letters.
         letters ≡ lettering_of check.now (length alphabet.now) blocks.now) }
 {
@@ -159,7 +162,8 @@ fn built(
     letters: &Letters<'_>,
     states: usize,
 ) -> Result<Relations, Stop>
-    requires letters { letters.now ≡ lettering_of check.now (length alphabet.now) letters.now.blocks }
+    requires letters { letters.now ≡ lettering_of check.now (length alphabet.now)
+        letters.now.blocks }
     requires blocks { AreBlocks check.now (length alphabet.now) letters.now.blocks }
     requires some { 1 ≤ states }
     ensures made { IfOk result (λ relations. AreRelations (record {
@@ -240,7 +244,8 @@ impl<'a> Compiled<'a> {
     /// relations have the same pairs.
     pub fn treats_sides_alike(&self) -> bool
         ensures units { IsTrue result ↔ TreatsSidesAlike self.now.check.body }
-        ensures relations { IsTrue result → SamePairs (Before self.now.check.classes self.now.locations self.now.check.body)
+        ensures relations { IsTrue result →
+            SamePairs (Before self.now.check.classes self.now.locations self.now.check.body)
             (After self.now.check.classes self.now.locations self.now.check.body) }
     {
         self.alike
@@ -259,7 +264,8 @@ impl<'a> Compiled<'a> {
     /// made small for many walks.
     pub fn before(&self) -> &Transducer<WideSet>
         requires complete { IsSome self.now.relations }
-        ensures before { ForSome self.now.relations (λ relations. result.now ≡ relations.before.small) }
+        ensures before { ForSome self.now.relations (λ relations. result.now
+            ≡ relations.before.small) }
         ensures relation { Realises self.now.blocks
             (Before self.now.check.classes self.now.locations self.now.check.body) result.now }
     {
@@ -276,7 +282,8 @@ impl<'a> Compiled<'a> {
     /// made small for many walks.
     pub fn after(&self) -> &Transducer<WideSet>
         requires complete { IsSome self.now.relations }
-        ensures after { ForSome self.now.relations (λ relations. result.now ≡ relations.after.small) }
+        ensures after { ForSome self.now.relations (λ relations. result.now
+            ≡ relations.after.small) }
         ensures relation { Realises self.now.blocks
             (After self.now.check.classes self.now.locations self.now.check.body) result.now }
     {

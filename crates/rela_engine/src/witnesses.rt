@@ -24,8 +24,10 @@ pub(crate) fn violated_row<L: LabelSet>(
     requires letters { seen.now.paths.letters ≡ block_count blocks.now }
     requires same_letters { seen.now.relation.letters ≡ block_count blocks.now }
     requires automaton { IsAutomaton seen.now.paths }
-    requires some { (source : List ℕ) × IsSource seen.now.paths seen.now.relation offence.now.letters source }
-    ensures { IfOk result (TellsOf blocks.now seen.now.paths seen.now.relation offence.now.letters offence.now.side) }
+    requires some { (source : List ℕ) × IsSource seen.now.paths seen.now.relation
+        offence.now.letters source }
+    ensures { IfOk result (TellsOf blocks.now seen.now.paths seen.now.relation offence.now.letters
+        offence.now.side) }
 {
     let letters = offence.letters.as_slice();
     Ok(Row::Violated {

@@ -36,7 +36,8 @@ body_in paths bodies (layer.Join by a b) = body_joined by (body_at bodies a) (bo
 
 -- the shapes of forms, each by those before it
 unfoldable pub bodies_of : List Shape → List BodyForm → List BodyShape
-bodies_of paths forms = fold (λ bodies form. bodies ++ body_in paths bodies form.layer ∷ []) [] forms
+bodies_of paths forms = fold (λ bodies form.
+    bodies ++ body_in paths bodies form.layer ∷ []) [] forms
 
 -- behind which places the parts of a layer stand, and behind which its paths
 abbrev pub behind_parts : BodyLayer → ℕ
@@ -57,15 +58,21 @@ behind_paths (layer.Unit zone c) = max (zone + 1) (behind_modifier c)
 behind_paths (layer.Join by a b) = 0
 
 abbrev pub capped_sizes : Measures → BodySize
-capped_sizes sizes = record { zone = capped_size sizes.zone; before = capped_size sizes.before; after = capped_size sizes.after }
+capped_sizes sizes = record {
+  zone = capped_size sizes.zone;
+  before = capped_size sizes.before;
+  after = capped_size sizes.after;
+}
 
 abbrev pub size_of_body : BodyShape → BodySize
 size_of_body shape = capped_sizes (body_measures shape)
 
 -- the parts of each form stand before it, its paths are there, and its size is that of its shape
 pub record AreBodies (paths : List Shape) (forms : List BodyForm) : Type 0 where
-  pub below : (k : ℕ) (d : BodyForm) → k < length forms → behind_parts (slice_index_or forms k d).layer ≤ k
-  pub zoned : (k : ℕ) (d : BodyForm) → k < length forms → behind_paths (slice_index_or forms k d).layer ≤ length paths
+  pub below : (k : ℕ) (d : BodyForm) → k < length forms →
+      behind_parts (slice_index_or forms k d).layer ≤ k
+  pub zoned : (k : ℕ) (d : BodyForm) → k < length forms →
+      behind_paths (slice_index_or forms k d).layer ≤ length paths
   pub sizes : map (λ form. form.size) forms ≡ map size_of_body (bodies_of paths forms)
 
 -- what was there keeps its place

@@ -43,10 +43,22 @@ abbrev pub with_name : {X : Type 0} → List ℕ → X → (List ℕ → Option 
 with_name name x others other = if bytes_eq name other then Some x else others other
 
 abbrev pub with_path : List ℕ → Expansion Expr → Sofar → Sofar
-with_path name body sofar = record sofar { names = record sofar.names { paths = with_name name body sofar.names.paths }; taken = name ∷ sofar.taken }
+with_path name body sofar = record sofar {
+  names = record sofar.names {
+    paths = with_name name body
+        sofar.names.paths;
+  };
+  taken = name ∷ sofar.taken;
+}
 
 abbrev pub with_spec : List ℕ → Expansion Core → Sofar → Sofar
-with_spec name body sofar = record sofar { names = record sofar.names { specs = with_name name body sofar.names.specs }; taken = name ∷ sofar.taken }
+with_spec name body sofar = record sofar {
+  names = record sofar.names {
+    specs = with_name name body
+        sofar.names.specs;
+  };
+  taken = name ∷ sofar.taken;
+}
 
 -- none of the names is this one
 abbrev pub unused : List (List ℕ) → List ℕ → ℕ → Result (List ℕ) SpecError
@@ -57,11 +69,14 @@ abbrev pub symbols_in : List Listing → ℕ
 symbols_in classes = sum (map (λ c. length c.members) classes)
 
 abbrev pub is_deep : ℕ → Core → Bool
-is_deep locations body = nat_lt 1000 (depth_of_rel (before_of locations body)) || nat_lt 1000 (depth_of_rel (after_of locations body))
+is_deep locations body = nat_lt 1000 (depth_of_rel (before_of locations body))
+    || nat_lt 1000 (depth_of_rel (after_of locations body))
 
 abbrev pub is_large : ℕ → Step Core → Bool
 is_large locations step =
-    nat_lt 20000 (nodes_of_rel (before_of locations step.value) + nodes_of_rel (after_of locations step.value)) || nat_lt 4000000 (symbols_in step.after.classes)
+    nat_lt 20000 (nodes_of_rel (before_of locations step.value)
+    + nodes_of_rel (after_of locations step.value))
+    || nat_lt 4000000 (symbols_in step.after.classes)
 
 -- the check's body and classes, where its terms are neither too deep nor too large
 abbrev pub in_size : ℕ → ℕ → Step Core → Result (Step Core) SpecError
@@ -89,12 +104,21 @@ with_item place sofar (Check at_most name at when body) = do
   within ← not_full sofar.checks at
   whole ← spec_expansion place sofar.names body nothing_numbered
   step ← in_size (locations_at place) at whole
-  Ok (record sofar { checks = sofar.checks ++ record { name = new; at_most = at_most; when = when; classes = step.after.classes; body = step.value } ∷ [] })
+  Ok (record sofar {
+    checks = sofar.checks ++ record {
+      name = new;
+      at_most = at_most;
+      when = when;
+      classes = step.after.classes;
+      body = step.value;
+    } ∷ [];
+  })
 
 -- the checks of a specification over a network, or the first refusal
 unfoldable pub expanded : Network → SpecFile → Result (List Expanded) SpecError
 expanded network file = do
-  sofar ← try_fold (with_item (record { network = network; level = file.level })) at_first file.items
+  sofar ← try_fold (with_item (record { network = network; level = file.level }))
+      at_first file.items
   Ok sofar.checks
 
 abbrev pub listing_of : SymbolSet → Listing
@@ -102,4 +126,10 @@ listing_of set = record { negated = set.negated; members = set.members }
 
 -- a check as data, but for its level
 abbrev pub outcome_of : Checked → Expanded
-outcome_of check = record { name = check.name; at_most = check.at_most; when = check.when; classes = map listing_of check.classes; body = check.body }
+outcome_of check = record {
+  name = check.name;
+  at_most = check.at_most;
+  when = check.when;
+  classes = map listing_of check.classes;
+  body = check.body;
+}

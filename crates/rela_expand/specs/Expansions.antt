@@ -32,7 +32,8 @@ tree_within depth join none [] = none
 tree_within depth join none (x ∷ []) = x
 tree_within zero join none (x ∷ y ∷ others) = none
 tree_within (suc depth) join none (x ∷ y ∷ others) =
-    join (tree_within depth join none (take (half (length (x ∷ y ∷ others))) (x ∷ y ∷ others))) (tree_within depth join none (drop (half (length (x ∷ y ∷ others))) (x ∷ y ∷ others)))
+    join (tree_within depth join none (take (half (length (x ∷ y ∷ others))) (x ∷ y ∷ others)))
+    (tree_within depth join none (drop (half (length (x ∷ y ∷ others))) (x ∷ y ∷ others)))
 
 abbrev pub tree_of : {X : Type 0} → (X → X → X) → X → List X → X
 tree_of join none xs = tree_within (length xs) join none xs

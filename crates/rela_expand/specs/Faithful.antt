@@ -66,7 +66,8 @@ paths_of (m.Ignore p) = p ∷ []
 module _ (place : Place) (named : List ℕ → WordSet) (check : Checked) where
   -- the expanded expression has the words of the written one
   abbrev pub SameWords : PathExpr → Expr → Type 0
-  SameWords written e = (w : List ℕ) → Paths check.classes (locations_at place) e w ↔ LangW place named written w
+  SameWords written e = (w : List ℕ) → Paths check.classes (locations_at place) e w ↔
+      LangW place named written w
 
   -- the zones have the same words; the modifiers are of the same kind, and their paths have the same words
   pub record SameUnit (written : UnitW) (unit : ExpandedUnit) : Type 0 where
@@ -76,6 +77,9 @@ module _ (place : Place) (named : List ℕ → WordSet) (check : Checked) where
 
 -- the check's body speaks of the words that the written body speaks of, and its units are those of the written
 -- body, in their order
-pub record IsFaithful (place : Place) (items : List Item) (written : SpecExpr) (check : Checked) : Type 0 where
-  pub zone : (w : List ℕ) → Zone check.classes (locations_at place) check.body w ↔ ZoneW place (names_w place items) written w
-  pub units : AllZip (SameUnit place (names_w place items).paths check) (units_w (named_units items) written) (units_of check.body)
+pub record IsFaithful (place : Place) (items : List Item) (written : SpecExpr)
+    (check : Checked) : Type 0 where
+  pub zone : (w : List ℕ) → Zone check.classes (locations_at place) check.body w ↔
+      ZoneW place (names_w place items) written w
+  pub units : AllZip (SameUnit place (names_w place items).paths check) (units_w (named_units items)
+      written) (units_of check.body)

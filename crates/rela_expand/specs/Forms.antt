@@ -47,7 +47,10 @@ capped_size measure = record { nodes = capped measure.nodes; depth = capped meas
 
 -- how large the term of a shape is, as far as 64 bits tell
 abbrev pub size_of : Shape → Size
-size_of shape = record { nodes = capped (nodes_of_shape shape); depth = capped (depth_of_shape shape) }
+size_of shape = record {
+  nodes = capped (nodes_of_shape shape);
+  depth = capped (depth_of_shape shape);
+}
 
 -- the parts of each form stand before it, and its size is that of its shape
 pub record AreForms (forms : List Form) : Type 0 where

@@ -15,7 +15,8 @@ made_of f (Err e) = Err e
 
 -- the shape of a path expression, or its first refusal
 abbrev pub path_shape : Scope → List Shape → PathExpr → Result Shape SpecError
-path_shape scope shapes = shape_of (record { network = scope.locations.now; level = scope.level }) (paths_named shapes scope.names.now)
+path_shape scope shapes = shape_of (record { network = scope.locations.now; level = scope.level })
+    (paths_named shapes scope.names.now)
 
 abbrev pub wrapped : Wrap → Shape → Shape
 wrapped wrap.Not s = Not s

@@ -23,7 +23,10 @@ picked place pick.Loop = (drop_symbol (locations_at place) + 1) ∷ []
 
 -- the class that is written
 abbrev pub class_of : Place → Written → Listing
-class_of place written = record { negated = written.negated; members = in_some place (map (picked place) written.picks.items) }
+class_of place written = record {
+  negated = written.negated;
+  members = in_some place (map (picked place) written.picks.items);
+}
 
 -- whether two classes are written alike
 abbrev pub same_written : Written → Written → Bool
@@ -31,7 +34,8 @@ same_written = written_equal.it
 
 -- from these classes on, with any number of markers, it comes to x and numbers nothing more
 abbrev pub Gives : {X : Type 0} → (Numbering → Step X) → X → List Listing → Type 0
-Gives f x classes = (markers : ℕ) → f (record { classes = classes; markers = markers }) ≡ record { value = x; after = record { classes = classes; markers = markers } }
+Gives f x classes = (markers : ℕ) → f (record { classes = classes; markers = markers })
+    ≡ record { value = x; after = record { classes = classes; markers = markers } }
 
 -- the table so far
 abbrev pub table_of : Numbers → List Listing
@@ -39,8 +43,10 @@ table_of numbers = map entry_of numbers.classes.keys
 
 -- what is known by what is written of a class is the number that it has in the table
 abbrev pub AreWritten : Place → Numbers → Type 0
-AreWritten place numbers = (written : Written) (k : ℕ) → get same_written numbers.written written ≡ Some k → Gives (placed (class_of place written)) k (table_of numbers)
+AreWritten place numbers = (written : Written) (k : ℕ) → get same_written numbers.written written
+    ≡ Some k → Gives (placed (class_of place written)) k (table_of numbers)
 
 -- what is known by the place of a form is the number that its class has in the table
 abbrev pub ArePlaced : Place → List Shape → Numbers → Type 0
-ArePlaced place shapes numbers = (at k : ℕ) → get nat_eq numbers.places at ≡ Some k → Gives (numbered place (shape_at shapes at)) (x.Class k) (table_of numbers)
+ArePlaced place shapes numbers = (at k : ℕ) → get nat_eq numbers.places at ≡ Some k →
+    Gives (numbered place (shape_at shapes at)) (x.Class k) (table_of numbers)

@@ -11,14 +11,16 @@ use Rattle.rela_expand.specs.Places.{Place, path_symbols_at, symbols_of}
 
 -- the symbol is one of those that the member names
 abbrev pub IsOf : Place → ℕ → Member → Type 0
-IsOf place s member = (symbols : List ℕ) × (symbols_of place member ≡ Ok symbols) × Contains symbols s
+IsOf place s member = (symbols : List ℕ) × (symbols_of place member ≡ Ok symbols)
+    × Contains symbols s
 
 -- one of the members names the symbol
 abbrev pub IsNamed : Place → List Member → ℕ → Type 0
 IsNamed place members s = (member : Member) × Contains members member × IsOf place s member
 
 -- the word is one path symbol that a member names, or, where negated, that none names
-pub record IsLetter (place : Place) (negated : Bool) (members : List Member) (w : List ℕ) : Type 0 where
+pub record IsLetter (place : Place) (negated : Bool) (members : List Member)
+    (w : List ℕ) : Type 0 where
   pub symbol : ℕ
   pub only : w ≡ symbol ∷ []
   pub path : symbol < path_symbols_at place

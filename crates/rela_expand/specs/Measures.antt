@@ -68,7 +68,11 @@ unit_measures z (m.AnyOf p) = record {
   before = over_two (over_two z p) leaf;
   after = over_two (over_two p leaf) (over (over_without z p));
 }
-unit_measures z (m.Ignore p) = record { zone = z; before = over (over_without z p); after = over (over_without z p) }
+unit_measures z (m.Ignore p) = record {
+  zone = z;
+  before = over (over_without z p);
+  after = over (over_without z p);
+}
 
 -- what is asked for outside a zone
 abbrev pub over_outside : Measure → Measure → Measure
@@ -83,8 +87,10 @@ body_measures (Then a b) = record {
 }
 body_measures (Else a b) = record {
   zone = over_two (body_measures a).zone (body_measures b).zone;
-  before = over_two (body_measures a).before (over_outside (body_measures a).zone (body_measures b).before);
-  after = over_two (body_measures a).after (over_outside (body_measures a).zone (body_measures b).after);
+  before = over_two (body_measures a).before (over_outside (body_measures a).zone
+      (body_measures b).before);
+  after = over_two (body_measures a).after (over_outside (body_measures a).zone
+      (body_measures b).after);
 }
 
 -- what a term measures

@@ -42,7 +42,10 @@ listing place negated members = record { negated = negated; members = found plac
 
 -- the place of the class in the table, and the table with it
 abbrev pub placed : Listing → Numbering → Step ℕ
-placed c n = record { value = position_or_len (same_listing c) n.classes; after = record n { classes = with_class n.classes c } }
+placed c n = record {
+  value = position_or_len (same_listing c) n.classes;
+  after = record n { classes = with_class n.classes c };
+}
 
 abbrev pub one_part : {X Y : Type 0} → (X → Y) → Step X → Step Y
 one_part f a = record { value = f a.value; after = a.after }
@@ -53,7 +56,8 @@ two_parts f a b = record { value = f a.value (b a.after).value; after = (b a.aft
 
 abbrev pub numbered : Place → Shape → Numbering → Step Expr
 numbered place Empty n = record { value = x.Empty; after = n }
-numbered place (Class negated members) n = one_part x.Class (placed (listing place negated members) n)
+numbered place (Class negated members) n =
+    one_part x.Class (placed (listing place negated members) n)
 numbered place (Seq a b) n = two_parts x.Seq (numbered place a n) (numbered place b)
 numbered place (Alt a b) n = two_parts x.Alt (numbered place a n) (numbered place b)
 numbered place (Meet a b) n = two_parts x.Meet (numbered place a n) (numbered place b)
@@ -71,21 +75,28 @@ core_joined body_joint.Else = core.Else
 
 -- a path that is asked for has the next marker
 abbrev pub marked : Step Expr → Step Change
-marked a = record { value = change.AnyOf a.value (a.after.markers + 1); after = record { classes = a.after.classes; markers = a.after.markers + 1 } }
+marked a = record {
+  value = change.AnyOf a.value (a.after.markers + 1);
+  after = record { classes = a.after.classes; markers = a.after.markers + 1 };
+}
 
 abbrev pub numbered_change : Place → Modifier Shape → Numbering → Step Change
 numbered_change place m.Preserve n = record { value = change.Preserve; after = n }
 numbered_change place (m.Add p) n = one_part change.Add (numbered place p n)
 numbered_change place (m.Remove p) n = one_part change.Remove (numbered place p n)
-numbered_change place (m.Replace p q) n = two_parts change.Replace (numbered place p n) (numbered place q)
+numbered_change place (m.Replace p q) n =
+    two_parts change.Replace (numbered place p n) (numbered place q)
 numbered_change place m.Drop n = record { value = change.Drop; after = n }
 numbered_change place (m.AnyOf p) n = marked (numbered place p n)
 numbered_change place (m.Ignore p) n = one_part change.Ignore (numbered place p n)
 
 abbrev pub numbered_body : Place → BodyShape → Numbering → Step Core
-numbered_body place (Unit' z c) n = two_parts core.Unit (numbered place z n) (numbered_change place c)
-numbered_body place (Then a b) n = two_parts core.Then (numbered_body place a n) (numbered_body place b)
-numbered_body place (Else a b) n = two_parts core.Else (numbered_body place a n) (numbered_body place b)
+numbered_body place (Unit' z c) n = two_parts core.Unit (numbered place z n)
+    (numbered_change place c)
+numbered_body place (Then a b) n = two_parts core.Then (numbered_body place a n)
+    (numbered_body place b)
+numbered_body place (Else a b) n = two_parts core.Else (numbered_body place a n)
+    (numbered_body place b)
 
 -- the expansion by way of a shape, or of its refusal
 abbrev pub expands : {S X : Type 0} → (S → Numbering → Step X) → Result S SpecError → Expansion X

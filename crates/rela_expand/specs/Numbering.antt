@@ -34,7 +34,8 @@ gives x numbering = Ok (record { value = x; after = numbering })
 abbrev pub refuses : {X : Type 0} → SpecError → Expansion X
 refuses e numbering = Err e
 
-abbrev pub go_on : {X Y : Type 0} → (X → Expansion Y) → Result (Step X) SpecError → Result (Step Y) SpecError
+abbrev pub go_on : {X Y : Type 0} → (X → Expansion Y) → Result (Step X) SpecError →
+    Result (Step Y) SpecError
 go_on f (Ok step) = f step.value step.after
 go_on f (Err e) = Err e
 

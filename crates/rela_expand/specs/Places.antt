@@ -40,7 +40,8 @@ symbols_of place Loop = Ok ((drop_symbol (locations_at place) + 1) ∷ [])
 
 -- the path symbols that are in some of the lists, ascending
 abbrev pub in_some : Place → List (List ℕ) → List ℕ
-in_some place lists = filter (λ s. list_any (λ list. list_any (nat_eq s) list) lists) (range_with_len 0 (path_symbols_at place))
+in_some place lists = filter (λ s. list_any (λ list. list_any (nat_eq s) list) lists)
+    (range_with_len 0 (path_symbols_at place))
 
 -- the path symbols that some member names, ascending; the first member that names none refuses
 unfoldable pub listed : Place → List Member → Result (List ℕ) SpecError

@@ -25,7 +25,8 @@ paths_named shapes definitions name = path_at shapes (meaning_of definitions nam
 
 -- each name of a path has its form
 abbrev pub AreKnown : List Shape → Definitions → Type 0
-AreKnown shapes definitions = (name : List ℕ) (k : ℕ) → meaning_of definitions name ≡ Some (meaning.Path k) → k < length shapes
+AreKnown shapes definitions = (name : List ℕ) (k : ℕ) → meaning_of definitions name
+    ≡ Some (meaning.Path k) → k < length shapes
 
 -- what is shaped stands at this place
 pub record IsMade (shaped : Result Shape SpecError) (shapes : List Shape) (k : ℕ) : Type 0 where
@@ -33,6 +34,7 @@ pub record IsMade (shaped : Result Shape SpecError) (shapes : List Shape) (k : �
   pub is : shaped ≡ Ok (shape_at shapes k)
 
 -- what is shaped stands at these places, in order
-pub record AreMade (shaped : Result (List Shape) SpecError) (shapes : List Shape) (ks : List ℕ) : Type 0 where
+pub record AreMade (shaped : Result (List Shape) SpecError) (shapes : List Shape)
+    (ks : List ℕ) : Type 0 where
   pub inside : All (λ k. k < length shapes) ks
   pub are : shaped ≡ Ok (map (shape_at shapes) ks)

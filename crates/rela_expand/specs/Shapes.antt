@@ -50,7 +50,8 @@ class_shape place negated members = do
   symbols ← listed place members
   Ok (Class negated members)
 
-abbrev pub layer_shape : Place → (List ℕ → Option Shape) → e.PathExpr-F (Result Shape SpecError) → Result Shape SpecError
+abbrev pub layer_shape : Place → (List ℕ → Option Shape) → e.PathExpr-F (Result Shape SpecError) →
+    Result Shape SpecError
 layer_shape place names e.Any = Ok (Class true [])
 layer_shape place names e.Empty = Ok Empty
 layer_shape place names (e.One member) = class_shape place false (member ∷ [])
@@ -85,7 +86,8 @@ layer_shape place names (e.Times part n) = do
 unfoldable pub shape_of : Place → (List ℕ → Option Shape) → PathExpr → Result Shape SpecError
 shape_of place names = fold-PathExpr (Result Shape SpecError) (layer_shape place names)
 
-abbrev pub change_shape : Place → (List ℕ → Option Shape) → Modifier PathExpr → Result (Modifier Shape) SpecError
+abbrev pub change_shape : Place → (List ℕ → Option Shape) → Modifier PathExpr →
+    Result (Modifier Shape) SpecError
 change_shape place names m.Preserve = Ok m.Preserve
 change_shape place names (m.Add p) = do
   a ← shape_of place names p
@@ -109,7 +111,8 @@ change_shape place names (m.Ignore p) = do
 abbrev pub no_body : BodyShape
 no_body = Unit Empty m.Preserve
 
-abbrev pub layer_body_shape : Place → Shapes → s.SpecExpr-F (Result BodyShape SpecError) → Result BodyShape SpecError
+abbrev pub layer_body_shape : Place → Shapes → s.SpecExpr-F (Result BodyShape SpecError) →
+    Result BodyShape SpecError
 layer_body_shape place names (s.Unit zone modifier) = do
   z ← shape_of place names.paths zone
   c ← change_shape place names.paths modifier
@@ -124,7 +127,8 @@ layer_body_shape place names (s.Else parts) = do
 
 -- the shape of a specification, or its first refusal
 unfoldable pub body_shape_of : Place → Shapes → SpecExpr → Result BodyShape SpecError
-body_shape_of place names = fold-SpecExpr (Result BodyShape SpecError) (layer_body_shape place names)
+body_shape_of place names = fold-SpecExpr (Result BodyShape SpecError)
+    (layer_body_shape place names)
 
 -- the nodes of the term of an expression of this shape
 abbrev pub nodes_of_shape : Shape → ℕ

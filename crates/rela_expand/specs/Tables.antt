@@ -11,7 +11,10 @@ entry_of entry = record { negated = entry.negated; members = entry.members.items
 
 -- what is numbered so far
 abbrev pub numbering_of : Numbers → Numbering
-numbering_of numbers = record { classes = map entry_of numbers.classes.keys; markers = numbers.markers }
+numbering_of numbers = record {
+  classes = map entry_of numbers.classes.keys;
+  markers = numbers.markers;
+}
 
 -- the symbols that the classes list are counted as far as 64 bits go
 abbrev pub IsCounted : Numbers → Type 0

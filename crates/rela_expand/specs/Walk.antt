@@ -19,13 +19,31 @@ pub record Seen : Type 0 where
   pub checks : List Expanded
 
 abbrev pub at_start : Seen
-at_start = record { names = record { paths = λ _. None; specs = λ _. None }; taken = []; checks = [] }
+at_start = record {
+  names = record { paths = λ _. None; specs = λ _. None };
+  taken = [];
+  checks = [];
+}
 
 abbrev pub seen_path : List ℕ → Shape → Seen → Seen
-seen_path name shape seen = record { names = record { paths = with_name name shape seen.names.paths; specs = seen.names.specs }; taken = name ∷ seen.taken; checks = seen.checks }
+seen_path name shape seen = record {
+  names = record {
+    paths = with_name name shape seen.names.paths;
+    specs = seen.names.specs;
+  };
+  taken = name ∷ seen.taken;
+  checks = seen.checks;
+}
 
 abbrev pub seen_spec : List ℕ → BodyShape → Seen → Seen
-seen_spec name shape seen = record { names = record { paths = seen.names.paths; specs = with_name name shape seen.names.specs }; taken = name ∷ seen.taken; checks = seen.checks }
+seen_spec name shape seen = record {
+  names = record {
+    paths = seen.names.paths;
+    specs = with_name name shape seen.names.specs;
+  };
+  taken = name ∷ seen.taken;
+  checks = seen.checks;
+}
 
 -- one item more
 unfoldable pub with_shaped : Place → Seen → Item → Result Seen SpecError
@@ -42,14 +60,27 @@ with_shaped place seen (Check at_most name at when body) = do
   within ← not_full seen.checks at
   shape ← body_shape_of place seen.names body
   step ← in_size (locations_at place) at (numbered_body place shape nothing_numbered)
-  Ok (record seen { checks = seen.checks ++ record { name = new; at_most = at_most; when = when; classes = step.after.classes; body = step.value } ∷ [] })
+  Ok (record seen {
+    checks = seen.checks ++ record {
+      name = new;
+      at_most = at_most;
+      when = when;
+      classes = step.after.classes;
+      body = step.value;
+    } ∷ [];
+  })
 
 -- the same, with what names expand to
 abbrev pub sofar_of : Place → Seen → Sofar
-sofar_of place seen = record { names = expansions_of place seen.names; taken = seen.taken; checks = seen.checks }
+sofar_of place seen = record {
+  names = expansions_of place seen.names;
+  taken = seen.taken;
+  checks = seen.checks;
+}
 
 -- the checks of a specification over a network, or the first refusal
 unfoldable pub shaped : Network → SpecFile → Result (List Expanded) SpecError
 shaped network file = do
-  seen ← try_fold (with_shaped (record { network = network; level = file.level })) at_start file.items
+  seen ← try_fold (with_shaped (record { network = network; level = file.level }))
+      at_start file.items
   Ok seen.checks

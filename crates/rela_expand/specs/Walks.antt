@@ -15,18 +15,22 @@ use Rattle.rela_expand.specs.declared.walking.Walk.{Walk}
 
 -- the names that stand for something are these
 abbrev pub AreTaken : Definitions → List (List ℕ) → Type 0
-AreTaken definitions names = (name : List ℕ) → is_some (meaning_of definitions name) ≡ has_name names name
+AreTaken definitions names = (name : List ℕ) → is_some (meaning_of definitions name)
+    ≡ has_name names name
 
 abbrev pub names_of : List Expanded → List (List ℕ)
 names_of = map (λ check. check.name)
 
-abbrev pub seen_with : List Shape → List BodyShape → Definitions → List (List ℕ) → List Expanded → Seen
-seen_with paths bodies definitions taken checks = record { names = all_named paths bodies definitions; taken = taken; checks = checks }
+abbrev pub seen_with : List Shape → List BodyShape → Definitions → List (List ℕ) →
+    List Expanded → Seen
+seen_with paths bodies definitions taken checks =
+    record { names = all_named paths bodies definitions; taken = taken; checks = checks }
 
 -- what has been read, where these names are taken
 abbrev pub seen_of : Walk → List (List ℕ) → Seen
 seen_of walk taken =
-    seen_with (shapes_of walk.forms.forms.items) (bodies_of (shapes_of walk.forms.forms.items) walk.bodies.forms.items) walk.names taken (map outcome_of walk.checks.items)
+    seen_with (shapes_of walk.forms.forms.items) (bodies_of (shapes_of walk.forms.forms.items)
+    walk.bodies.forms.items) walk.names taken (map outcome_of walk.checks.items)
 
 -- the names that are taken after one item more
 abbrev pub taken_with : Item → List (List ℕ) → List (List ℕ)
@@ -37,6 +41,7 @@ taken_with (Check at_most name at when body) taken = taken
 -- names stand for forms that are there, and the checks' names are found
 pub record IsWalk (walk : Walk) : Type 0 where
   pub known : AreKnown (shapes_of walk.forms.forms.items) walk.names
-  pub specs_known : AreBodiesKnown (bodies_of (shapes_of walk.forms.forms.items) walk.bodies.forms.items) walk.names
+  pub specs_known : AreBodiesKnown (bodies_of (shapes_of walk.forms.forms.items)
+      walk.bodies.forms.items) walk.names
   pub are : AreBodies (shapes_of walk.forms.forms.items) walk.bodies.forms.items
   pub named : AreTaken walk.check_names (names_of (map outcome_of walk.checks.items))

@@ -33,7 +33,8 @@ UnitZoneW place named Z (Ignore p) = Z
 -- One layer of a specification, where it is given which words its parts speak of.
 module _ {X : Type 0} (part : X → WordSet) where
   abbrev pub LayerZoneW : Place → NamesW → SpecExpr-F X → WordSet
-  LayerZoneW place names (Unit' zone m) w = UnitZoneW place names.paths (LangW place names.paths zone) m w
+  LayerZoneW place names (Unit' zone m) w =
+      UnitZoneW place names.paths (LangW place names.paths zone) m w
   LayerZoneW place names (Reference name at) w = names.zones name w
   LayerZoneW place names (Then parts) w = InOrder part parts w
   LayerZoneW place names (Else parts) w = OfSome part parts w
@@ -48,8 +49,10 @@ with_words name X others other w = ((other ≡ name) × X w) ⊎ ((other ≢ nam
 
 -- one item more
 abbrev pub with_item_w : Place → NamesW → Item → NamesW
-with_item_w place names (Path name at body) = record names { paths = with_words name (LangW place names.paths body) names.paths }
-with_item_w place names (Spec name at body) = record names { zones = with_words name (ZoneW place names body) names.zones }
+with_item_w place names (Path name at body) =
+    record names { paths = with_words name (LangW place names.paths body) names.paths }
+with_item_w place names (Spec name at body) =
+    record names { zones = with_words name (ZoneW place names body) names.zones }
 with_item_w place names (Check at_most name at when body) = names
 
 -- what the names of the items stand for, each by the items before it
@@ -77,7 +80,8 @@ units_w named = fold-SpecExpr (List UnitW) (layer_units_w named)
 
 abbrev pub with_item_units : (List ℕ → List UnitW) → Item → List ℕ → List UnitW
 with_item_units named (Path name at body) = named
-with_item_units named (Spec name at body) = λ other. if bytes_eq name other then units_w named body else named other
+with_item_units named (Spec name at body) = λ other. if bytes_eq name other
+    then units_w named body else named other
 with_item_units named (Check at_most name at when body) = named
 
 -- the units that the names of the items stand for

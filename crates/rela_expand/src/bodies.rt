@@ -73,9 +73,12 @@ impl Bodies {
     pub(crate) fn get(&self, place: usize) -> &BodyLayer
         requires { place < length self.now.forms.items }
         ensures shape { (paths : List Shape) → AreBodies paths self.now.forms.items →
-            body_at (bodies_of paths self.now.forms.items) place ≡ body_in paths (bodies_of paths self.now.forms.items) result.now }
-        ensures below { (paths : List Shape) → AreBodies paths self.now.forms.items → behind_parts result.now ≤ place }
-        ensures zoned { (paths : List Shape) → AreBodies paths self.now.forms.items → behind_paths result.now ≤ length paths }
+            body_at (bodies_of paths self.now.forms.items) place
+            ≡ body_in paths (bodies_of paths self.now.forms.items) result.now }
+        ensures below { (paths : List Shape) → AreBodies paths self.now.forms.items →
+            behind_parts result.now ≤ place }
+        ensures zoned { (paths : List Shape) → AreBodies paths self.now.forms.items →
+            behind_paths result.now ≤ length paths }
     {
         &self.forms[place].layer
     }
@@ -83,7 +86,8 @@ impl Bodies {
     /// How large the terms of the body at this place are.
     pub(crate) fn size(&self, place: usize) -> BodySize
         requires { place < length self.now.forms.items }
-        ensures { (paths : List Shape) → AreBodies paths self.now.forms.items → result ≡ size_of_body (body_at (bodies_of paths self.now.forms.items) place) }
+        ensures { (paths : List Shape) → AreBodies paths self.now.forms.items →
+            result ≡ size_of_body (body_at (bodies_of paths self.now.forms.items) place) }
     {
         self.forms[place].size
     }
@@ -95,9 +99,12 @@ impl Bodies {
         requires below { behind_parts layer ≤ length self.old.forms.items }
         requires zoned { behind_paths layer ≤ length (shapes_of paths.now.forms.items) }
         ensures are { AreBodies (shapes_of paths.now.forms.items) self.new.forms.items }
-        ensures grown { Grows (bodies_of (shapes_of paths.now.forms.items) self.old.forms.items) (bodies_of (shapes_of paths.now.forms.items) self.new.forms.items) }
-        ensures made { IfOk result (λ k. StandsFor (bodies_of (shapes_of paths.now.forms.items) self.new.forms.items)
-            (body_in (shapes_of paths.now.forms.items) (bodies_of (shapes_of paths.now.forms.items) self.old.forms.items) layer) k) }
+        ensures grown { Grows (bodies_of (shapes_of paths.now.forms.items) self.old.forms.items)
+            (bodies_of (shapes_of paths.now.forms.items) self.new.forms.items) }
+        ensures made { IfOk result (λ k.
+            StandsFor (bodies_of (shapes_of paths.now.forms.items) self.new.forms.items)
+            (body_in (shapes_of paths.now.forms.items) (bodies_of (shapes_of paths.now.forms.items)
+            self.old.forms.items) layer) k) }
     {
         let place = self.forms.len();
         let size = self.size_of(paths, &layer);
@@ -110,7 +117,8 @@ impl Bodies {
         requires are { AreBodies (shapes_of paths.now.forms.items) self.now.forms.items }
         requires below { behind_parts layer.now ≤ length self.now.forms.items }
         requires zoned { behind_paths layer.now ≤ length (shapes_of paths.now.forms.items) }
-        ensures { result ≡ size_of_body (body_in (shapes_of paths.now.forms.items) (bodies_of (shapes_of paths.now.forms.items) self.now.forms.items) layer.now) }
+        ensures { result ≡ size_of_body (body_in (shapes_of paths.now.forms.items)
+            (bodies_of (shapes_of paths.now.forms.items) self.now.forms.items) layer.now) }
     {
         match layer {
             BodyLayer::Unit { zone, modifier } => unit_size(paths, *zone, modifier),
@@ -121,7 +129,8 @@ impl Bodies {
 
 /// How large the terms of two bodies are that are joined so.
 fn joined_size(by: BodyJoint, a: BodySize, b: BodySize) -> BodySize
-    ensures { (x y : BodyShape) → a ≡ size_of_body x → b ≡ size_of_body y → result ≡ size_of_body (body_joined by x y) }
+    ensures { (x y : BodyShape) → a ≡ size_of_body x → b ≡ size_of_body y →
+        result ≡ size_of_body (body_joined by x y) }
 {
     let zone = of_two(a.zone, b.zone);
     match by {
@@ -145,7 +154,8 @@ fn joined_size(by: BodyJoint, a: BodySize, b: BodySize) -> BodySize
 fn unit_size(paths: &Forms<'_>, zone: usize, modifier: &Modifier<usize>) -> BodySize
     requires zone { zone < length (shapes_of paths.now.forms.items) }
     requires paths { behind_modifier modifier.now ≤ length (shapes_of paths.now.forms.items) }
-    ensures { result ≡ size_of_body (UnitShape (shape_at (shapes_of paths.now.forms.items) zone) (modifier_at (shapes_of paths.now.forms.items) modifier.now)) }
+    ensures { result ≡ size_of_body (UnitShape (shape_at (shapes_of paths.now.forms.items) zone)
+        (modifier_at (shapes_of paths.now.forms.items) modifier.now)) }
 {
     let z = paths.size(zone);
     match modifier {
@@ -193,14 +203,16 @@ const LEAF: Size = Size { nodes: 1, depth: 1 };
 
 /// The size of the identity on the words of the first term that are not in the second.
 fn size_without(a: Size, b: Size) -> Size
-    ensures { (x y : Measure) → a ≡ capped_size x → b ≡ capped_size y → result ≡ capped_size (over (over_without x y)) }
+    ensures { (x y : Measure) → a ≡ capped_size x → b ≡ capped_size y →
+        result ≡ capped_size (over (over_without x y)) }
 {
     of_one(of_two(a, of_one(b)))
 }
 
 /// How large the terms of a unit are that replaces the old paths of its zone by the new ones.
 fn replaced_size(zone: Size, old: Size, new: Size) -> BodySize
-    ensures { (z p q : Measure) → zone ≡ capped_size z → old ≡ capped_size p → new ≡ capped_size q → result ≡ capped_sizes (unit_measures z (Modifier.Replace p q)) }
+    ensures { (z p q : Measure) → zone ≡ capped_size z → old ≡ capped_size p → new ≡ capped_size q →
+        result ≡ capped_sizes (unit_measures z (Modifier.Replace p q)) }
 {
     let all = of_two(zone, new);
     let gone = of_two(old, zone);
@@ -213,7 +225,8 @@ fn replaced_size(zone: Size, old: Size, new: Size) -> BodySize
 
 /// How large the terms of a unit are that asks for any of the paths.
 fn any_size(zone: Size, path: Size) -> BodySize
-    ensures { (z p : Measure) → zone ≡ capped_size z → path ≡ capped_size p → result ≡ capped_sizes (unit_measures z (Modifier.AnyOf p)) }
+    ensures { (z p : Measure) → zone ≡ capped_size z → path ≡ capped_size p →
+        result ≡ capped_sizes (unit_measures z (Modifier.AnyOf p)) }
 {
     let all = of_two(zone, path);
     BodySize {

@@ -23,9 +23,13 @@ pub(crate) fn body_tree(
     requires some { 1 ≤ length places.now }
     requires inside { All (λ k. k < length bodies.old.forms.items) places.now }
     ensures are { AreBodies (shapes_of paths.now.forms.items) bodies.new.forms.items }
-    ensures grown { Grows (bodies_of (shapes_of paths.now.forms.items) bodies.old.forms.items) (bodies_of (shapes_of paths.now.forms.items) bodies.new.forms.items) }
-    ensures made { IfOk result (λ k. StandsFor (bodies_of (shapes_of paths.now.forms.items) bodies.new.forms.items)
-        (tree_of (body_joined by) no_body (map (body_at (bodies_of (shapes_of paths.now.forms.items) bodies.old.forms.items)) places.now)) k) }
+    ensures grown { Grows (bodies_of (shapes_of paths.now.forms.items) bodies.old.forms.items)
+        (bodies_of (shapes_of paths.now.forms.items) bodies.new.forms.items) }
+    ensures made { IfOk result (λ k. StandsFor (bodies_of (shapes_of paths.now.forms.items)
+        bodies.new.forms.items)
+        (tree_of (body_joined by) no_body
+        (map (body_at (bodies_of (shapes_of paths.now.forms.items) bodies.old.forms.items))
+        places.now)) k) }
 {
     if places.len() == 1 {
         return Ok(places[0]);

@@ -36,17 +36,30 @@ fn unfold_modifier<'a>(
     numbers: &mut Numbers<'a>,
 ) -> Result<Change, Unfit>
     requires inside { behind_modifier modifier.now ≤ length (shapes_of forms.now.forms.items) }
-    requires room { length numbers.old.classes.keys + weight_of_modifier (modifier_at (shapes_of forms.now.forms.items) modifier.now) < 2 ^ 32 }
+    requires room { length numbers.old.classes.keys
+        + weight_of_modifier (modifier_at (shapes_of forms.now.forms.items) modifier.now) < 2 ^ 32 }
     requires few { numbers.old.markers + 1 < 2 ^ 32 }
     requires counted { IsCounted numbers.old }
     requires written { AreWritten (record { network = locations.now; level = level }) numbers.old }
-    requires places { ArePlaced (record { network = locations.now; level = level }) (shapes_of forms.now.forms.items) numbers.old }
-    ensures unfolded { IfOk result (λ c. numbered_change (record { network = locations.now; level = level }) (modifier_at (shapes_of forms.now.forms.items) modifier.now) (numbering_of numbers.old)
+    requires places { ArePlaced (record { network = locations.now; level = level })
+        (shapes_of forms.now.forms.items) numbers.old }
+    ensures unfolded { IfOk result (λ c. numbered_change (record {
+      network = locations.now;
+      level = level;
+    }) (modifier_at (shapes_of forms.now.forms.items) modifier.now)
+        (numbering_of numbers.old)
         ≡ record { value = c; after = numbering_of numbers.new }) }
     ensures counted { OnOk result (IsCounted numbers.new) }
-    ensures written { OnOk result (AreWritten (record { network = locations.now; level = level }) numbers.new) }
-    ensures places { OnOk result (ArePlaced (record { network = locations.now; level = level }) (shapes_of forms.now.forms.items) numbers.new) }
-    ensures too_large { IfErr result (λ e. e ≡ Unfit.TooLarge → 4000000 < symbols_in (numbered_change (record { network = locations.now; level = level }) (modifier_at (shapes_of forms.now.forms.items) modifier.now) (numbering_of numbers.old)).after.classes) }
+    ensures written { OnOk result (AreWritten (record {
+      network = locations.now;
+      level = level;
+    }) numbers.new) }
+    ensures places { OnOk result (ArePlaced (record { network = locations.now; level = level })
+        (shapes_of forms.now.forms.items) numbers.new) }
+    ensures too_large { IfErr result (λ e. e ≡ Unfit.TooLarge →
+        4000000 < symbols_in (numbered_change (record { network = locations.now; level = level })
+        (modifier_at (shapes_of forms.now.forms.items) modifier.now)
+        (numbering_of numbers.old)).after.classes) }
 {
     match modifier {
         Modifier::Preserve => Ok(Change::Preserve),
@@ -95,17 +108,33 @@ pub(crate) fn unfold_body<'a>(
 ) -> Result<Core, Unfit>
     requires inside { place < length bodies.now.forms.items }
     requires are { AreBodies (shapes_of forms.now.forms.items) bodies.now.forms.items }
-    requires room { length numbers.old.classes.keys + weight_of (body_at (bodies_of (shapes_of forms.now.forms.items) bodies.now.forms.items) place) < 2 ^ 32 }
-    requires few { numbers.old.markers + weight_of (body_at (bodies_of (shapes_of forms.now.forms.items) bodies.now.forms.items) place) < 2 ^ 32 }
+    requires room { length numbers.old.classes.keys
+        + weight_of (body_at (bodies_of (shapes_of forms.now.forms.items) bodies.now.forms.items)
+        place) < 2 ^ 32 }
+    requires few { numbers.old.markers + weight_of
+        (body_at (bodies_of (shapes_of forms.now.forms.items) bodies.now.forms.items) place)
+        < 2 ^ 32 }
     requires counted { IsCounted numbers.old }
     requires written { AreWritten (record { network = locations.now; level = level }) numbers.old }
-    requires places { ArePlaced (record { network = locations.now; level = level }) (shapes_of forms.now.forms.items) numbers.old }
-    ensures unfolded { IfOk result (λ c. numbered_body (record { network = locations.now; level = level }) (body_at (bodies_of (shapes_of forms.now.forms.items) bodies.now.forms.items) place) (numbering_of numbers.old)
+    requires places { ArePlaced (record { network = locations.now; level = level })
+        (shapes_of forms.now.forms.items) numbers.old }
+    ensures unfolded { IfOk result (λ c. numbered_body (record {
+      network = locations.now;
+      level = level;
+    }) (body_at (bodies_of (shapes_of forms.now.forms.items)
+        bodies.now.forms.items) place) (numbering_of numbers.old)
         ≡ record { value = c; after = numbering_of numbers.new }) }
     ensures counted { OnOk result (IsCounted numbers.new) }
-    ensures written { OnOk result (AreWritten (record { network = locations.now; level = level }) numbers.new) }
-    ensures places { OnOk result (ArePlaced (record { network = locations.now; level = level }) (shapes_of forms.now.forms.items) numbers.new) }
-    ensures too_large { IfErr result (λ e. e ≡ Unfit.TooLarge → 4000000 < symbols_in (numbered_body (record { network = locations.now; level = level }) (body_at (bodies_of (shapes_of forms.now.forms.items) bodies.now.forms.items) place) (numbering_of numbers.old)).after.classes) }
+    ensures written { OnOk result (AreWritten (record {
+      network = locations.now;
+      level = level;
+    }) numbers.new) }
+    ensures places { OnOk result (ArePlaced (record { network = locations.now; level = level })
+        (shapes_of forms.now.forms.items) numbers.new) }
+    ensures too_large { IfErr result (λ e. e ≡ Unfit.TooLarge →
+        4000000 < symbols_in (numbered_body (record { network = locations.now; level = level })
+        (body_at (bodies_of (shapes_of forms.now.forms.items) bodies.now.forms.items) place)
+        (numbering_of numbers.old)).after.classes) }
 {
     match bodies.get(place) {
         BodyLayer::Unit { zone, modifier } => {

@@ -39,10 +39,13 @@ pub fn expand(
 ) -> Result<Vec<Check>, SpecError>
     requires full { IsFull file.now }
     requires low { All IsLow file.now.items }
-    ensures checks { IfOk result (λ checks. expanded locations.now file.now ≡ Ok (map outcome_of checks.items)) }
-    ensures level { IfOk result (λ checks. All (λ check. check.level ≡ file.now.level) checks.items) }
+    ensures checks { IfOk result (λ checks. expanded locations.now file.now
+        ≡ Ok (map outcome_of checks.items)) }
+    ensures level { IfOk result (λ checks.
+        All (λ check. check.level ≡ file.now.level) checks.items) }
     ensures faithful { IfOk result (λ checks.
-        AllZip (IsFaithful (record { network = locations.now; level = file.now.level }) file.now.items) (bodies_of file.now.items) checks.items) }
+        AllZip (IsFaithful (record { network = locations.now; level = file.now.level })
+        file.now.items) (bodies_of file.now.items) checks.items) }
     ensures refused { IfErr result (λ e. e ≢ Memory → expanded locations.now file.now ≡ Err e) }
 {
     walk_items(alloc, locations, file.level, file.items.as_slice())

@@ -15,6 +15,8 @@ ghost use Rattle.rela_expand.specs.ZonesW.{bodies_of};
 /// followed: each with the same words in its zone, the same kind of modifier, and the same words in
 /// the modifier's paths.
 pub fn checks_are_faithful()
-    ensures { (network : Network) (file : SpecFile) (checks : List Checked) → IsFull file → expanded network file ≡ Ok (map outcome_of checks) →
-        AllZip (IsFaithful (record { network = network; level = file.level }) file.items) (bodies_of file.items) checks }
+    ensures { (network : Network) (file : SpecFile) (checks : List Checked) → IsFull file →
+        expanded network file ≡ Ok (map outcome_of checks) →
+        AllZip (IsFaithful (record { network = network; level = file.level }) file.items)
+        (bodies_of file.items) checks }
 {}

@@ -21,13 +21,20 @@ const MAX_NODES: u64 = 20_000;
 /// `TooDeep` where one is deeper than 1,000; else `TooLarge` where the two have more than 20,000
 /// nodes together.
 pub(crate) fn fit(size: BodySize, at: u32) -> Result<(), SpecError>
-    ensures shallow_before { (sizes : Measures) → size ≡ capped_sizes sizes → OnOk result (sizes.before.depth ≤ 1000) }
-    ensures shallow_after { (sizes : Measures) → size ≡ capped_sizes sizes → OnOk result (sizes.after.depth ≤ 1000) }
-    ensures few { (sizes : Measures) → size ≡ capped_sizes sizes → OnOk result (sizes.before.nodes + sizes.after.nodes ≤ 20000) }
+    ensures shallow_before { (sizes : Measures) → size ≡ capped_sizes sizes →
+        OnOk result (sizes.before.depth ≤ 1000) }
+    ensures shallow_after { (sizes : Measures) → size ≡ capped_sizes sizes →
+        OnOk result (sizes.after.depth ≤ 1000) }
+    ensures few { (sizes : Measures) → size ≡ capped_sizes sizes →
+        OnOk result (sizes.before.nodes + sizes.after.nodes ≤ 20000) }
     ensures refused { IfErr result (λ e. (e ≡ TooDeep at) ⊎ (e ≡ TooLarge at)) }
-    ensures too_deep { (sizes : Measures) → size ≡ capped_sizes sizes → IfErr result (λ e. e ≡ TooDeep at → (1000 < sizes.before.depth) ⊎ (1000 < sizes.after.depth)) }
-    ensures too_large { (sizes : Measures) → size ≡ capped_sizes sizes → IfErr result (λ e. e ≡ TooLarge at →
-        (sizes.before.depth ≤ 1000) × (sizes.after.depth ≤ 1000) × (20000 < sizes.before.nodes + sizes.after.nodes)) }
+    ensures too_deep { (sizes : Measures) → size ≡ capped_sizes sizes →
+        IfErr result (λ e. e ≡ TooDeep at → (1000 < sizes.before.depth)
+        ⊎ (1000 < sizes.after.depth)) }
+    ensures too_large { (sizes : Measures) → size ≡ capped_sizes sizes →
+        IfErr result (λ e. e ≡ TooLarge at →
+        (sizes.before.depth ≤ 1000) × (sizes.after.depth ≤ 1000)
+        × (20000 < sizes.before.nodes + sizes.after.nodes)) }
 {
     if size.before.depth > MAX_DEPTH || size.after.depth > MAX_DEPTH {
         return Err(SpecError::TooDeep { at });

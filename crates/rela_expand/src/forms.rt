@@ -83,7 +83,8 @@ impl<'a> Forms<'a> {
     /// The layer of the form at this place.
     pub(crate) fn get(&self, place: usize) -> Layer<'a>
         requires { place < length (shapes_of self.now.forms.items) }
-        ensures shape { shape_at (shapes_of self.now.forms.items) place ≡ shape_in (shapes_of self.now.forms.items) result }
+        ensures shape { shape_at (shapes_of self.now.forms.items) place
+            ≡ shape_in (shapes_of self.now.forms.items) result }
         ensures below { behind result ≤ place }
     {
         self.forms[place].layer
@@ -102,7 +103,8 @@ impl<'a> Forms<'a> {
     pub(crate) fn add(&mut self, layer: Layer<'a>) -> Result<usize, AllocError>
         requires { behind layer ≤ length (shapes_of self.old.forms.items) }
         ensures grown { Extends (shapes_of self.old.forms.items) (shapes_of self.new.forms.items) }
-        ensures made { IfOk result (λ k. StandsAt (shapes_of self.new.forms.items) (shape_in (shapes_of self.old.forms.items) layer.entry) k) }
+        ensures made { IfOk result (λ k. StandsAt (shapes_of self.new.forms.items)
+            (shape_in (shapes_of self.old.forms.items) layer.entry) k) }
     {
         let place = self.forms.len();
         let size = self.size_of(layer);
@@ -127,7 +129,10 @@ impl<'a> Forms<'a> {
 
 /// The size of a term with one part: one node more than the part, and one deeper.
 pub(crate) fn of_one(part: Size) -> Size
-    ensures size { result ≡ record { nodes = capped (part.nodes + 1); depth = capped (part.depth + 1) } }
+    ensures size { result ≡ record {
+      nodes = capped (part.nodes + 1);
+      depth = capped (part.depth + 1);
+    } }
     ensures measure { (m : Measure) → part ≡ capped_size m → result ≡ capped_size (over m) }
 {
     Size {
@@ -138,8 +143,12 @@ pub(crate) fn of_one(part: Size) -> Size
 
 /// The size of a term with two parts: one node more than both, and one deeper than the deeper one.
 pub(crate) fn of_two(a: Size, b: Size) -> Size
-    ensures size { result ≡ record { nodes = capped (a.nodes + b.nodes + 1); depth = capped (max a.depth b.depth + 1) } }
-    ensures measure { (x y : Measure) → a ≡ capped_size x → b ≡ capped_size y → result ≡ capped_size (over_two x y) }
+    ensures size { result ≡ record {
+      nodes = capped (a.nodes + b.nodes + 1);
+      depth = capped (max a.depth b.depth + 1);
+    } }
+    ensures measure { (x y : Measure) → a ≡ capped_size x → b ≡ capped_size y →
+        result ≡ capped_size (over_two x y) }
 {
     Size {
         nodes: a.nodes.saturating_add(b.nodes).saturating_add(1),

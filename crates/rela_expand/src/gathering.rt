@@ -63,8 +63,10 @@ pub(crate) fn gather<'a>(
 ) -> Result<usize, SpecError>
     requires { AreKnown (shapes_of forms.old.forms.items) scope.now.names.now }
     ensures grown { Extends (shapes_of forms.old.forms.items) (shapes_of forms.new.forms.items) }
-    ensures made { IfOk result (λ k. IsMade (path_shape scope.now (shapes_of forms.old.forms.items) path.now) (shapes_of forms.new.forms.items) k) }
-    ensures refused { IfErr result (λ e. e ≢ Memory → path_shape scope.now (shapes_of forms.old.forms.items) path.now ≡ Err e) }
+    ensures made { IfOk result (λ k. IsMade (path_shape scope.now (shapes_of forms.old.forms.items)
+        path.now) (shapes_of forms.new.forms.items) k) }
+    ensures refused { IfErr result (λ e. e ≢ Memory →
+        path_shape scope.now (shapes_of forms.old.forms.items) path.now ≡ Err e) }
 {
     match path {
         PathExpr::Any => leaf(forms, Layer::Any),
@@ -95,8 +97,12 @@ fn around<'a>(
 ) -> Result<usize, SpecError>
     requires { AreKnown (shapes_of forms.old.forms.items) scope.now.names.now }
     ensures grown { Extends (shapes_of forms.old.forms.items) (shapes_of forms.new.forms.items) }
-    ensures made { IfOk result (λ k. IsMade (made_of (wrapped how) (path_shape scope.now (shapes_of forms.old.forms.items) part.now)) (shapes_of forms.new.forms.items) k) }
-    ensures refused { IfErr result (λ e. e ≢ Memory → (made_of (wrapped how) (path_shape scope.now (shapes_of forms.old.forms.items) part.now)) ≡ Err e) }
+    ensures made { IfOk result (λ k. IsMade
+        (made_of (wrapped how) (path_shape scope.now (shapes_of forms.old.forms.items) part.now))
+        (shapes_of forms.new.forms.items) k) }
+    ensures refused { IfErr result (λ e. e ≢ Memory →
+        (made_of (wrapped how) (path_shape scope.now (shapes_of forms.old.forms.items) part.now))
+        ≡ Err e) }
 {
     let place = gather(alloc, scope, forms, part)?;
     Ok(made_around(forms, how, place)?)
@@ -114,8 +120,13 @@ fn join<'a>(
 ) -> Result<usize, SpecError>
     requires { AreKnown (shapes_of forms.old.forms.items) scope.now.names.now }
     ensures grown { Extends (shapes_of forms.old.forms.items) (shapes_of forms.new.forms.items) }
-    ensures made { IfOk result (λ k. IsMade (made_of (tree_of (joined by) Empty) (all_of (map (path_shape scope.now (shapes_of forms.old.forms.items)) parts.now))) (shapes_of forms.new.forms.items) k) }
-    ensures refused { IfErr result (λ e. e ≢ Memory → (made_of (tree_of (joined by) Empty) (all_of (map (path_shape scope.now (shapes_of forms.old.forms.items)) parts.now))) ≡ Err e) }
+    ensures made { IfOk result (λ k. IsMade (made_of (tree_of (joined by) Empty)
+        (all_of (map (path_shape scope.now (shapes_of forms.old.forms.items)) parts.now)))
+        (shapes_of forms.new.forms.items) k) }
+    ensures refused { IfErr result (λ e. e ≢ Memory →
+        (made_of (tree_of (joined by) Empty)
+        (all_of (map (path_shape scope.now (shapes_of forms.old.forms.items)) parts.now)))
+        ≡ Err e) }
 {
     let places = gather_all(alloc, scope, forms, parts)?;
     Ok(tree(forms, by, places.as_slice())?)
@@ -132,8 +143,11 @@ fn gather_all<'a>(
 ) -> Result<Vec<usize>, SpecError>
     requires { AreKnown (shapes_of forms.old.forms.items) scope.now.names.now }
     ensures grown { Extends (shapes_of forms.old.forms.items) (shapes_of forms.new.forms.items) }
-    ensures made { IfOk result (λ ks. AreMade (all_of (map (path_shape scope.now (shapes_of forms.old.forms.items)) parts.now)) (shapes_of forms.new.forms.items) ks.items) }
-    ensures refused { IfErr result (λ e. e ≢ Memory → all_of (map (path_shape scope.now (shapes_of forms.old.forms.items)) parts.now) ≡ Err e) }
+    ensures made { IfOk result (λ ks. AreMade
+        (all_of (map (path_shape scope.now (shapes_of forms.old.forms.items)) parts.now))
+        (shapes_of forms.new.forms.items) ks.items) }
+    ensures refused { IfErr result (λ e. e ≢ Memory →
+        all_of (map (path_shape scope.now (shapes_of forms.old.forms.items)) parts.now) ≡ Err e) }
 {
     let mut places = Vec::new(alloc);
     for part in parts {
@@ -146,7 +160,8 @@ fn gather_all<'a>(
 fn leaf<'a>(forms: &mut Forms<'a>, layer: Layer<'a>) -> Result<usize, SpecError>
     requires { behind layer ≤ length (shapes_of forms.old.forms.items) }
     ensures grown { Extends (shapes_of forms.old.forms.items) (shapes_of forms.new.forms.items) }
-    ensures made { IfOk result (λ k. StandsAt (shapes_of forms.new.forms.items) (shape_in (shapes_of forms.old.forms.items) layer.entry) k) }
+    ensures made { IfOk result (λ k. StandsAt (shapes_of forms.new.forms.items)
+        (shape_in (shapes_of forms.old.forms.items) layer.entry) k) }
     ensures refused { IfErr result (λ e. e ≡ Memory) }
 {
     Ok(forms.add(layer)?)
@@ -156,7 +171,8 @@ fn leaf<'a>(forms: &mut Forms<'a>, layer: Layer<'a>) -> Result<usize, SpecError>
 fn made_around(forms: &mut Forms<'_>, how: Wrap, part: usize) -> Result<usize, AllocError>
     requires { part < length (shapes_of forms.old.forms.items) }
     ensures grown { Extends (shapes_of forms.old.forms.items) (shapes_of forms.new.forms.items) }
-    ensures made { IfOk result (λ k. StandsAt (shapes_of forms.new.forms.items) (wrapped how (shape_at (shapes_of forms.old.forms.items) part)) k) }
+    ensures made { IfOk result (λ k. StandsAt (shapes_of forms.new.forms.items)
+        (wrapped how (shape_at (shapes_of forms.old.forms.items) part)) k) }
 {
     match how {
         Wrap::Not => forms.add(Layer::Not(part)),
@@ -180,8 +196,12 @@ fn one<'a>(
     member: &'a Member,
 ) -> Result<usize, SpecError>
     ensures grown { Extends (shapes_of forms.old.forms.items) (shapes_of forms.new.forms.items) }
-    ensures made { IfOk result (λ k. IsMade (class_shape (record { network = scope.now.locations.now; level = scope.now.level }) false (member.now ∷ [])) (shapes_of forms.new.forms.items) k) }
-    ensures refused { IfErr result (λ e. e ≢ Memory → class_shape (record { network = scope.now.locations.now; level = scope.now.level }) false (member.now ∷ []) ≡ Err e) }
+    ensures made { IfOk result (λ k. IsMade
+        (class_shape (record { network = scope.now.locations.now; level = scope.now.level }) false
+        (member.now ∷ [])) (shapes_of forms.new.forms.items) k) }
+    ensures refused { IfErr result (λ e. e ≢ Memory →
+        class_shape (record { network = scope.now.locations.now; level = scope.now.level }) false
+        (member.now ∷ []) ≡ Err e) }
 {
     look_at_all(scope.locations, scope.level, slice::from_ref(member))?;
     leaf(forms, Layer::One(member))
@@ -195,8 +215,12 @@ fn class<'a>(
     members: &'a [Member],
 ) -> Result<usize, SpecError>
     ensures grown { Extends (shapes_of forms.old.forms.items) (shapes_of forms.new.forms.items) }
-    ensures made { IfOk result (λ k. IsMade (class_shape (record { network = scope.now.locations.now; level = scope.now.level }) negated members.now) (shapes_of forms.new.forms.items) k) }
-    ensures refused { IfErr result (λ e. e ≢ Memory → class_shape (record { network = scope.now.locations.now; level = scope.now.level }) negated members.now ≡ Err e) }
+    ensures made { IfOk result (λ k. IsMade
+        (class_shape (record { network = scope.now.locations.now; level = scope.now.level }) negated
+        members.now) (shapes_of forms.new.forms.items) k) }
+    ensures refused { IfErr result (λ e. e ≢ Memory →
+        class_shape (record { network = scope.now.locations.now; level = scope.now.level }) negated
+        members.now ≡ Err e) }
 {
     look_at_all(scope.locations, scope.level, members)?;
     leaf(forms, Layer::Class { negated, members })
@@ -205,8 +229,12 @@ fn class<'a>(
 /// Where the path stands that a reference names: `UnknownName` where no earlier path has the name.
 fn named(scope: &Scope<'_, '_>, forms: &Forms<'_>, name: &Name, at: u32) -> Result<usize, SpecError>
     requires { AreKnown (shapes_of forms.now.forms.items) scope.now.names.now }
-    ensures made { IfOk result (λ k. IsMade (ok_or (UnknownName at) (paths_named (shapes_of forms.now.forms.items) scope.now.names.now name.now)) (shapes_of forms.now.forms.items) k) }
-    ensures refused { IfErr result (λ e. ok_or (UnknownName at) (paths_named (shapes_of forms.now.forms.items) scope.now.names.now name.now) ≡ Err e) }
+    ensures made { IfOk result (λ k. IsMade
+        (ok_or (UnknownName at) (paths_named (shapes_of forms.now.forms.items) scope.now.names.now
+        name.now)) (shapes_of forms.now.forms.items) k) }
+    ensures refused { IfErr result (λ e.
+        ok_or (UnknownName at) (paths_named (shapes_of forms.now.forms.items) scope.now.names.now
+        name.now) ≡ Err e) }
 {
     match scope.names.get(name.as_bytes()) {
         Some(Meaning::Path(place)) => Ok(place),

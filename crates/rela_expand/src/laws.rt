@@ -22,7 +22,8 @@ ghost use Rattle.rela_expand.specs.Walk.{shaped};
 #[tactic(auto, using(crate::proofs::Expanding::spec_goes_by))]
 fn expansions_go_by_shapes()
     ensures { (place : Place) (shapes : Shapes) (p : SpecExpr) (n : Numbering) →
-        spec_expansion place (expansions_of place shapes) p n ≡ expands (numbered_body place) (body_shape_of place shapes p) n }
+        spec_expansion place (expansions_of place shapes) p n
+        ≡ expands (numbered_body place) (body_shape_of place shapes p) n }
 {}
 
 /// The terms of a numbered body are as large as its shape tells before it is numbered.
@@ -41,7 +42,8 @@ fn checks_go_by_shapes()
 /// The classes that a numbered body names are entries of the table that its numbering ends with.
 #[tactic(auto, using(crate::proofs::Entries::body_inside))]
 fn classes_of_bodies_are_in_their_tables()
-    ensures { (place : Place) (s : BodyShape) (n : Numbering) (bound : ℕ) → length (numbered_body place s n).after.classes ≤ bound →
+    ensures { (place : Place) (s : BodyShape) (n : Numbering) (bound : ℕ) →
+        length (numbered_body place s n).after.classes ≤ bound →
         All (λ k. k < bound) (entries_of (numbered_body place s n).value) }
 {}
 
@@ -50,5 +52,6 @@ fn classes_of_bodies_are_in_their_tables()
 #[tactic(auto, using(crate::proofs::Marks::markers_counted))]
 fn markers_of_bodies_are_counted()
     ensures { (place : Place) (s : BodyShape) →
-        markers_of (numbered_body place s nothing_numbered).value ≡ range_with_len 1 (length (markers_of (numbered_body place s nothing_numbered).value)) }
+        markers_of (numbered_body place s nothing_numbered).value
+        ≡ range_with_len 1 (length (markers_of (numbered_body place s nothing_numbered).value)) }
 {}

@@ -19,7 +19,11 @@ pub(crate) fn list(
     level: Level,
     picks: &[Pick<'_>],
 ) -> Result<Vec<Symbol>, AllocError>
-    ensures { IfOk result (λ symbols. symbols.items ≡ in_some (record { network = locations.now; level = level }) (map (picked (record { network = locations.now; level = level })) picks.now)) }
+    ensures { IfOk result (λ symbols. symbols.items ≡ in_some (record {
+      network = locations.now;
+      level = level;
+    }) (map (picked (record { network = locations.now; level = level }))
+        picks.now)) }
 {
     let mut symbols = Vec::new(alloc);
     for pick in picks {
@@ -38,7 +42,10 @@ fn picked(
     level: Level,
     pick: &Pick<'_>,
 ) -> Result<Vec<Symbol>, AllocError>
-    ensures { IfOk result (λ symbols. symbols.items ≡ picked (record { network = locations.now; level = level }) pick.now) }
+    ensures { IfOk result (λ symbols. symbols.items ≡ picked (record {
+      network = locations.now;
+      level = level;
+    }) pick.now) }
 {
     match pick {
         Pick::Within(by, name) => within(alloc, locations, level, *by, name),
@@ -56,7 +63,8 @@ fn within(
     by: By,
     name: &Name,
 ) -> Result<Vec<Symbol>, AllocError>
-    ensures { (at : ℕ) → IfOk result (λ symbols. symbols.items ≡ or_none (located (record { network = locations.now; level = level }) by name.now at)) }
+    ensures { (at : ℕ) → IfOk result (λ symbols. symbols.items
+        ≡ or_none (located (record { network = locations.now; level = level }) by name.now at)) }
 {
     match locations.members(alloc, level, by, name) {
         Ok(symbols) => Ok(symbols),

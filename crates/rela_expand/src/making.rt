@@ -63,11 +63,23 @@ pub(crate) fn made(
     requires are { AreBodies (shapes_of forms.now.forms.items) bodies.now.forms.items }
     requires low { depth heading.now.when.now ≤ 1000 }
     ensures made { IfOk result (λ check. (step : Step CoreType)
-        × (in_size (locations_at (record { network = locations.now; level = level })) heading.now.at (numbered_body (record { network = locations.now; level = level }) (body_at (bodies_of (shapes_of forms.now.forms.items) bodies.now.forms.items) place) nothing_numbered) ≡ Ok step)
-        × (outcome_of check ≡ record { name = heading.now.name.now; at_most = heading.now.at_most; when = heading.now.when.now; classes = step.after.classes; body = step.value })) }
+        × (in_size (locations_at (record { network = locations.now; level = level })) heading.now.at
+        (numbered_body (record { network = locations.now; level = level })
+        (body_at (bodies_of (shapes_of forms.now.forms.items) bodies.now.forms.items) place)
+        nothing_numbered) ≡ Ok step)
+        × (outcome_of check ≡ record {
+          name = heading.now.name.now;
+          at_most = heading.now.at_most;
+          when = heading.now.when.now;
+          classes = step.after.classes;
+          body = step.value;
+        })) }
     ensures level { IfOk result (λ check. check.level ≡ level) }
     ensures refused { IfErr result (λ e. e ≢ Memory →
-        in_size (locations_at (record { network = locations.now; level = level })) heading.now.at (numbered_body (record { network = locations.now; level = level }) (body_at (bodies_of (shapes_of forms.now.forms.items) bodies.now.forms.items) place) nothing_numbered) ≡ Err e) }
+        in_size (locations_at (record { network = locations.now; level = level })) heading.now.at
+        (numbered_body (record { network = locations.now; level = level })
+        (body_at (bodies_of (shapes_of forms.now.forms.items) bodies.now.forms.items) place)
+        nothing_numbered) ≡ Err e) }
 {
     fit(bodies.size(place), heading.at)?;
     let (name, when) = copied(alloc, heading)?;
@@ -102,11 +114,27 @@ fn unfolded(
 ) -> Result<(Core, Vec<SymbolSet>), Unfit>
     requires inside { place < length bodies.now.forms.items }
     requires are { AreBodies (shapes_of forms.now.forms.items) bodies.now.forms.items }
-    requires light { weight_of (body_at (bodies_of (shapes_of forms.now.forms.items) bodies.now.forms.items) place) < 2 ^ 32 }
-    ensures body { IfOk result (λ p. (numbered_body (record { network = locations.now; level = level }) (body_at (bodies_of (shapes_of forms.now.forms.items) bodies.now.forms.items) place) nothing_numbered).value ≡ p.0) }
-    ensures classes { IfOk result (λ p. (numbered_body (record { network = locations.now; level = level }) (body_at (bodies_of (shapes_of forms.now.forms.items) bodies.now.forms.items) place) nothing_numbered).after.classes ≡ map listing_of p.1.items) }
-    ensures few { OnOk result (symbols_in (numbered_body (record { network = locations.now; level = level }) (body_at (bodies_of (shapes_of forms.now.forms.items) bodies.now.forms.items) place) nothing_numbered).after.classes ≤ 4000000) }
-    ensures too_large { IfErr result (λ e. e ≡ Unfit.TooLarge → 4000000 < symbols_in (numbered_body (record { network = locations.now; level = level }) (body_at (bodies_of (shapes_of forms.now.forms.items) bodies.now.forms.items) place) nothing_numbered).after.classes) }
+    requires light { weight_of (body_at (bodies_of (shapes_of forms.now.forms.items)
+        bodies.now.forms.items) place) < 2 ^ 32 }
+    ensures body { IfOk result (λ p. (numbered_body (record {
+      network = locations.now;
+      level = level;
+    }) (body_at (bodies_of (shapes_of forms.now.forms.items)
+        bodies.now.forms.items) place) nothing_numbered).value ≡ p.0) }
+    ensures classes { IfOk result (λ p. (numbered_body (record {
+      network = locations.now;
+      level = level;
+    }) (body_at (bodies_of (shapes_of forms.now.forms.items)
+        bodies.now.forms.items) place) nothing_numbered).after.classes ≡ map listing_of p.1.items) }
+    ensures few { OnOk result (symbols_in (numbered_body (record {
+      network = locations.now;
+      level = level;
+    }) (body_at (bodies_of (shapes_of forms.now.forms.items)
+        bodies.now.forms.items) place) nothing_numbered).after.classes ≤ 4000000) }
+    ensures too_large { IfErr result (λ e. e ≡ Unfit.TooLarge →
+        4000000 < symbols_in (numbered_body (record { network = locations.now; level = level })
+        (body_at (bodies_of (shapes_of forms.now.forms.items) bodies.now.forms.items) place)
+        nothing_numbered).after.classes) }
 {
     let mut numbers = Numbers::new(alloc);
     let body = unfold_body(alloc, locations, level, forms, bodies, place, &mut numbers)?;
@@ -126,9 +154,11 @@ fn listed_behind<T: Drop>(
 ) -> Result<(T, Vec<SymbolSet>), Unfit>
     requires { IsCounted numbers }
     ensures same { IfOk result (λ p. p.0 ≡ before) }
-    ensures classes { IfOk result (λ p. (numbering_of numbers.entry).classes ≡ map listing_of p.1.items) }
+    ensures classes { IfOk result (λ p. (numbering_of numbers.entry).classes
+        ≡ map listing_of p.1.items) }
     ensures few { OnOk result (symbols_in (numbering_of numbers.entry).classes ≤ 4000000) }
-    ensures too_large { IfErr result (λ e. e ≡ Unfit.TooLarge → 4000000 < symbols_in (numbering_of numbers.entry).classes) }
+    ensures too_large { IfErr result (λ e. e ≡ Unfit.TooLarge →
+        4000000 < symbols_in (numbering_of numbers.entry).classes) }
 {
     let classes = listed(alloc, numbers)?;
     Ok((before, classes))
@@ -141,9 +171,11 @@ fn listed_behind<T: Drop>(
 /// `TooLarge` where they list more than 4,000,000 symbols together; `Memory`.
 fn listed(alloc: Global, numbers: Numbers<'_>) -> Result<Vec<SymbolSet>, Unfit>
     requires { IsCounted numbers }
-    ensures classes { IfOk result (λ sets. (numbering_of numbers.entry).classes ≡ map listing_of sets.items) }
+    ensures classes { IfOk result (λ sets. (numbering_of numbers.entry).classes
+        ≡ map listing_of sets.items) }
     ensures few { OnOk result (symbols_in (numbering_of numbers.entry).classes ≤ 4000000) }
-    ensures too_large { IfErr result (λ e. e ≡ Unfit.TooLarge → 4000000 < symbols_in (numbering_of numbers.entry).classes) }
+    ensures too_large { IfErr result (λ e. e ≡ Unfit.TooLarge →
+        4000000 < symbols_in (numbering_of numbers.entry).classes) }
 {
     if numbers.listed > MAX_LISTED {
         return Err(Unfit::TooLarge);

@@ -23,8 +23,12 @@ pub(crate) fn look_at_all(
     level: Level,
     members: &[Member],
 ) -> Result<(), SpecError>
-    ensures all { OnOk result (Succeeds (listed (record { network = locations.now; level = level }) members.now)) }
-    ensures refused { IfErr result (λ e. e ≢ Memory → listed (record { network = locations.now; level = level }) members.now ≡ Err e) }
+    ensures all { OnOk result (Succeeds (listed (record {
+      network = locations.now;
+      level = level;
+    }) members.now)) }
+    ensures refused { IfErr result (λ e. e ≢ Memory →
+        listed (record { network = locations.now; level = level }) members.now ≡ Err e) }
 {
     for member in members {
         look_at(locations, level, member)?;
@@ -35,8 +39,12 @@ pub(crate) fn look_at_all(
 /// Sees that the member names some symbols.
 #[tactic(auto, unfolding(crate::specs::Places::symbols_of))]
 fn look_at(locations: &Locations, level: Level, member: &Member) -> Result<(), SpecError>
-    ensures some { OnOk result (Succeeds (symbols_of (record { network = locations.now; level = level }) member.now)) }
-    ensures refused { IfErr result (λ e. e ≢ Memory → symbols_of (record { network = locations.now; level = level }) member.now ≡ Err e) }
+    ensures some { OnOk result (Succeeds (symbols_of (record {
+      network = locations.now;
+      level = level;
+    }) member.now)) }
+    ensures refused { IfErr result (λ e. e ≢ Memory →
+        symbols_of (record { network = locations.now; level = level }) member.now ≡ Err e) }
 {
     match member {
         Member::Here { name, at } => look_for(locations, level, by_level(level), name, *at),
@@ -69,8 +77,12 @@ fn look_for(
     name: &Name,
     at: u32,
 ) -> Result<(), SpecError>
-    ensures some { OnOk result (Succeeds (located (record { network = locations.now; level = level }) by name.now at)) }
-    ensures refused { IfErr result (λ e. e ≢ Memory → located (record { network = locations.now; level = level }) by name.now at ≡ Err e) }
+    ensures some { OnOk result (Succeeds (located (record {
+      network = locations.now;
+      level = level;
+    }) by name.now at)) }
+    ensures refused { IfErr result (λ e. e ≢ Memory →
+        located (record { network = locations.now; level = level }) by name.now at ≡ Err e) }
 {
     match locations.find(level, by, name) {
         Ok(()) => Ok(()),

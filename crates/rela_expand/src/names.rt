@@ -43,7 +43,8 @@ impl<'a> Definitions<'a> {
     /// Notes that the name stands for this from here on. The only error is want of memory.
     pub(crate) fn add(&mut self, name: &'a [u8], meaning: Meaning) -> Result<(), AllocError>
         ensures { OnOk result ((other : List ℕ) →
-            meaning_of self.new other ≡ (if bytes_eq name.now other then Some meaning else meaning_of self.old other)) }
+            meaning_of self.new other ≡ (if bytes_eq name.now other then Some meaning
+            else meaning_of self.old other)) }
     {
         self.meanings.insert(name, meaning)?;
         Ok(())

@@ -53,7 +53,8 @@ impl<'a> Numbers<'a> {
     pub(crate) fn class(&mut self, entry: Entry) -> Result<u32, AllocError>
         requires room { length self.old.classes.keys < 2 ^ 32 }
         requires counted { IsCounted self.old }
-        ensures placed { IfOk result (λ k. placed (entry_of entry) (numbering_of self.old) ≡ record { value = k; after = numbering_of self.new }) }
+        ensures placed { IfOk result (λ k. placed (entry_of entry) (numbering_of self.old)
+            ≡ record { value = k; after = numbering_of self.new }) }
         ensures counted { OnOk result (IsCounted self.new) }
         ensures written { self.new.written ≡ self.old.written }
         ensures places { self.new.places ≡ self.old.places }

@@ -32,8 +32,11 @@ fn gather_modifier<'a>(
 ) -> Result<Modifier<usize>, SpecError>
     requires { AreKnown (shapes_of forms.old.forms.items) scope.now.names.now }
     ensures grown { Extends (shapes_of forms.old.forms.items) (shapes_of forms.new.forms.items) }
-    ensures made { IfOk result (λ c. IsModifier (modifier_shape scope.now (shapes_of forms.old.forms.items) modifier.now) (shapes_of forms.new.forms.items) c) }
-    ensures refused { IfErr result (λ e. e ≢ Memory → modifier_shape scope.now (shapes_of forms.old.forms.items) modifier.now ≡ Err e) }
+    ensures made { IfOk result (λ c. IsModifier
+        (modifier_shape scope.now (shapes_of forms.old.forms.items) modifier.now)
+        (shapes_of forms.new.forms.items) c) }
+    ensures refused { IfErr result (λ e. e ≢ Memory →
+        modifier_shape scope.now (shapes_of forms.old.forms.items) modifier.now ≡ Err e) }
 {
     match modifier {
         Modifier::Preserve => Ok(Modifier::Preserve),
@@ -64,9 +67,14 @@ fn unit<'a>(
     requires are { AreBodies (shapes_of forms.old.forms.items) bodies.old.forms.items }
     ensures paths { Extends (shapes_of forms.old.forms.items) (shapes_of forms.new.forms.items) }
     ensures are { OnOk result (AreBodies (shapes_of forms.new.forms.items) bodies.new.forms.items) }
-    ensures grown { OnOk result (Grows (bodies_of (shapes_of forms.old.forms.items) bodies.old.forms.items) (bodies_of (shapes_of forms.new.forms.items) bodies.new.forms.items)) }
-    ensures made { IfOk result (λ k. IsBody (unit_shape scope.now (shapes_of forms.old.forms.items) zone.now modifier.now) (bodies_of (shapes_of forms.new.forms.items) bodies.new.forms.items) k) }
-    ensures refused { IfErr result (λ e. e ≢ Memory → unit_shape scope.now (shapes_of forms.old.forms.items) zone.now modifier.now ≡ Err e) }
+    ensures grown { OnOk result (Grows (bodies_of (shapes_of forms.old.forms.items)
+        bodies.old.forms.items) (bodies_of (shapes_of forms.new.forms.items)
+        bodies.new.forms.items)) }
+    ensures made { IfOk result (λ k. IsBody (unit_shape scope.now (shapes_of forms.old.forms.items)
+        zone.now modifier.now) (bodies_of (shapes_of forms.new.forms.items) bodies.new.forms.items)
+        k) }
+    ensures refused { IfErr result (λ e. e ≢ Memory →
+        unit_shape scope.now (shapes_of forms.old.forms.items) zone.now modifier.now ≡ Err e) }
 {
     let zone = gather(alloc, scope, forms, zone)?;
     let modifier = gather_modifier(alloc, scope, forms, modifier)?;
@@ -76,8 +84,12 @@ fn unit<'a>(
 /// Where the specification stands that a reference names: `UnknownName` where no earlier
 /// specification has the name.
 fn named_spec(scope: &Scope<'_, '_>, name: &Name, at: u32) -> Result<usize, SpecError>
-    ensures made { (bodies : List BodyShape) → AreBodiesKnown bodies scope.now.names.now → IfOk result (λ k. IsBody (ok_or (UnknownName at) (specs_named bodies scope.now.names.now name.now)) bodies k) }
-    ensures refused { (bodies : List BodyShape) → IfErr result (λ e. ok_or (UnknownName at) (specs_named bodies scope.now.names.now name.now) ≡ Err e) }
+    ensures made { (bodies : List BodyShape) → AreBodiesKnown bodies scope.now.names.now →
+        IfOk result (λ k. IsBody (ok_or (UnknownName at) (specs_named bodies scope.now.names.now
+        name.now)) bodies k) }
+    ensures refused { (bodies : List BodyShape) →
+        IfErr result (λ e. ok_or (UnknownName at) (specs_named bodies scope.now.names.now name.now)
+        ≡ Err e) }
 {
     match scope.names.get(name.as_bytes()) {
         Some(Meaning::Spec(place)) => Ok(place),
@@ -103,14 +115,20 @@ pub(crate) fn gather_spec<'a>(
     spec: &'a SpecExpr,
 ) -> Result<usize, SpecError>
     requires known { AreKnown (shapes_of forms.old.forms.items) scope.now.names.now }
-    requires specs_known { AreBodiesKnown (bodies_of (shapes_of forms.old.forms.items) bodies.old.forms.items) scope.now.names.now }
+    requires specs_known { AreBodiesKnown (bodies_of (shapes_of forms.old.forms.items)
+        bodies.old.forms.items) scope.now.names.now }
     requires are { AreBodies (shapes_of forms.old.forms.items) bodies.old.forms.items }
     ensures paths { Extends (shapes_of forms.old.forms.items) (shapes_of forms.new.forms.items) }
     ensures are { OnOk result (AreBodies (shapes_of forms.new.forms.items) bodies.new.forms.items) }
-    ensures grown { OnOk result (Grows (bodies_of (shapes_of forms.old.forms.items) bodies.old.forms.items) (bodies_of (shapes_of forms.new.forms.items) bodies.new.forms.items)) }
-    ensures made { IfOk result (λ k. IsBody (spec_shape scope.now (shapes_of forms.old.forms.items) (bodies_of (shapes_of forms.old.forms.items) bodies.old.forms.items) spec.now)
+    ensures grown { OnOk result (Grows (bodies_of (shapes_of forms.old.forms.items)
+        bodies.old.forms.items) (bodies_of (shapes_of forms.new.forms.items)
+        bodies.new.forms.items)) }
+    ensures made { IfOk result (λ k. IsBody (spec_shape scope.now (shapes_of forms.old.forms.items)
+        (bodies_of (shapes_of forms.old.forms.items) bodies.old.forms.items) spec.now)
         (bodies_of (shapes_of forms.new.forms.items) bodies.new.forms.items) k) }
-    ensures refused { IfErr result (λ e. e ≢ Memory → spec_shape scope.now (shapes_of forms.old.forms.items) (bodies_of (shapes_of forms.old.forms.items) bodies.old.forms.items) spec.now ≡ Err e) }
+    ensures refused { IfErr result (λ e. e ≢ Memory →
+        spec_shape scope.now (shapes_of forms.old.forms.items)
+        (bodies_of (shapes_of forms.old.forms.items) bodies.old.forms.items) spec.now ≡ Err e) }
 {
     match spec {
         SpecExpr::Unit { zone, modifier } => unit(alloc, scope, forms, bodies, zone, modifier),
@@ -146,16 +164,21 @@ fn join_specs<'a>(
     parts: &'a [SpecExpr],
 ) -> Result<usize, SpecError>
     requires known { AreKnown (shapes_of forms.old.forms.items) scope.now.names.now }
-    requires specs_known { AreBodiesKnown (bodies_of (shapes_of forms.old.forms.items) bodies.old.forms.items) scope.now.names.now }
+    requires specs_known { AreBodiesKnown (bodies_of (shapes_of forms.old.forms.items)
+        bodies.old.forms.items) scope.now.names.now }
     requires are { AreBodies (shapes_of forms.old.forms.items) bodies.old.forms.items }
     ensures paths { Extends (shapes_of forms.old.forms.items) (shapes_of forms.new.forms.items) }
     ensures are { OnOk result (AreBodies (shapes_of forms.new.forms.items) bodies.new.forms.items) }
-    ensures grown { OnOk result (Grows (bodies_of (shapes_of forms.old.forms.items) bodies.old.forms.items) (bodies_of (shapes_of forms.new.forms.items) bodies.new.forms.items)) }
+    ensures grown { OnOk result (Grows (bodies_of (shapes_of forms.old.forms.items)
+        bodies.old.forms.items) (bodies_of (shapes_of forms.new.forms.items)
+        bodies.new.forms.items)) }
     ensures made { IfOk result (λ k. IsBody (made_of (tree_of (body_joined by) no_body)
-        (all_of (map (spec_shape scope.now (shapes_of forms.old.forms.items) (bodies_of (shapes_of forms.old.forms.items) bodies.old.forms.items)) parts.now)))
+        (all_of (map (spec_shape scope.now (shapes_of forms.old.forms.items)
+        (bodies_of (shapes_of forms.old.forms.items) bodies.old.forms.items)) parts.now)))
         (bodies_of (shapes_of forms.new.forms.items) bodies.new.forms.items) k) }
     ensures refused { IfErr result (λ e. e ≢ Memory → made_of (tree_of (body_joined by) no_body)
-        (all_of (map (spec_shape scope.now (shapes_of forms.old.forms.items) (bodies_of (shapes_of forms.old.forms.items) bodies.old.forms.items)) parts.now)) ≡ Err e) }
+        (all_of (map (spec_shape scope.now (shapes_of forms.old.forms.items)
+        (bodies_of (shapes_of forms.old.forms.items) bodies.old.forms.items)) parts.now)) ≡ Err e) }
 {
     let places = gather_specs(alloc, scope, forms, bodies, parts)?;
     Ok(joined(forms, bodies, by, places.as_slice())?)
@@ -172,16 +195,21 @@ fn gather_specs<'a>(
     parts: &'a [SpecExpr],
 ) -> Result<Vec<usize>, SpecError>
     requires known { AreKnown (shapes_of forms.old.forms.items) scope.now.names.now }
-    requires specs_known { AreBodiesKnown (bodies_of (shapes_of forms.old.forms.items) bodies.old.forms.items) scope.now.names.now }
+    requires specs_known { AreBodiesKnown (bodies_of (shapes_of forms.old.forms.items)
+        bodies.old.forms.items) scope.now.names.now }
     requires are { AreBodies (shapes_of forms.old.forms.items) bodies.old.forms.items }
     ensures paths { Extends (shapes_of forms.old.forms.items) (shapes_of forms.new.forms.items) }
     ensures are { OnOk result (AreBodies (shapes_of forms.new.forms.items) bodies.new.forms.items) }
-    ensures grown { OnOk result (Grows (bodies_of (shapes_of forms.old.forms.items) bodies.old.forms.items) (bodies_of (shapes_of forms.new.forms.items) bodies.new.forms.items)) }
+    ensures grown { OnOk result (Grows (bodies_of (shapes_of forms.old.forms.items)
+        bodies.old.forms.items) (bodies_of (shapes_of forms.new.forms.items)
+        bodies.new.forms.items)) }
     ensures made { IfOk result (λ ks. AreBodiesMade
-        (all_of (map (spec_shape scope.now (shapes_of forms.old.forms.items) (bodies_of (shapes_of forms.old.forms.items) bodies.old.forms.items)) parts.now))
+        (all_of (map (spec_shape scope.now (shapes_of forms.old.forms.items)
+        (bodies_of (shapes_of forms.old.forms.items) bodies.old.forms.items)) parts.now))
         (bodies_of (shapes_of forms.new.forms.items) bodies.new.forms.items) ks.items) }
     ensures refused { IfErr result (λ e. e ≢ Memory →
-        all_of (map (spec_shape scope.now (shapes_of forms.old.forms.items) (bodies_of (shapes_of forms.old.forms.items) bodies.old.forms.items)) parts.now) ≡ Err e) }
+        all_of (map (spec_shape scope.now (shapes_of forms.old.forms.items)
+        (bodies_of (shapes_of forms.old.forms.items) bodies.old.forms.items)) parts.now) ≡ Err e) }
 {
     let mut places = Vec::new(alloc);
     for part in parts {
@@ -199,12 +227,18 @@ fn joined(
     places: &[usize],
 ) -> Result<usize, AllocError>
     requires are { AreBodies (shapes_of forms.old.forms.items) bodies.old.forms.items }
-    requires inside { All (λ k. k < length (bodies_of (shapes_of forms.old.forms.items) bodies.old.forms.items)) places.now }
+    requires inside { All (λ k. k < length (bodies_of (shapes_of forms.old.forms.items)
+        bodies.old.forms.items)) places.now }
     ensures paths { Extends (shapes_of forms.old.forms.items) (shapes_of forms.new.forms.items) }
     ensures are { OnOk result (AreBodies (shapes_of forms.new.forms.items) bodies.new.forms.items) }
-    ensures grown { OnOk result (Grows (bodies_of (shapes_of forms.old.forms.items) bodies.old.forms.items) (bodies_of (shapes_of forms.new.forms.items) bodies.new.forms.items)) }
-    ensures made { IfOk result (λ k. StandsFor (bodies_of (shapes_of forms.new.forms.items) bodies.new.forms.items)
-        (tree_of (body_joined by) no_body (map (body_at (bodies_of (shapes_of forms.old.forms.items) bodies.old.forms.items)) places.now)) k) }
+    ensures grown { OnOk result (Grows (bodies_of (shapes_of forms.old.forms.items)
+        bodies.old.forms.items) (bodies_of (shapes_of forms.new.forms.items)
+        bodies.new.forms.items)) }
+    ensures made { IfOk result (λ k. StandsFor (bodies_of (shapes_of forms.new.forms.items)
+        bodies.new.forms.items)
+        (tree_of (body_joined by) no_body
+        (map (body_at (bodies_of (shapes_of forms.old.forms.items) bodies.old.forms.items))
+        places.now)) k) }
 {
     if places.is_empty() {
         let zone = forms.add(Layer::Empty)?;

@@ -15,7 +15,9 @@ use std::alloc::AllocError;
 pub(crate) fn tree(forms: &mut Forms<'_>, by: Joint, places: &[usize]) -> Result<usize, AllocError>
     requires { All (λ k. k < length (shapes_of forms.old.forms.items)) places.now }
     ensures grown { Extends (shapes_of forms.old.forms.items) (shapes_of forms.new.forms.items) }
-    ensures made { IfOk result (λ k. StandsAt (shapes_of forms.new.forms.items) (tree_of (joined by) Empty (map (shape_at (shapes_of forms.old.forms.items)) places.now)) k) }
+    ensures made { IfOk result (λ k. StandsAt (shapes_of forms.new.forms.items)
+        (tree_of (joined by) Empty (map (shape_at (shapes_of forms.old.forms.items)) places.now))
+        k) }
 {
     if places.is_empty() {
         return forms.add(Layer::Empty);
@@ -34,7 +36,8 @@ pub(crate) fn tree(forms: &mut Forms<'_>, by: Joint, places: &[usize]) -> Result
 pub(crate) fn copies(forms: &mut Forms<'_>, part: usize, n: u32) -> Result<usize, AllocError>
     requires { part < length (shapes_of forms.old.forms.items) }
     ensures grown { Extends (shapes_of forms.old.forms.items) (shapes_of forms.new.forms.items) }
-    ensures made { IfOk result (λ k. StandsAt (shapes_of forms.new.forms.items) (sequence_shape (replicate n (shape_at (shapes_of forms.old.forms.items) part))) k) }
+    ensures made { IfOk result (λ k. StandsAt (shapes_of forms.new.forms.items)
+        (sequence_shape (replicate n (shape_at (shapes_of forms.old.forms.items) part))) k) }
 {
     if n == 0 {
         return forms.add(Layer::Empty);
@@ -49,8 +52,11 @@ fn row_and_longer(forms: &mut Forms<'_>, part: usize, n: u32) -> Result<(usize, 
     requires inside { part < length (shapes_of forms.old.forms.items) }
     requires some { 1 ≤ n }
     ensures grown { Extends (shapes_of forms.old.forms.items) (shapes_of forms.new.forms.items) }
-    ensures row { IfOk result (λ p. StandsAt (shapes_of forms.new.forms.items) (sequence_shape (replicate n (shape_at (shapes_of forms.old.forms.items) part))) p.0) }
-    ensures longer { IfOk result (λ p. StandsAt (shapes_of forms.new.forms.items) (sequence_shape (replicate (n + 1) (shape_at (shapes_of forms.old.forms.items) part))) p.1) }
+    ensures row { IfOk result (λ p. StandsAt (shapes_of forms.new.forms.items)
+        (sequence_shape (replicate n (shape_at (shapes_of forms.old.forms.items) part))) p.0) }
+    ensures longer { IfOk result (λ p. StandsAt (shapes_of forms.new.forms.items)
+        (sequence_shape (replicate (n + 1) (shape_at (shapes_of forms.old.forms.items) part)))
+        p.1) }
 {
     if n == 1 {
         let two = forms.add(Layer::Join(Joint::Seq, part, part))?;

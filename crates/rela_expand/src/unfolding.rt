@@ -40,16 +40,29 @@ pub(crate) fn unfold<'a>(
     numbers: &mut Numbers<'a>,
 ) -> Result<Expr, Unfit>
     requires inside { place < length (shapes_of forms.now.forms.items) }
-    requires room { length numbers.old.classes.keys + nodes_of_shape (shape_at (shapes_of forms.now.forms.items) place) < 2 ^ 32 }
+    requires room { length numbers.old.classes.keys
+        + nodes_of_shape (shape_at (shapes_of forms.now.forms.items) place) < 2 ^ 32 }
     requires counted { IsCounted numbers.old }
     requires written { AreWritten (record { network = locations.now; level = level }) numbers.old }
-    requires places { ArePlaced (record { network = locations.now; level = level }) (shapes_of forms.now.forms.items) numbers.old }
-    ensures unfolded { IfOk result (λ e. numbered (record { network = locations.now; level = level }) (shape_at (shapes_of forms.now.forms.items) place) (numbering_of numbers.old)
+    requires places { ArePlaced (record { network = locations.now; level = level })
+        (shapes_of forms.now.forms.items) numbers.old }
+    ensures unfolded { IfOk result (λ e. numbered (record {
+      network = locations.now;
+      level = level;
+    }) (shape_at (shapes_of forms.now.forms.items) place)
+        (numbering_of numbers.old)
         ≡ record { value = e; after = numbering_of numbers.new }) }
     ensures counted { OnOk result (IsCounted numbers.new) }
-    ensures written { OnOk result (AreWritten (record { network = locations.now; level = level }) numbers.new) }
-    ensures places { OnOk result (ArePlaced (record { network = locations.now; level = level }) (shapes_of forms.now.forms.items) numbers.new) }
-    ensures too_large { IfErr result (λ e. e ≡ Unfit.TooLarge → 4000000 < symbols_in (numbered (record { network = locations.now; level = level }) (shape_at (shapes_of forms.now.forms.items) place) (numbering_of numbers.old)).after.classes) }
+    ensures written { OnOk result (AreWritten (record {
+      network = locations.now;
+      level = level;
+    }) numbers.new) }
+    ensures places { OnOk result (ArePlaced (record { network = locations.now; level = level })
+        (shapes_of forms.now.forms.items) numbers.new) }
+    ensures too_large { IfErr result (λ e. e ≡ Unfit.TooLarge →
+        4000000 < symbols_in (numbered (record { network = locations.now; level = level })
+        (shape_at (shapes_of forms.now.forms.items) place)
+        (numbering_of numbers.old)).after.classes) }
 {
     match forms.get(place) {
         Layer::Empty => Ok(Expr::Empty),
@@ -114,12 +127,22 @@ fn class<'a>(
     requires room { length numbers.old.classes.keys < 2 ^ 32 }
     requires counted { IsCounted numbers.old }
     requires written { AreWritten (record { network = locations.now; level = level }) numbers.old }
-    ensures numbered { IfOk result (λ k. placed (listing (record { network = locations.now; level = level }) negated members.now) (numbering_of numbers.old)
+    ensures numbered { IfOk result (λ k.
+        placed (listing (record { network = locations.now; level = level }) negated members.now)
+        (numbering_of numbers.old)
         ≡ record { value = k; after = numbering_of numbers.new }) }
     ensures counted { OnOk result (IsCounted numbers.new) }
-    ensures written { OnOk result (AreWritten (record { network = locations.now; level = level }) numbers.new) }
-    ensures places { (shapes : List Shape) → ArePlaced (record { network = locations.now; level = level }) shapes numbers.old → OnOk result (ArePlaced (record { network = locations.now; level = level }) shapes numbers.new) }
-    ensures too_large { IfErr result (λ e. e ≡ Unfit.TooLarge → 4000000 < symbols_in (placed (listing (record { network = locations.now; level = level }) negated members.now) (numbering_of numbers.old)).after.classes) }
+    ensures written { OnOk result (AreWritten (record {
+      network = locations.now;
+      level = level;
+    }) numbers.new) }
+    ensures places { (shapes : List Shape) →
+        ArePlaced (record { network = locations.now; level = level }) shapes numbers.old →
+        OnOk result (ArePlaced (record { network = locations.now; level = level })
+        shapes numbers.new) }
+    ensures too_large { IfErr result (λ e. e ≡ Unfit.TooLarge →
+        4000000 < symbols_in (placed (listing (record { network = locations.now; level = level })
+        negated members.now) (numbering_of numbers.old)).after.classes) }
 {
     let written = Written::new(alloc, level, negated, members)?;
     if let Some(number) = numbers.written.get(&written).copied() {

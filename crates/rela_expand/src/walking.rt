@@ -74,9 +74,12 @@ pub(crate) fn walk_items(
 ) -> Result<Vec<Check>, SpecError>
     requires low { All IsLow items.now }
     ensures checks { IfOk result (λ checks. (seen : Seen)
-        × (try_fold (with_shaped (record { network = locations.now; level = level })) at_start items.now ≡ Ok seen) × (seen.checks ≡ map outcome_of checks.items)) }
+        × (try_fold (with_shaped (record { network = locations.now; level = level })) at_start
+        items.now ≡ Ok seen) × (seen.checks ≡ map outcome_of checks.items)) }
     ensures level { IfOk result (λ checks. All (λ check. check.level ≡ level) checks.items) }
-    ensures refused { IfErr result (λ e. e ≢ Memory → try_fold (with_shaped (record { network = locations.now; level = level })) at_start items.now ≡ Err e) }
+    ensures refused { IfErr result (λ e. e ≢ Memory →
+        try_fold (with_shaped (record { network = locations.now; level = level })) at_start
+        items.now ≡ Err e) }
 {
     let mut walk = Walk::new(alloc);
     for item in items {
@@ -103,11 +106,16 @@ fn walk_item<'a>(
     requires low { IsLow item.now }
     ensures walk { OnOk result (IsWalk walk.new) }
     ensures seen { (taken : List (List ℕ)) → AreTaken walk.old.names taken → OnOk result (
-        with_shaped (record { network = locations.now; level = level }) (seen_of walk.old taken) item.now ≡ Ok (seen_of walk.new (taken_with item.now taken))) }
-    ensures taken { (taken : List (List ℕ)) → AreTaken walk.old.names taken → OnOk result (AreTaken walk.new.names (taken_with item.now taken)) }
-    ensures level { OnOk result (All (λ check. check.level ≡ level) walk.old.checks.items → All (λ check. check.level ≡ level) walk.new.checks.items) }
-    ensures refused { (taken : List (List ℕ)) → AreTaken walk.old.names taken → IfErr result (λ e. e ≢ Memory →
-        with_shaped (record { network = locations.now; level = level }) (seen_of walk.old taken) item.now ≡ Err e) }
+        with_shaped (record { network = locations.now; level = level }) (seen_of walk.old taken)
+        item.now ≡ Ok (seen_of walk.new (taken_with item.now taken))) }
+    ensures taken { (taken : List (List ℕ)) → AreTaken walk.old.names taken →
+        OnOk result (AreTaken walk.new.names (taken_with item.now taken)) }
+    ensures level { OnOk result (All (λ check. check.level ≡ level) walk.old.checks.items →
+        All (λ check. check.level ≡ level) walk.new.checks.items) }
+    ensures refused { (taken : List (List ℕ)) → AreTaken walk.old.names taken →
+        IfErr result (λ e. e ≢ Memory →
+        with_shaped (record { network = locations.now; level = level }) (seen_of walk.old taken)
+        item.now ≡ Err e) }
 {
     match item {
         Item::Path { name, at, body } => {
@@ -148,11 +156,16 @@ fn walk_path<'a>(
     requires { IsWalk walk.old }
     ensures walk { OnOk result (IsWalk walk.new) }
     ensures seen { (taken : List (List ℕ)) → AreTaken walk.old.names taken → OnOk result (
-        with_shaped (record { network = locations.now; level = level }) (seen_of walk.old taken) (PathItem name.now at body.now) ≡ Ok (seen_of walk.new (taken_with (PathItem name.now at body.now) taken))) }
-    ensures taken { (taken : List (List ℕ)) → AreTaken walk.old.names taken → OnOk result (AreTaken walk.new.names (taken_with (PathItem name.now at body.now) taken)) }
+        with_shaped (record { network = locations.now; level = level }) (seen_of walk.old taken)
+        (PathItem name.now at body.now) ≡ Ok
+        (seen_of walk.new (taken_with (PathItem name.now at body.now) taken))) }
+    ensures taken { (taken : List (List ℕ)) → AreTaken walk.old.names taken →
+        OnOk result (AreTaken walk.new.names (taken_with (PathItem name.now at body.now) taken)) }
     ensures checks { OnOk result (walk.new.checks ≡ walk.old.checks) }
-    ensures refused { (taken : List (List ℕ)) → AreTaken walk.old.names taken → IfErr result (λ e. e ≢ Memory →
-        with_shaped (record { network = locations.now; level = level }) (seen_of walk.old taken) (PathItem name.now at body.now) ≡ Err e) }
+    ensures refused { (taken : List (List ℕ)) → AreTaken walk.old.names taken →
+        IfErr result (λ e. e ≢ Memory →
+        with_shaped (record { network = locations.now; level = level }) (seen_of walk.old taken)
+        (PathItem name.now at body.now) ≡ Err e) }
 {
     look_new(&walk.names, name, at)?;
     let scope = Scope {
@@ -179,11 +192,16 @@ fn walk_spec<'a>(
     requires { IsWalk walk.old }
     ensures walk { OnOk result (IsWalk walk.new) }
     ensures seen { (taken : List (List ℕ)) → AreTaken walk.old.names taken → OnOk result (
-        with_shaped (record { network = locations.now; level = level }) (seen_of walk.old taken) (SpecItem name.now at body.now) ≡ Ok (seen_of walk.new (taken_with (SpecItem name.now at body.now) taken))) }
-    ensures taken { (taken : List (List ℕ)) → AreTaken walk.old.names taken → OnOk result (AreTaken walk.new.names (taken_with (SpecItem name.now at body.now) taken)) }
+        with_shaped (record { network = locations.now; level = level }) (seen_of walk.old taken)
+        (SpecItem name.now at body.now) ≡ Ok
+        (seen_of walk.new (taken_with (SpecItem name.now at body.now) taken))) }
+    ensures taken { (taken : List (List ℕ)) → AreTaken walk.old.names taken →
+        OnOk result (AreTaken walk.new.names (taken_with (SpecItem name.now at body.now) taken)) }
     ensures checks { OnOk result (walk.new.checks ≡ walk.old.checks) }
-    ensures refused { (taken : List (List ℕ)) → AreTaken walk.old.names taken → IfErr result (λ e. e ≢ Memory →
-        with_shaped (record { network = locations.now; level = level }) (seen_of walk.old taken) (SpecItem name.now at body.now) ≡ Err e) }
+    ensures refused { (taken : List (List ℕ)) → AreTaken walk.old.names taken →
+        IfErr result (λ e. e ≢ Memory →
+        with_shaped (record { network = locations.now; level = level }) (seen_of walk.old taken)
+        (SpecItem name.now at body.now) ≡ Err e) }
 {
     look_new(&walk.names, name, at)?;
     let scope = Scope {
@@ -210,11 +228,16 @@ fn walk_check<'a>(
     requires low { depth heading.now.when.now ≤ 1000 }
     ensures walk { OnOk result (IsWalk walk.new) }
     ensures seen { (taken : List (List ℕ)) → OnOk result (
-        with_shaped (record { network = locations.now; level = level }) (seen_of walk.old taken) (CheckItem heading.now.at_most heading.now.name.now heading.now.at heading.now.when.now body.now) ≡ Ok (seen_of walk.new taken)) }
+        with_shaped (record { network = locations.now; level = level }) (seen_of walk.old taken)
+        (CheckItem heading.now.at_most heading.now.name.now heading.now.at heading.now.when.now
+        body.now) ≡ Ok (seen_of walk.new taken)) }
     ensures names { OnOk result (walk.new.names ≡ walk.old.names) }
-    ensures level { OnOk result (All (λ check. check.level ≡ level) walk.old.checks.items → All (λ check. check.level ≡ level) walk.new.checks.items) }
+    ensures level { OnOk result (All (λ check. check.level ≡ level) walk.old.checks.items →
+        All (λ check. check.level ≡ level) walk.new.checks.items) }
     ensures refused { (taken : List (List ℕ)) → IfErr result (λ e. e ≢ Memory →
-        with_shaped (record { network = locations.now; level = level }) (seen_of walk.old taken) (CheckItem heading.now.at_most heading.now.name.now heading.now.at heading.now.when.now body.now) ≡ Err e) }
+        with_shaped (record { network = locations.now; level = level }) (seen_of walk.old taken)
+        (CheckItem heading.now.at_most heading.now.name.now heading.now.at heading.now.when.now
+        body.now) ≡ Err e) }
 {
     look_new(&walk.check_names, heading.name, heading.at)?;
     look_for_room(&walk.checks, heading.at)?;
@@ -242,8 +265,10 @@ fn walk_check<'a>(
 /// Sees that no earlier item of the kind has the name: `RepeatedName` where one has.
 fn look_new(names: &Definitions<'_>, name: &Name, at: u32) -> Result<(), SpecError>
     ensures none { OnOk result (meaning_of names.now name.now ≡ None) }
-    ensures new { (taken : List (List ℕ)) → AreTaken names.now taken → OnOk result (unused taken name.now at ≡ Ok name.now) }
-    ensures refused { (taken : List (List ℕ)) → AreTaken names.now taken → IfErr result (λ e. unused taken name.now at ≡ Err e) }
+    ensures new { (taken : List (List ℕ)) → AreTaken names.now taken →
+        OnOk result (unused taken name.now at ≡ Ok name.now) }
+    ensures refused { (taken : List (List ℕ)) → AreTaken names.now taken →
+        IfErr result (λ e. unused taken name.now at ≡ Err e) }
 {
     match names.get(name.as_bytes()) {
         None => Ok(()),

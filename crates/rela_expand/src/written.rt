@@ -42,7 +42,9 @@ impl<'a> Written<'a> {
         negated: bool,
         members: &'a [Member],
     ) -> Result<Written<'a>, AllocError>
-        ensures { (network : Network) → IfOk result (λ written. class_of (record { network = network; level = level }) written ≡ listing (record { network = network; level = level }) negated members.now) }
+        ensures { (network : Network) → IfOk result (λ written.
+            class_of (record { network = network; level = level }) written
+            ≡ listing (record { network = network; level = level }) negated members.now) }
     {
         let picks = distinct(alloc, level, members)?;
         let picks = Vec::from_slice(alloc, picks.as_slice())?;
@@ -57,8 +59,10 @@ fn distinct<'a>(
     members: &'a [Member],
 ) -> Result<IndexSet<Pick<'a>>, AllocError>
     ensures { (network : Network) (n : ℕ) → IfOk result (λ picks.
-        list_any (λ list. has_number list n) (map (picked (record { network = network; level = level })) picks.keys)
-        ≡ list_any (λ list. has_number list n) (map (named_by (record { network = network; level = level })) members.now)) }
+        list_any (λ list. has_number list n)
+        (map (picked (record { network = network; level = level })) picks.keys)
+        ≡ list_any (λ list. has_number list n)
+        (map (named_by (record { network = network; level = level })) members.now)) }
 {
     let mut picks = IndexSet::new(alloc);
     for member in members {
@@ -70,7 +74,8 @@ fn distinct<'a>(
 /// What the member picks.
 #[tactic(auto, unfolding(crate::specs::Places::symbols_of))]
 fn picked_by<'a>(level: Level, member: &'a Member) -> Pick<'a>
-    ensures { (network : Network) → picked (record { network = network; level = level }) result ≡ named_by (record { network = network; level = level }) member.now }
+    ensures { (network : Network) → picked (record { network = network; level = level }) result
+        ≡ named_by (record { network = network; level = level }) member.now }
 {
     match member {
         Member::Here { name, .. } => Pick::Within(by_level(level), name),

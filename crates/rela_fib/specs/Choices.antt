@@ -8,4 +8,5 @@ use Rattle.rela_tables.specs.declared.route.Route.{Route}
 
 -- each device chooses the same for all addresses of the prefix
 abbrev pub IsUniform : Forwarding → Ipv4Prefix → Type 0
-IsUniform f c = (a b device : ℕ) (choice : Option Route) → Holds c a → Holds c b → Chosen f device a choice → Chosen f device b choice
+IsUniform f c = (a b device : ℕ) (choice : Option Route) → Holds c a → Holds c b →
+    Chosen f device a choice → Chosen f device b choice

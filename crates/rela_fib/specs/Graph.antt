@@ -27,7 +27,8 @@ pub record AreNodes (f : Forwarding) (nodes : List ℕ) : Type 0 where
 
 -- the places of the nodes that are among these interfaces, ascending
 abbrev pub ArePlacesOf : List ℕ → List ℕ → List ℕ → Type 0
-ArePlacesOf nodes interfaces places = ArePlaces (λ k. Contains interfaces (slice_index nodes k)) (length nodes) places
+ArePlacesOf nodes interfaces places = ArePlaces (λ k. Contains interfaces (slice_index nodes k))
+    (length nodes) places
 
 -- the hops of what is chosen, if anything is
 abbrev pub chosen_hops : Option Route → List ℕ
@@ -77,11 +78,14 @@ pub record Graph : Type 0 where
 -- The graph has an edge from each node to each hop of what the node's device chooses for the
 -- address. A node is delivered where the chosen route has no list of hops, and dropped where it is
 -- neither delivered nor has a hop.
-pub record IsGraphAt (network : Network) (f : Forwarding) (nodes : List ℕ) (a : ℕ) (graph : Graph) : Type 0 where
+pub record IsGraphAt (network : Network) (f : Forwarding) (nodes : List ℕ) (a : ℕ)
+    (graph : Graph) : Type 0 where
   pub choices : List (Option Route)
-  pub chosen : AllZip (λ node choice. Chosen f (location_of Device network node) a choice) nodes choices
+  pub chosen : AllZip (λ node choice. Chosen f (location_of Device network node) a
+      choice) nodes choices
   pub next : List (List ℕ)
-  pub next_are : AllZip (λ choice places. ArePlacesOf nodes (chosen_hops choice) places) choices next
+  pub next_are : AllZip (λ choice places.
+      ArePlacesOf nodes (chosen_hops choice) places) choices next
   pub edges : graph.edges ≡ edges_from 0 next
   pub delivered : graph.delivered ≡ numbers_from is_delivered 0 choices
   pub dropped : graph.dropped ≡ numbers_from is_dropped 0 choices

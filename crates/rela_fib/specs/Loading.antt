@@ -17,7 +17,13 @@ use Rattle.rela_fib.specs.Text.{Drawn, Flow}
 
 -- the prefix of all IPv4 addresses
 abbrev pub everywhere : Ipv4Prefix
-everywhere = record { address = 0; length = 0; address_fits = lit< tt; length_fits = lit≤ tt; host_bits_zero = refl }
+everywhere = record {
+  address = 0;
+  length = 0;
+  address_fits = lit< tt;
+  length_fits = lit≤ tt;
+  host_bits_zero = refl;
+}
 
 abbrev pub link_of : ℕ × ℕ → Link
 link_of edge = record { a = edge.0; b = edge.1 }
@@ -35,7 +41,12 @@ listed_graph network nodes starts graph = record {
 -- The flow of a class: the traffic from anywhere to the class, in the class `default`, with its graph.
 abbrev pub listed_flow : Network → List ℕ → List ℕ → Flow → ListedFlow
 listed_flow network nodes starts flow = record {
-  class = record { name = text_of (V4 flow.class); dst = V4 flow.class; src = V4 everywhere; class = codes "default" };
+  class = record {
+    name = text_of (V4 flow.class);
+    dst = V4 flow.class;
+    src = V4 everywhere;
+    class = codes "default";
+  };
   graph = listed_graph network nodes starts flow.graph;
 }
 
@@ -44,4 +55,5 @@ listed_flows network d = map (listed_flow network d.nodes d.starts) d.flows
 
 -- the text loads as the flows that two files give
 abbrev pub LoadsAs : Network → Forwarding → Forwarding → List ℕ → Type 0
-LoadsAs network f other text = (d : Drawn) → IsDrawn network f other d → Load network text (Ok (listed_flows network d))
+LoadsAs network f other text = (d : Drawn) → IsDrawn network f other d →
+    Load network text (Ok (listed_flows network d))

@@ -52,7 +52,8 @@ HasManyNodes f = (nodes : List ℕ) × AreNodes f nodes × (10000 < length nodes
 
 abbrev pub HasManyClasses : Forwarding → Forwarding → Type 0
 HasManyClasses f other =
-    (classes : List Ipv4Prefix) × AreClasses (prefixes_in_both f other) classes × (10000 < length classes)
+    (classes : List Ipv4Prefix) × AreClasses (prefixes_in_both f other) classes
+    × (10000 < length classes)
 
 -- the graph of some class has more edges than a snapshot may have
 pub record HasManyEdges (network : Network) (f other : Forwarding) : Type 0 where

@@ -64,14 +64,17 @@ AreStepsAt d a steps = AllZip (λ place step. IsStepOf d a place step) d.of_node
 
 -- the device of each node stands at its place among these
 abbrev pub ArePlaced : Network → List ℕ → List ℕ → List ℕ → Type 0
-ArePlaced network nodes names places = AllZip (λ node place. slice_get names place ≡ Some (location_of level.Device network node)) nodes places
+ArePlaced network nodes names places = AllZip (λ node place. slice_get names place
+    ≡ Some (location_of level.Device network node)) nodes places
 
 -- the devices of these symbols
 abbrev pub AreDevicesAt : Forwarding → List ℕ → List ℕ → List Device → Type 0
-AreDevicesAt f nodes names devices = AllZip (λ name device. IsDevice nodes (routes_of f name) device) names devices
+AreDevicesAt f nodes names devices = AllZip (λ name device.
+    IsDevice nodes (routes_of f name) device) names devices
 
 -- the devices of these nodes, by tables each of a device of its own
-pub record AreDevices (network : Network) (f : Forwarding) (nodes : List ℕ) (d : Devices) : Type 0 where
+pub record AreDevices (network : Network) (f : Forwarding) (nodes : List ℕ)
+    (d : Devices) : Type 0 where
   pub tables : AreTables f.tables
   pub names : List ℕ
   pub devices : AreDevicesAt f nodes names d.devices.items

@@ -28,7 +28,8 @@ commas later (t ∷ ts) = comma_if later ++ (t ++ commas true ts)
 
 -- the ends of the paths, which begin a flow
 abbrev pub ends_text : Graph → List ℕ
-ends_text g = 123 ∷ (key_text false (codes "delivered") ++ (compact_text (numbers_data g.delivered) ++ (key_text true (codes "dropped") ++ compact_text (numbers_data g.dropped))))
+ends_text g = 123 ∷ (key_text false (codes "delivered") ++ (compact_text (numbers_data g.delivered)
+    ++ (key_text true (codes "dropped") ++ compact_text (numbers_data g.dropped))))
 
 -- the class and the edges
 abbrev pub middle_text : Flow → List ℕ
@@ -40,7 +41,8 @@ middle_text flow =
 -- the nodes and the starts, which end each flow
 abbrev pub end_text : List (List ℕ) → List ℕ → List ℕ
 end_text names starts =
-    key_text true (codes "nodes") ++ (compact_text (list_data string names) ++ (key_text true (codes "starts") ++ (compact_text (numbers_data starts) ++ 125 ∷ [])))
+    key_text true (codes "nodes") ++ (compact_text (list_data string names)
+    ++ (key_text true (codes "starts") ++ (compact_text (numbers_data starts) ++ 125 ∷ [])))
 
 abbrev pub flow_text : List ℕ → Flow → List ℕ
 flow_text end flow = ends_text flow.graph ++ (middle_text flow ++ end)
@@ -82,7 +84,8 @@ pub record HasManyStepsIn (d : Devices) (classes : List Ipv4Prefix) : Type 0 whe
   pub many : HasManySteps d class
 
 -- the flow of a class goes to the text
-pub record AddsFlow (d : Devices) (end : List ℕ) (class : Ipv4Prefix) (later : Bool) (old new : List ℕ) : Type 0 where
+pub record AddsFlow (d : Devices) (end : List ℕ) (class : Ipv4Prefix) (later : Bool)
+    (old new : List ℕ) : Type 0 where
   pub flow : Flow
   pub class_is : flow.class ≡ class
   pub stepped : IsSteppedFlow d flow
@@ -94,13 +97,15 @@ pub record AreFlowsOf (d : Devices) (classes : List Ipv4Prefix) (flows : List Fl
   pub stepped : All (IsSteppedFlow d) flows
 
 -- they go to the text
-pub record AddsFlows (d : Devices) (end : List ℕ) (classes : List Ipv4Prefix) (old new : List ℕ) : Type 0 where
+pub record AddsFlows (d : Devices) (end : List ℕ) (classes : List Ipv4Prefix)
+    (old new : List ℕ) : Type 0 where
   pub flows : List Flow
   pub flows_are : AreFlowsOf d classes flows
   pub added : IsUpTo (old ++ commas false (map (flow_text end) flows)) new
 
 -- the text is that of the flows of these classes
-pub record IsWhole (d : Devices) (end : List ℕ) (classes : List Ipv4Prefix) (text : List ℕ) : Type 0 where
+pub record IsWhole (d : Devices) (end : List ℕ) (classes : List Ipv4Prefix)
+    (text : List ℕ) : Type 0 where
   pub flows : List Flow
   pub flows_are : AreFlowsOf d classes flows
   pub text_is : text ≡ whole_text end flows

@@ -29,7 +29,8 @@ pub record IsGroup (text : List ℕ) (n : ℕ) : Type 0 where
   pub value : n ≡ digits_value 16 text
 
 -- The text is fields with a separator between two, each of which is the field of a number.
-pub record IsFields (separator : ℕ) (IsField : List ℕ → ℕ → Type 0) (text numbers : List ℕ) : Type 0 where
+pub record IsFields (separator : ℕ) (IsField : List ℕ → ℕ → Type 0)
+    (text numbers : List ℕ) : Type 0 where
   pub fields : List (List ℕ)
   pub joined : text ≡ join_with_byte separator fields
   pub each : AllZip IsField fields numbers
@@ -72,7 +73,8 @@ abbrev pub IsIpv6Address : List ℕ → ℕ → Type 0
 IsIpv6Address text address = IsWholeIpv6Address text address ⊎ IsShortIpv6Address text address
 
 -- An address, a slash, and the length in decimal. Host bits may be written, and are put to zero.
-pub record IsPrefixText (IsAddress : List ℕ → ℕ → Type 0) (width : ℕ) (text : List ℕ) (address length : ℕ) : Type 0 where
+pub record IsPrefixText (IsAddress : List ℕ → ℕ → Type 0) (width : ℕ) (text : List ℕ)
+    (address length : ℕ) : Type 0 where
   pub host : ℕ
   pub address_text : List ℕ
   pub written : IsAddress address_text host
@@ -85,5 +87,7 @@ IsTextOf text (V6 p) = IsPrefixText IsIpv6Address 128 text p.address p.length
 
 -- The canonical text: of an IPv6 address all eight groups, in lower case with no leading zeros.
 abbrev pub text_of : Prefix → List ℕ
-text_of (V4 p) = join_with_byte dot (map (λ k. decimal (p.address / 2 ^ k % 2 ^ 8)) (24 ∷ 16 ∷ 8 ∷ 0 ∷ [])) ++ slash ∷ decimal p.length
-text_of (V6 p) = join_with_byte colon (map (λ k. digits 16 false (p.address / 2 ^ k % 2 ^ 16)) (112 ∷ 96 ∷ 80 ∷ 64 ∷ 48 ∷ 32 ∷ 16 ∷ 0 ∷ [])) ++ slash ∷ decimal p.length
+text_of (V4 p) = join_with_byte dot (map (λ k. decimal (p.address / 2 ^ k % 2 ^ 8)) (24 ∷ 16 ∷ 8 ∷ 0
+    ∷ [])) ++ slash ∷ decimal p.length
+text_of (V6 p) = join_with_byte colon (map (λ k. digits 16 false (p.address / 2 ^ k % 2 ^ 16)) (112
+    ∷ 96 ∷ 80 ∷ 64 ∷ 48 ∷ 32 ∷ 16 ∷ 0 ∷ [])) ++ slash ∷ decimal p.length

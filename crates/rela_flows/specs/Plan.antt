@@ -30,7 +30,9 @@ rows_from flow [] = []
 rows_from flow (checks ∷ more) = rows_of_flow flow checks ++ rows_from (flow + 1) more
 
 -- The rows are those of the flows in their order, with the checks that select each.
-pub record Plan (classes : List FlowClass) (checks : List Predicate) (rows : List PlannedRow) : Type 0 where
+pub record Plan (classes : List FlowClass) (checks : List Predicate)
+    (rows : List PlannedRow) : Type 0 where
   pub selecting : List (List ℕ)
-  pub each : AllZip (λ class places. ArePlaces (SelectedAt checks class) (length checks) places) classes selecting
+  pub each : AllZip (λ class places. ArePlaces (SelectedAt checks class) (length checks) places)
+      classes selecting
   pub in_order : rows ≡ rows_from 0 selecting

@@ -26,7 +26,8 @@ pub fn plan(
     checks: &[&Predicate],
 ) -> Result<Vec<PlannedRow>, AllocError>
     requires { All (λ p. depth p.now ≤ 1000) checks.now }
-    ensures { IfOk result (λ rows. Plan (map (λ c. c.now) classes.now) (map (λ p. p.now) checks.now) rows.items) }
+    ensures { IfOk result (λ rows. Plan (map (λ c. c.now) classes.now)
+        (map (λ p. p.now) checks.now) rows.items) }
 {
     let mut rows = Vec::new(alloc);
     for (flow, class) in classes.iter().enumerate() {

@@ -58,7 +58,8 @@ impl Ipv4Prefix {
     /// The prefix of this length that has the address in it. `None` where the length is above 32.
     pub fn new(address: u32, length: u8) -> Option<Ipv4Prefix>
         ensures fits { IsSome result ↔ (length ≤ 32) }
-        ensures exact { (p : Ipv4Prefix) → (result ≡ Some p) ↔ ((p.length ≡ length) × (p.address ≡ network 32 length address)) }
+        ensures exact { (p : Ipv4Prefix) → (result ≡ Some p) ↔
+            ((p.length ≡ length) × (p.address ≡ network 32 length address)) }
     {
         if length > 32 {
             return None;
@@ -85,7 +86,8 @@ impl Ipv6Prefix {
     /// The prefix of this length that has the address in it. `None` where the length is above 128.
     pub fn new(address: u128, length: u8) -> Option<Ipv6Prefix>
         ensures fits { IsSome result ↔ (length ≤ 128) }
-        ensures exact { (p : Ipv6Prefix) → (result ≡ Some p) ↔ ((p.length ≡ length) × (p.address ≡ network 128 length address)) }
+        ensures exact { (p : Ipv6Prefix) → (result ≡ Some p) ↔
+            ((p.length ≡ length) × (p.address ≡ network 128 length address)) }
     {
         if length > 128 {
             return None;

@@ -14,4 +14,5 @@ link_cmp x y = ordering_then (nat_cmp x.a y.a) (nat_cmp x.b y.b)
 pub record IsIndexed (count : ℕ) (edges : List Link) (offsets : List ℕ) : Type 0 where
   pub len : length offsets ≡ count + 1
   pub within : (n : ℕ) → n ≤ count → slice_index offsets n ≤ length edges
-  pub parted : (n : ℕ) → n ≤ count → IsPartitionPoint (λ link. link.a < n) (λ link. n ≤ link.a) edges (slice_index offsets n)
+  pub parted : (n : ℕ) → n ≤ count → IsPartitionPoint (λ link. link.a < n) (λ link. n
+      ≤ link.a) edges (slice_index offsets n)

@@ -11,7 +11,8 @@ Reaches g a b = (a ≡ b) ⊎ Leads g a b
 pub record AreComponents (g : Topology) (numbers : List ℕ) : Type 0 where
   pub len : length numbers ≡ length g.nodes
   pub ascend : (a b : ℕ) → HasEdge g a b → slice_index numbers a ≤ slice_index numbers b
-  pub joined : (a b : ℕ) → a < length g.nodes → b < length g.nodes → slice_index numbers a ≡ slice_index numbers b → Reaches g a b
+  pub joined : (a b : ℕ) → a < length g.nodes → b < length g.nodes → slice_index numbers a
+      ≡ slice_index numbers b → Reaches g a b
 
 -- nodes below a number that were claimed for roots, the list of the roots, and for each node that was
 -- claimed its root's place in that list
@@ -34,7 +35,8 @@ pub record SameFrame (old new : Claims) : Type 0 where
 abbrev pub ClaimsNode : Claims → Claims → ℕ → ℕ → Type 0
 ClaimsNode old new n place =
     (Contains old.nodes n × (new.nodes ≡ old.nodes) × (new.places ≡ old.places))
-    ⊎ ((¬ Contains old.nodes n) × (new.nodes ≡ old.nodes ++ n ∷ []) × (new.places ≡ slice_set old.places n place))
+    ⊎ ((¬ Contains old.nodes n) × (new.nodes ≡ old.nodes ++ n ∷ [])
+    × (new.places ≡ slice_set old.places n place))
 
 -- what was claimed reaches its root
 abbrev pub AreBehind : Topology → Claims → Type 0

@@ -20,7 +20,8 @@ letter_at letters n = slice_index letters.nodes.items n
 
 -- what is read on the way from n to m: nothing where both have one letter, else that of m
 abbrev pub read_between : Letters → ℕ → ℕ → Option ℕ
-read_between letters n m = if letter_at letters n == letter_at letters m then None else Some (letter_at letters m)
+read_between letters n m = if letter_at letters n == letter_at letters m then None
+    else Some (letter_at letters m)
 
 -- an edge by one letter
 abbrev pub by_letter : ℕ → ℕ → ℕ → Move
@@ -33,4 +34,5 @@ only_if wanted move = if wanted then move ∷ [] else []
 -- the edge for one of the graph's; state 1 + n stands at node n
 abbrev pub link_move : Letters → Link → Move
 link_move letters link =
-    if letter_at letters link.a == letter_at letters link.b then silent (1 + link.b) else by_letter letters.count (letter_at letters link.b) (1 + link.b)
+    if letter_at letters link.a == letter_at letters link.b then silent (1 + link.b)
+    else by_letter letters.count (letter_at letters link.b) (1 + link.b)

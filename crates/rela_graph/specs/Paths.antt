@@ -24,7 +24,8 @@ base places walk = squeeze (map (λ n. slice_index places n) walk)
 
 -- some walk ends at n and has this base word
 abbrev pub Arrives : Topology → List ℕ → ℕ → List ℕ → Type 0
-Arrives g places n word = (before : List ℕ) × IsWalk g (before ++ n ∷ []) × (base places (before ++ n ∷ []) ≡ word)
+Arrives g places n word = (before : List ℕ) × IsWalk g (before ++ n ∷ [])
+    × (base places (before ++ n ∷ []) ≡ word)
 
 -- what may follow the base word of a walk that ends at n: nothing where n delivers, `drop` where it
 -- drops, and `loop` where it lies on a cycle
@@ -37,10 +38,12 @@ IsEnding g alphabet n ending =
 -- the word is the base word of some walk, and then what its last node lets follow
 abbrev pub Paths : Topology → Level → List (List ℕ) → List ℕ → Type 0
 Paths g level alphabet word =
-    (n : ℕ) × (front : List ℕ) × (ending : List ℕ) × Arrives g (locations g level) n front × IsEnding g alphabet n ending × (word ≡ front ++ ending)
+    (n : ℕ) × (front : List ℕ) × (ending : List ℕ) × Arrives g (locations g level) n front
+    × IsEnding g alphabet n ending × (word ≡ front ++ ending)
 
 -- the paths that don't deliver: the base word of some walk, and then the `drop` or `loop` that its last
 -- node lets follow
 abbrev pub Undelivered : Topology → Level → List (List ℕ) → List ℕ → Type 0
 Undelivered g level alphabet word =
-    (n : ℕ) × (front : List ℕ) × (ending : List ℕ) × Arrives g (locations g level) n front × IsEnding g alphabet n ending × (ending ≢ []) × (word ≡ front ++ ending)
+    (n : ℕ) × (front : List ℕ) × (ending : List ℕ) × Arrives g (locations g level) n front
+    × IsEnding g alphabet n ending × (ending ≢ []) × (word ≡ front ++ ending)

@@ -11,7 +11,8 @@ use Rattle.rela_graph.specs.Outline.{Outline, same_link, same_outline, link_writ
 use Rattle.rela_graph.specs.declared.node.Link.{Link}
 
 links_equivalent : IsEquivalence same_link
-links_equivalent = and_equiv (on_equiv (λ (l : Link). l.a) nat_eq_equiv) (on_equiv (λ (l : Link). l.b) nat_eq_equiv)
+links_equivalent = and_equiv (on_equiv (λ (l : Link). l.a) nat_eq_equiv)
+    (on_equiv (λ (l : Link). l.b) nat_eq_equiv)
 
 pub outlines_equivalent : IsEquivalence same_outline
 outlines_equivalent =
@@ -25,7 +26,8 @@ numbers_alike : Alike nat_eq fed.u32
 numbers_alike = record { fed = λ x y same. ap fed.u32 (eqb-true x y same) }
 
 links_alike : Alike same_link link_writes
-links_alike = and-Alike (on_Alike (λ (l : Link). l.a) numbers_alike) (on_Alike (λ (l : Link). l.b) numbers_alike)
+links_alike = and-Alike (on_Alike (λ (l : Link). l.a) numbers_alike)
+    (on_Alike (λ (l : Link). l.b) numbers_alike)
 
 flags_alike : Alike beq fed.bool
 flags_alike = same_Alike fed.bool booleans_Decides

@@ -10,13 +10,15 @@ use Rattle.rela_graph.specs.Walk.{IsCyclic, IsDropNode}
 use Rattle.rela_graph.specs.declared.letters.Letters.{Letters}
 
 -- edges of an automaton of this size, which lead by just the letters and to just the states of P
-pub record LeadOn (letters states : ℕ) (moves : List Move) (P : Option ℕ → ℕ → Type 0) : Type 0 where
+pub record LeadOn (letters states : ℕ) (moves : List Move)
+    (P : Option ℕ → ℕ → Type 0) : Type 0 where
   pub sized : All (IsMove letters states) moves
   pub steps : (letter : Option ℕ) (q : ℕ) → StepIn moves letter q ↔ P letter q
 
 -- to a start, by its letter
 abbrev pub Begins : Topology → Letters → Option ℕ → ℕ → Type 0
-Begins g letters letter q = (n : ℕ) × IsStart g n × (letter ≡ Some (letter_at letters n)) × (q ≡ 1 + n)
+Begins g letters letter q = (n : ℕ) × IsStart g n
+    × (letter ≡ Some (letter_at letters n)) × (q ≡ 1 + n)
 
 -- from node n along an edge, or to the last state by `drop` where n drops, and by `loop` where it lies on a cycle
 abbrev pub GoesOn : Topology → Letters → ℕ → Option ℕ → ℕ → Type 0
@@ -28,6 +30,8 @@ GoesOn g letters n letter q =
 -- the edges of each state
 pub record IsUnrolled (g : Topology) (letters : Letters) (edges : List (List Move)) : Type 0 where
   pub len : length edges ≡ length g.nodes + 2
-  pub first : LeadOn letters.count (length g.nodes + 2) (slice_index_or edges 0 []) (Begins g letters)
-  pub nodes : (n : ℕ) → n < length g.nodes → LeadOn letters.count (length g.nodes + 2) (slice_index_or edges (1 + n) []) (GoesOn g letters n)
+  pub first : LeadOn letters.count (length g.nodes + 2) (slice_index_or edges 0 [])
+      (Begins g letters)
+  pub nodes : (n : ℕ) → n < length g.nodes →
+      LeadOn letters.count (length g.nodes + 2) (slice_index_or edges (1 + n) []) (GoesOn g letters n)
   pub last : slice_index_or edges (1 + length g.nodes) [] ≡ []

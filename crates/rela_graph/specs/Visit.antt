@@ -13,4 +13,5 @@ node_of (Leave n) = n
 -- a bound on the steps that are left: what is to be done, and for each node that was not entered one
 -- step for each edge and one to leave it, with one to spare
 abbrev pub work_left : Topology → Members → List Visit → ℕ
-work_left g entered visits = (entered.count - length entered.nodes) * (length g.edges + 2) + length visits
+work_left g entered visits = (entered.count - length entered.nodes) * (length g.edges
+    + 2) + length visits

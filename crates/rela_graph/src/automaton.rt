@@ -40,19 +40,24 @@ impl Graph {
         requires placed { All (λ node. symbol_at level node < length alphabet.now) self.now.nodes }
         requires symbols { path_symbols alphabet.now ≤ length blocks.now }
         requires fits { L.fits (block_count blocks.now) }
-        requires alone_nodes { All (λ node. StandsAlone blocks.now (symbol_at level node)) self.now.nodes }
+        requires alone_nodes { All (λ node.
+            StandsAlone blocks.now (symbol_at level node)) self.now.nodes }
         requires alone_drop { StandsAlone blocks.now (length alphabet.now) }
         requires alone_loop { StandsAlone blocks.now (length alphabet.now + 1) }
         ensures letters { IfOk result (λ nfa. nfa.letters ≡ block_count blocks.now) }
         ensures states { IfOk result (λ nfa. states nfa ≡ length self.now.nodes + 2) }
         ensures begin { IfOk result (λ nfa. (w : List ℕ) → Reach nfa 0 w ↔ (w ≡ [])) }
-        ensures nodes { IfOk result (λ nfa. (n : ℕ) (w : List ℕ) → n < length self.now.nodes → All (λ s. s < length blocks.now) w
-            → Reach nfa (1 + n) (blocks_of blocks.now w) ↔ Arrives self.now (locations self.now level) n w) }
+        ensures nodes { IfOk result (λ nfa. (n : ℕ) (w : List ℕ) → n < length self.now.nodes →
+            All (λ s. s < length blocks.now) w
+            → Reach nfa (1 + n) (blocks_of blocks.now w) ↔
+            Arrives self.now (locations self.now level) n w) }
         ensures end { IfOk result (λ nfa. (w : List ℕ) → All (λ s. s < length blocks.now) w
-            → Reach nfa (1 + length self.now.nodes) (blocks_of blocks.now w) ↔ Undelivered self.now level alphabet.now w) }
+            → Reach nfa (1 + length self.now.nodes) (blocks_of blocks.now w) ↔
+            Undelivered self.now level alphabet.now w) }
         ensures language { IfOk result (λ nfa. (w : List ℕ) → All (λ s. s < length blocks.now) w
             → Accepts nfa (blocks_of blocks.now w) ↔ Paths self.now level alphabet.now w) }
-        ensures of_path_symbols { IfOk result (λ _. (w : List ℕ) → Paths self.now level alphabet.now w → All (λ s. s < path_symbols alphabet.now) w) }
+        ensures of_path_symbols { IfOk result (λ _. (w : List ℕ) →
+            Paths self.now level alphabet.now w → All (λ s. s < path_symbols alphabet.now) w) }
     {
         let letters = Letters::new(alloc, self, level, alphabet, blocks)?;
         let finals = self.finals(alloc)?;
@@ -62,7 +67,8 @@ impl Graph {
 
     /// For each state whether it is final: those of nodes that deliver are, and the last.
     fn finals(&self, alloc: Global) -> Result<Vec<bool>, AllocError>
-        ensures finals { IfOk result (λ finals. finals.items ≡ false ∷ (self.now.delivered ++ true ∷ [])) }
+        ensures finals { IfOk result (λ finals. finals.items
+            ≡ false ∷ (self.now.delivered ++ true ∷ [])) }
         ensures topology { IsTopology self.now }
     {
         let delivered = self.delivered();
@@ -107,7 +113,8 @@ impl Graph {
         requires empty { edges.old.items ≡ [] }
         requires fits { L.fits letters.now.count }
         requires letters { AreLetters self.now letters.now }
-        ensures { OnOk result (LeadOn letters.now.count (length self.now.nodes + 2) (map (move_of L.letters) edges.new.items) (Begins self.now letters.now)) }
+        ensures { OnOk result (LeadOn letters.now.count (length self.now.nodes + 2)
+            (map (move_of L.letters) edges.new.items) (Begins self.now letters.now)) }
     {
         for n in 0..self.nodes().len() {
             let is_start = self.is_start(n as u32);
@@ -131,7 +138,8 @@ impl Graph {
         requires letters { AreLetters self.now letters.now }
         requires node { n < length self.now.nodes }
         requires cyclic { IsTrue is_cyclic ↔ IsCyclic self.now n }
-        ensures { OnOk result (LeadOn letters.now.count (length self.now.nodes + 2) (map (move_of L.letters) edges.new.items) (GoesOn self.now letters.now n)) }
+        ensures { OnOk result (LeadOn letters.now.count (length self.now.nodes + 2)
+            (map (move_of L.letters) edges.new.items) (GoesOn self.now letters.now n)) }
     {
         let end = 1 + self.nodes().len();
         letters.add_along(alloc, edges, self.edges_from(n))?;

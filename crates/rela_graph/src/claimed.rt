@@ -24,7 +24,12 @@ impl Model for Claimed {
 
     ghost Value = { Claims };
 
-    ghost view = { λ c. record { roots = c.roots.items; count = c.nodes.count; nodes = c.nodes.nodes; places = c.places.items } };
+    ghost view = { λ c. record {
+      roots = c.roots.items;
+      count = c.nodes.count;
+      nodes = c.nodes.nodes;
+      places = c.places.items;
+    } };
 
     ghost invariant = { λ c. length c.places.items ≡ c.nodes.count };
 }

@@ -24,7 +24,8 @@ impl Graph {
     /// to a smaller number. `None` says that the check failed, which doesn't happen. Time and
     /// space: linear in the nodes and the edges.
     pub(crate) fn components(&self, alloc: Global) -> Result<Option<Vec<usize>>, AllocError>
-        ensures { IfOk result (λ found. IfSome found (λ numbers. AreComponents self.now numbers.items)) }
+        ensures { IfOk result (λ found. IfSome found (λ numbers.
+            AreComponents self.now numbers.items)) }
     {
         let order = self.leaving_order(alloc)?;
         let behind = self.claim_behind(alloc, &order)?;
@@ -77,7 +78,8 @@ impl Graph {
         done: usize,
         claimed: &mut Claimed,
     ) -> Result<(), AllocError>
-        requires chained { IsChained (length self.now.nodes) self.now.edges incoming.now.last.items incoming.now.before.items }
+        requires chained { IsChained (length self.now.nodes) self.now.edges incoming.now.last.items
+            incoming.now.before.items }
         requires count { claimed.old.count ≡ length self.now.nodes }
         requires behind { AreBehind self.now claimed.old }
         ensures frame { OnOk result (SameFrame claimed.old claimed.new) }
@@ -99,7 +101,8 @@ impl Graph {
         n: u32,
         claimed: &mut Claimed,
     ) -> Result<(), AllocError>
-        requires chained { IsChained (length self.now.nodes) self.now.edges incoming.now.last.items incoming.now.before.items }
+        requires chained { IsChained (length self.now.nodes) self.now.edges incoming.now.last.items
+            incoming.now.before.items }
         requires count { claimed.old.count ≡ length self.now.nodes }
         requires node { n < length self.now.nodes }
         requires member { Contains claimed.old.nodes n }
@@ -189,8 +192,10 @@ impl Graph {
 
 /// Whether no edge leads to a smaller number.
 fn ascends(edges: &[Link], numbers: &[usize]) -> bool
-    requires { All (λ link. (link.a < length numbers.now) × (link.b < length numbers.now)) edges.now }
-    ensures { OnTrue result (All (λ link. slice_index numbers.now link.a ≤ slice_index numbers.now link.b) edges.now) }
+    requires { All (λ link. (link.a < length numbers.now)
+        × (link.b < length numbers.now)) edges.now }
+    ensures { OnTrue result (All (λ link. slice_index numbers.now link.a
+        ≤ slice_index numbers.now link.b) edges.now) }
 {
     edges.iter().all(|edge| numbers[edge.a as usize] <= numbers[edge.b as usize])
 }

@@ -23,7 +23,8 @@ impl Graph {
     /// For each node whether it lies on a cycle. Time and space: linear in the nodes and the edges.
     pub fn cyclic_nodes(&self, alloc: Global) -> Result<Vec<bool>, AllocError>
         ensures nodes { IfOk result (λ cyclic. vec_len cyclic ≡ length self.now.nodes) }
-        ensures cyclic { IfOk result (λ cyclic. (n : ℕ) → IsTrue (slice_index_or cyclic.items n false) ↔ IsCyclic self.now n) }
+        ensures cyclic { IfOk result (λ cyclic. (n : ℕ) →
+            IsTrue (slice_index_or cyclic.items n false) ↔ IsCyclic self.now n) }
     {
         match self.components(alloc)? {
             Some(components) => self.cyclic_by_components(alloc, &components),
@@ -40,7 +41,8 @@ impl Graph {
     ) -> Result<Vec<bool>, AllocError>
         requires { AreComponents self.now components.now }
         ensures nodes { IfOk result (λ cyclic. vec_len cyclic ≡ length self.now.nodes) }
-        ensures cyclic { IfOk result (λ cyclic. (n : ℕ) → IsTrue (slice_index_or cyclic.items n false) ↔ IsCyclic self.now n) }
+        ensures cyclic { IfOk result (λ cyclic. (n : ℕ) →
+            IsTrue (slice_index_or cyclic.items n false) ↔ IsCyclic self.now n) }
     {
         let count = self.nodes().len();
         let mut cyclic = Vec::with_capacity(alloc, count)?;
@@ -55,7 +57,8 @@ impl Graph {
     /// and the edges, for each node.
     fn cyclic_by_searches(&self, alloc: Global) -> Result<Vec<bool>, AllocError>
         ensures nodes { IfOk result (λ cyclic. vec_len cyclic ≡ length self.now.nodes) }
-        ensures cyclic { IfOk result (λ cyclic. (n : ℕ) → IsTrue (slice_index_or cyclic.items n false) ↔ IsCyclic self.now n) }
+        ensures cyclic { IfOk result (λ cyclic. (n : ℕ) →
+            IsTrue (slice_index_or cyclic.items n false) ↔ IsCyclic self.now n) }
     {
         let count = self.nodes().len();
         let labels = vec![in alloc; 0u32; count]?;
@@ -82,7 +85,8 @@ impl Graph {
 /// Whether one of the edges leads to a node of the component.
 fn any_leads_into(edges: &[Link], components: &[usize], component: usize) -> bool
     requires { All (λ link. link.b < length components.now) edges.now }
-    ensures { IsTrue result ↔ Any (λ link. slice_index components.now link.b ≡ component) edges.now }
+    ensures { IsTrue result ↔ Any (λ link. slice_index components.now link.b
+        ≡ component) edges.now }
 {
     edges
         .iter()

@@ -70,10 +70,13 @@ impl Graph {
         requires dropped_exist { All (λ n. n < length nodes.items) dropped.now }
         ensures topology { IfOk result IsTopology }
         ensures nodes { IfOk result (λ graph. graph.nodes ≡ nodes.items) }
-        ensures edges { IfOk result (λ graph. (a b : ℕ) → HasEdge graph a b ↔ Contains edges.now (record { a = a; b = b })) }
+        ensures edges { IfOk result (λ graph. (a b : ℕ) → HasEdge graph a b ↔
+            Contains edges.now (record { a = a; b = b })) }
         ensures starts { IfOk result (λ graph. (n : ℕ) → IsStart graph n ↔ Contains starts.now n) }
-        ensures delivered { IfOk result (λ graph. (n : ℕ) → IsDelivered graph n ↔ Contains delivered.now n) }
-        ensures dropped { IfOk result (λ graph. (n : ℕ) → IsDropped graph n ↔ Contains dropped.now n) }
+        ensures delivered { IfOk result (λ graph. (n : ℕ) → IsDelivered graph n ↔
+            Contains delivered.now n) }
+        ensures dropped { IfOk result (λ graph. (n : ℕ) → IsDropped graph n ↔
+            Contains dropped.now n) }
     {
         let count = nodes.len();
         let edges = sorted(alloc, edges)?;
@@ -168,7 +171,8 @@ impl Graph {
         requires { n < length self.now.nodes }
         ensures few { length result.now ≤ length self.now.edges }
         ensures each { All (IsEdgeFrom self.now n) result.now }
-        ensures all { (b : ℕ) → HasEdge self.now n b → Contains result.now (record { a = n; b = b }) }
+        ensures all { (b : ℕ) → HasEdge self.now n b →
+            Contains result.now (record { a = n; b = b }) }
     {
         let from = self.offsets[n as usize] as usize;
         let to = self.offsets[n as usize + 1] as usize;
@@ -178,7 +182,8 @@ impl Graph {
 
 /// The edges in ascending order, each once.
 fn sorted(alloc: Global, edges: &[Link]) -> Result<Vec<Link>, AllocError>
-    ensures same { IfOk result (λ v. (link : Link) → Contains v.items link ↔ Contains edges.now link) }
+    ensures same { IfOk result (λ v. (link : Link) → Contains v.items link ↔
+        Contains edges.now link) }
     ensures ordered { IfOk result (λ v. IsSorted link_cmp v.items) }
     ensures few { IfOk result (λ v. vec_len v ≤ length edges.now) }
 {

@@ -22,7 +22,8 @@ impl Incoming {
     pub(crate) fn new(alloc: Global, edges: &[Link], count: usize) -> Result<Incoming, AllocError>
         requires ends { All (λ link. link.b < count) edges.now }
         requires few { length edges.now ≤ 100000 }
-        ensures { IfOk result (λ incoming. IsChained count edges.now incoming.last.items incoming.before.items) }
+        ensures { IfOk result (λ incoming. IsChained count edges.now incoming.last.items
+            incoming.before.items) }
     {
         let mut last = vec![in alloc; None; count]?;
         let mut before = Vec::with_capacity(alloc, edges.len())?;

@@ -50,8 +50,10 @@ impl Graph {
         requires count { entered.old.count ≡ length self.now.nodes }
         requires visits { All (λ visit. node_of visit < length self.now.nodes) visits.old.items }
         ensures count { entered.new.count ≡ length self.now.nodes }
-        ensures visits { OnOk result (All (λ visit. node_of visit < length self.now.nodes) visits.new.items) }
-        ensures work { OnOk result (work_left self.now entered.new visits.new.items ≤ work_left self.now entered.old visits.old.items) }
+        ensures visits { OnOk result (All (λ visit. node_of visit < length self.now.nodes)
+            visits.new.items) }
+        ensures work { OnOk result (work_left self.now entered.new visits.new.items
+            ≤ work_left self.now entered.old visits.old.items) }
     {
         if entered.contains(n) {
             return Ok(());
@@ -76,7 +78,8 @@ fn entries(alloc: Global, count: u32) -> Result<Vec<Visit>, AllocError>
 
 /// Adds the entry of each node that the edges lead to.
 fn enter_all(edges: &[Link], visits: &mut Vec<Visit>) -> Result<(), AllocError>
-    ensures { OnOk result (visits.new.items ≡ visits.old.items ++ map (λ link. Visit.Enter link.b) edges.now) }
+    ensures { OnOk result (visits.new.items ≡ visits.old.items
+        ++ map (λ link. Visit.Enter link.b) edges.now) }
 {
     for edge in edges {
         visits.push(Visit::Enter(edge.b))?;

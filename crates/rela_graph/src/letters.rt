@@ -41,9 +41,12 @@ impl Letters {
         requires symbols { path_symbols alphabet.now ≤ length blocks.now }
         ensures letters { IfOk result (AreLetters graph.now) }
         ensures count { IfOk result (λ letters. letters.count ≡ block_count blocks.now) }
-        ensures nodes { IfOk result (λ letters. letters.nodes.items ≡ map (λ node. block_of blocks.now (symbol_at level node)) graph.now.nodes) }
-        ensures drops { IfOk result (λ letters. letters.drop_letter ≡ block_of blocks.now (length alphabet.now)) }
-        ensures loops { IfOk result (λ letters. letters.loop_letter ≡ block_of blocks.now (length alphabet.now + 1)) }
+        ensures nodes { IfOk result (λ letters. letters.nodes.items
+            ≡ map (λ node. block_of blocks.now (symbol_at level node)) graph.now.nodes) }
+        ensures drops { IfOk result (λ letters. letters.drop_letter
+            ≡ block_of blocks.now (length alphabet.now)) }
+        ensures loops { IfOk result (λ letters. letters.loop_letter
+            ≡ block_of blocks.now (length alphabet.now + 1)) }
     {
         let nodes = graph
             .nodes()
@@ -67,7 +70,8 @@ impl Letters {
     ) -> Result<Edge<L>, AllocError>
         requires fits { L.fits self.now.count }
         requires below { letter < self.now.count }
-        ensures { IfOk result (λ edge. move_of L.letters edge ≡ by_letter self.now.count letter to) }
+        ensures { IfOk result (λ edge. move_of L.letters edge
+            ≡ by_letter self.now.count letter to) }
     {
         let mut label = L::none(alloc, self.count)?;
         label.add(alloc, letter)?;
@@ -88,7 +92,9 @@ impl Letters {
     ) -> Result<(), AllocError>
         requires fits { L.fits self.now.count }
         requires below { letter < self.now.count }
-        ensures { OnOk result (map (move_of L.letters) edges.new.items ≡ map (move_of L.letters) edges.old.items ++ only_if is_wanted (by_letter self.now.count letter to)) }
+        ensures { OnOk result (map (move_of L.letters) edges.new.items
+            ≡ map (move_of L.letters) edges.old.items
+            ++ only_if is_wanted (by_letter self.now.count letter to)) }
     {
         if is_wanted {
             edges.push(self.edge_by(alloc, letter, to)?)?;
@@ -123,7 +129,8 @@ impl Letters {
         requires fits { L.fits self.now.count }
         requires each { All (λ k. k < self.now.count) self.now.nodes.items }
         requires joins { All (JoinsNodes (length self.now.nodes.items)) links.now }
-        ensures { OnOk result (map (move_of L.letters) edges.new.items ≡ map (link_move self.now) links.now) }
+        ensures { OnOk result (map (move_of L.letters) edges.new.items
+            ≡ map (link_move self.now) links.now) }
     {
         for link in links {
             edges.push(self.edge_along(alloc, link)?)?;

@@ -80,7 +80,8 @@ impl Graph {
     /// Graphs that look the same at a level have the same paths there. The call does nothing, and its
     /// contract is this law.
     pub fn same_outline_same_paths(&self, other: &Graph, level: Level)
-        ensures { outline_of level self.now ≡ outline_of level other.now → (names : List (List ℕ)) (w : List ℕ) →
+        ensures { outline_of level self.now ≡ outline_of level other.now →
+            (names : List (List ℕ)) (w : List ℕ) →
             Paths self.now level names w ↔ Paths other.now level names w }
     {}
 
@@ -99,7 +100,8 @@ impl Graph {
     /// Whether the graph looks at the level as the other one does at its level. Time: linear in the
     /// nodes and the edges.
     fn looks_like(&self, level: Level, other: &Graph, other_level: Level) -> bool
-        ensures { result ≡ same_outline (outline_of level self.now) (outline_of other_level other.now) }
+        ensures { result ≡ same_outline (outline_of level self.now)
+            (outline_of other_level other.now) }
     {
         same_places(self.nodes(), level, other.nodes(), other_level)
             && self.edges() == other.edges()
@@ -111,7 +113,8 @@ impl Graph {
 
 /// Whether the nodes are as many as the others, and each has the location of the one in its place.
 fn same_places(nodes: &[Node], level: Level, others: &[Node], other_level: Level) -> bool
-    ensures { IsTrue result ↔ (map (symbol_at level) nodes.now ≡ map (symbol_at other_level) others.now) }
+    ensures { IsTrue result ↔ (map (symbol_at level) nodes.now
+        ≡ map (symbol_at other_level) others.now) }
 {
     if nodes.len() != others.len() {
         return false;
@@ -126,7 +129,8 @@ fn same_places(nodes: &[Node], level: Level, others: &[Node], other_level: Level
 
 /// Feeds the hasher the number of the nodes and the location of each.
 fn feed_places<H: Hasher>(nodes: &[Node], level: Level, state: &mut H)
-    ensures { state.new ≡ fold H.write state.old (fed.slice fed.u32 (map (symbol_at level) nodes.now)) }
+    ensures { state.new ≡ fold H.write state.old
+        (fed.slice fed.u32 (map (symbol_at level) nodes.now)) }
 {
     state.write_usize(nodes.len());
     for node in nodes {

@@ -94,7 +94,8 @@ impl Graph {
     ) -> Result<NodeSet, AllocError>
         requires { length places.now ≡ length self.now.nodes }
         ensures count { IfOk result (λ ends. ends.count ≡ length self.now.nodes) }
-        ensures ends { IfOk result (λ ends. (n : ℕ) → Contains ends.nodes n ↔ Arrives self.now places.now n word.now) }
+        ensures ends { IfOk result (λ ends. (n : ℕ) → Contains ends.nodes n ↔
+            Arrives self.now places.now n word.now) }
     {
         let Some((first, others)) = word.split_first() else {
             return NodeSet::new(alloc, places.len());
@@ -115,7 +116,8 @@ impl Graph {
     ) -> Result<NodeSet, AllocError>
         requires { length places.now ≡ length self.now.nodes }
         ensures count { IfOk result (λ ends. ends.count ≡ length self.now.nodes) }
-        ensures ends { IfOk result (λ ends. (n : ℕ) → Contains ends.nodes n ↔ Spread self.now places.now symbol (StartsAt self.now places.now symbol) n) }
+        ensures ends { IfOk result (λ ends. (n : ℕ) → Contains ends.nodes n ↔
+            Spread self.now places.now symbol (StartsAt self.now places.now symbol) n) }
     {
         let mut ends = self.starts_with(alloc, places, symbol)?;
         self.spread(places, symbol, &mut ends)?;
@@ -131,7 +133,8 @@ impl Graph {
     ) -> Result<NodeSet, AllocError>
         requires { length places.now ≡ length self.now.nodes }
         ensures count { IfOk result (λ starts. starts.count ≡ length self.now.nodes) }
-        ensures starts { IfOk result (λ starts. (n : ℕ) → Contains starts.nodes n ↔ StartsAt self.now places.now symbol n) }
+        ensures starts { IfOk result (λ starts. (n : ℕ) → Contains starts.nodes n ↔
+            StartsAt self.now places.now symbol n) }
     {
         let count = self.nodes().len();
         let mut starts = NodeSet::new(alloc, count)?;
@@ -155,7 +158,9 @@ impl Graph {
         requires places { length places.now ≡ length self.now.nodes }
         requires before { before.now.count ≡ length self.now.nodes }
         ensures count { IfOk result (λ ends. ends.count ≡ length self.now.nodes) }
-        ensures ends { IfOk result (λ ends. (n : ℕ) → Contains ends.nodes n ↔ Spread self.now places.now symbol (Enters self.now places.now symbol before.now.nodes) n) }
+        ensures ends { IfOk result (λ ends. (n : ℕ) → Contains ends.nodes n ↔
+            Spread self.now places.now symbol (Enters self.now places.now symbol
+            before.now.nodes) n) }
     {
         let mut ends = NodeSet::new(alloc, places.len())?;
         for n in before.members() {

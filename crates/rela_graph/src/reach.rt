@@ -19,7 +19,8 @@ impl Graph {
         requires labels { length labels.now ≡ length self.now.nodes }
         requires set { set.old.count ≡ length self.now.nodes }
         ensures count { set.new.count ≡ set.old.count }
-        ensures adds { OnOk result (Adds (Next self.now labels.now label n) set.old.nodes set.new.nodes) }
+        ensures adds { OnOk result (Adds (Next self.now labels.now label n)
+            set.old.nodes set.new.nodes) }
     {
         for edge in self.edges_from(n) {
             if labels[edge.b as usize] == label {
@@ -40,7 +41,8 @@ impl Graph {
         requires labels { length labels.now ≡ length self.now.nodes }
         requires set { set.old.count ≡ length self.now.nodes }
         ensures count { set.new.count ≡ set.old.count }
-        ensures spreads { OnOk result ((m : ℕ) → Contains set.new.nodes m ↔ Spread self.now labels.now label (Contains set.old.nodes) m) }
+        ensures spreads { OnOk result ((m : ℕ) → Contains set.new.nodes m ↔
+            Spread self.now labels.now label (Contains set.old.nodes) m) }
     {
         // The members stand in a queue: those before `done` have been followed.
         let mut done = 0;

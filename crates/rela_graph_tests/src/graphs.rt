@@ -176,7 +176,8 @@ fn symbol_at(node: &Node, level: Level) -> Symbol
 
 /// Whether the alphabet has each node's symbol.
 fn is_placed(graph: &Graph, level: Level, alphabet: &Alphabet) -> bool
-    ensures { OnTrue result (All (λ node. symbol_at level node < length alphabet.now) graph.now.nodes) }
+    ensures { OnTrue result (All (λ node. symbol_at level node < length alphabet.now)
+        graph.now.nodes) }
 {
     let locations = alphabet.drop_symbol();
     graph

@@ -24,4 +24,8 @@ one_more calls = record calls { made = counted calls.made }
 
 -- after one more call, that failed
 abbrev pub one_more_failed : CallCount → CallCount
-one_more_failed calls = record { failing = calls.failing; made = counted calls.made; faults = counted calls.faults }
+one_more_failed calls = record {
+  failing = calls.failing;
+  made = counted calls.made;
+  faults = counted calls.faults;
+}

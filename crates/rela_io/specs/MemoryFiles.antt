@@ -42,7 +42,11 @@ not_opened s = record s { calls = one_more_failed s.calls; left = None }
 
 -- after a read that gave the first n of the bytes that were left
 abbrev pub after_read : FilesState → List ℕ → ℕ → FilesState
-after_read s left n = record s { calls = one_more s.calls; left = Some (drop n left); given = s.given + n }
+after_read s left n = record s {
+  calls = one_more s.calls;
+  left = Some (drop n left);
+  given = s.given + n;
+}
 
 -- after a read that failed
 abbrev pub not_read : FilesState → FilesState

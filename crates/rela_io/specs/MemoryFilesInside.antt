@@ -16,4 +16,5 @@ state_of s = record {
 -- the index is that of a file, and no more was given than it has
 pub record IsWhole (s : Inside) : Type 0 where
   pub piece : 0 < s.piece
-  pub current : ForSome s.current (λ i. (i < length s.files.items) × (s.given ≤ length (bytes_at (entries_of s.files.items) i)))
+  pub current : ForSome s.current (λ i. (i < length s.files.items)
+      × (s.given ≤ length (bytes_at (entries_of s.files.items) i)))

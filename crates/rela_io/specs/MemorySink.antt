@@ -16,7 +16,11 @@ taken_of piece offered room = min (min piece offered) room
 
 -- after a write that took these bytes
 abbrev pub after_write : SinkState → List ℕ → SinkState
-after_write s bytes = record s { taken = s.taken ++ bytes; room = s.room - length bytes; calls = one_more s.calls }
+after_write s bytes = record s {
+  taken = s.taken ++ bytes;
+  room = s.room - length bytes;
+  calls = one_more s.calls;
+}
 
 -- after a write that failed
 abbrev pub not_written : SinkState → SinkState

@@ -25,7 +25,11 @@ pub struct DiskFiles<R: rt::Files> {
 impl<R: rt::Files> Model for DiskFiles<R> {
     ghost Value = { DiskState };
 
-    ghost view = { λ s. record { is_open = is_some s.current; given = s.given; faults = s.faults } };
+    ghost view = { λ s. record {
+      is_open = is_some s.current;
+      given = s.given;
+      faults = s.faults;
+    } };
 }
 
 impl<R: rt::Files> DiskFiles<R> {

@@ -88,7 +88,8 @@ impl Files for MemoryFiles {
     fn open(&mut self, name: &str) -> Result<(), Fault>
         ensures ok_opens { OnOk result (self.new ≡ opened self.old name.now) }
         ensures fault { OnErr result (self.new ≡ not_opened self.old) }
-        ensures fails { IsErr result ↔ (NextFails self.old.calls ⊎ (held_in self.old.files name.now ≡ None)) }
+        ensures fails { IsErr result ↔ (NextFails self.old.calls
+            ⊎ (held_in self.old.files name.now ≡ None)) }
     {
         let fails = self.calls.count();
         match find(&self.files, name) {
@@ -113,7 +114,8 @@ impl Files for MemoryFiles {
         ensures ok_none_only_at_end { 0 < length into.old → IfOk result (λ n.
             IfSome self.old.left (λ left. (n ≡ 0) ↔ (left ≡ []))) }
         ensures fault { OnErr result ((self.new ≡ not_read self.old) × (into.new ≡ into.old)) }
-        ensures fails { 0 < length into.old → IsErr result ↔ (NextFails self.old.calls ⊎ (self.old.left ≡ None)) }
+        ensures fails { 0 < length into.old → IsErr result ↔
+            (NextFails self.old.calls ⊎ (self.old.left ≡ None)) }
     {
         if into.is_empty() {
             return Ok(0);
@@ -143,7 +145,8 @@ impl Files for MemoryFiles {
 fn find(files: &[MemoryFile], name: &str) -> Option<usize>
     ensures { MatchOption result
         (held_in (entries_of files.now) name.now ≡ None)
-        (λ i. (i < length files.now) × (held_in (entries_of files.now) name.now ≡ Some (bytes_at (entries_of files.now) i))) }
+        (λ i. (i < length files.now) × (held_in (entries_of files.now) name.now
+        ≡ Some (bytes_at (entries_of files.now) i))) }
 {
     for (index, file) in files.iter().enumerate() {
         if file.name.as_str() == name {

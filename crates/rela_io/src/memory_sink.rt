@@ -29,7 +29,12 @@ pub struct MemorySink {
 impl Model for MemorySink {
     ghost Value = { SinkState };
 
-    ghost view = { λ s. record { taken = s.taken.items; room = s.room; piece = s.piece; calls = s.calls } };
+    ghost view = { λ s. record {
+      taken = s.taken.items;
+      room = s.room;
+      piece = s.piece;
+      calls = s.calls;
+    } };
 
     ghost invariant = { λ s. (0 < s.piece) × (vec_len s.taken + s.room ≤ vec_capacity s.taken) };
 }
@@ -83,7 +88,8 @@ impl Sink for MemorySink {
             × (self.new ≡ after_write self.old (take n bytes.now))) }
         ensures ok_takes_some { 0 < length bytes.now → IfOk result (λ n. 0 < n) }
         ensures fault { OnErr result (self.new ≡ not_written self.old) }
-        ensures fails { 0 < length bytes.now → IsErr result ↔ (NextFails self.old.calls ⊎ (self.old.room ≡ 0)) }
+        ensures fails { 0 < length bytes.now → IsErr result ↔
+            (NextFails self.old.calls ⊎ (self.old.room ≡ 0)) }
     {
         if bytes.is_empty() {
             return Ok(0);

@@ -47,7 +47,8 @@ pub trait Files {
         ensures fault_gives_nothing { OnErr result (given self.new ≡ given self.old) }
         ensures fault_counted { OnErr result (Rose (faults self.old) (faults self.new)) }
         ensures missing_is_fault { Lacks (holds self.old) name.now → IsErr result }
-        ensures steady_fails_only_at_missing { OnErr result (IsTrue (steady self.old) → Lacks (holds self.old) name.now) }
+        ensures steady_fails_only_at_missing { OnErr result (IsTrue (steady self.old) →
+            Lacks (holds self.old) name.now) }
 
         ensures same_holds { holds self.new ≡ holds self.old }
         ensures same_steady { steady self.new ≡ steady self.old }
@@ -62,7 +63,8 @@ pub trait Files {
     /// `Fault` with no open file, unless the slice is empty, and where the outside fails.
     fn read(&mut self, into: &mut [u8]) -> Result<usize, Fault>
         ensures ok_within { IfOk result (λ n. n ≤ length into.new) }
-        ensures ok_gives_next { IfOk result (λ n. left self.old ≡ before_told (take n into.new) (left self.new)) }
+        ensures ok_gives_next { IfOk result (λ n. left self.old
+            ≡ before_told (take n into.new) (left self.new)) }
         ensures ok_none_only_at_end { 0 < length into.old → IfOk result (λ n.
             IfSome (left self.old) (λ rest. (n ≡ 0) ↔ (rest ≡ []))) }
         ensures ok_adds_to_given { IfOk result (λ n. given self.new ≡ given self.old + n) }
@@ -72,7 +74,8 @@ pub trait Files {
         ensures fault_keeps_given { OnErr result (given self.new ≡ given self.old) }
         ensures fault_counted { OnErr result (Rose (faults self.old) (faults self.new)) }
         ensures closed_is_fault { IsFalse (is_open self.old) → 0 < length into.old → IsErr result }
-        ensures steady_fails_only_closed { OnErr result (IsTrue (steady self.old) → IsFalse (is_open self.old)) }
+        ensures steady_fails_only_closed { OnErr result (IsTrue (steady self.old) →
+            IsFalse (is_open self.old)) }
 
         ensures empty_gives_none { length into.old ≡ 0 → result ≡ Ok 0 }
         ensures empty_changes_nothing { length into.old ≡ 0 → self.new ≡ self.old }
@@ -90,7 +93,8 @@ pub trait Files {
     ghost steady_tells_files: { (s : Self) → IsTrue (steady s) → IsSome (holds s) };
 
     /// Where the files are steady, what is left of the open one is told.
-    ghost steady_tells_left: { (s : Self) → IsTrue (steady s) → IsTrue (is_open s) → IsSome (left s) };
+    ghost steady_tells_left: { (s : Self) → IsTrue (steady s) → IsTrue (is_open s) →
+        IsSome (left s) };
 }
 
 /// A place that bytes are written to, one after another.
@@ -112,7 +116,8 @@ pub trait Sink {
     fn write(&mut self, bytes: &[u8]) -> Result<usize, Fault>
         ensures ok_within { IfOk result (λ n. n ≤ length bytes.now) }
         ensures ok_takes_some { 0 < length bytes.now → IfOk result (λ n. 0 < n) }
-        ensures ok_appends { IfOk result (λ n. taken self.new ≡ after_told (taken self.old) (take n bytes.now)) }
+        ensures ok_appends { IfOk result (λ n. taken self.new
+            ≡ after_told (taken self.old) (take n bytes.now)) }
         ensures ok_keeps_count { OnOk result (faults self.new ≡ faults self.old) }
 
         ensures fault_keeps_taken { OnErr result (taken self.new ≡ taken self.old) }

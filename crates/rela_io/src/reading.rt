@@ -26,18 +26,24 @@ pub fn read_all<F: Files>(
 ) -> Result<Vec<u8>, ReadError>
     requires { limit < 2 ^ 32 }
     ensures ok_within { IfOk result (λ bytes. vec_len bytes ≤ limit) }
-    ensures ok_is_file { IfOk result (λ bytes. IfSome (F.holds files.old) (λ held. held name.now ≡ Some bytes.items)) }
+    ensures ok_is_file { IfOk result (λ bytes. IfSome (F.holds files.old) (λ held. held name.now
+        ≡ Some bytes.items)) }
     ensures ok_given { IfOk result (λ bytes. F.given files.new ≡ vec_len bytes) }
 
     // The causes, exactly.
-    ensures fault_counted { IsErrOf result ReadError.Fault → Rose (F.faults files.old) (F.faults files.new) }
-    ensures no_fault_keeps_count { result ≢ Err ReadError.Fault → F.faults files.new ≡ F.faults files.old }
+    ensures fault_counted { IsErrOf result ReadError.Fault →
+        Rose (F.faults files.old) (F.faults files.new) }
+    ensures no_fault_keeps_count { result ≢ Err ReadError.Fault → F.faults files.new
+        ≡ F.faults files.old }
     ensures missing_is_fault { Lacks (F.holds files.old) name.now → IsErrOf result ReadError.Fault }
-    ensures steady_is_no_fault { IsTrue (F.steady files.old) → HoldsName (F.holds files.old) name.now →
+    ensures steady_is_no_fault { IsTrue (F.steady files.old) →
+        HoldsName (F.holds files.old) name.now →
         (result ≢ Err ReadError.Fault) × (F.faults files.new ≡ F.faults files.old) }
-    ensures too_long { IsErrOf result ReadError.TooLong ↔ ((result ≢ Err ReadError.Fault) × (limit < F.given files.new)) }
+    ensures too_long { IsErrOf result ReadError.TooLong ↔
+        ((result ≢ Err ReadError.Fault) × (limit < F.given files.new)) }
     ensures too_long_stops { IsErrOf result ReadError.TooLong → F.given files.new ≡ limit + 1 }
-    ensures too_long_is_file { IsErrOf result ReadError.TooLong → IfSome (F.holds files.old) (λ held.
+    ensures too_long_is_file { IsErrOf result ReadError.TooLong →
+        IfSome (F.holds files.old) (λ held.
         IfSome (held name.now) (λ bytes. limit < length bytes)) }
 
     ensures same_holds { F.holds files.new ≡ F.holds files.old }
@@ -63,15 +69,21 @@ fn read_rest<F: Files>(
     requires at_start { F.given files.old ≡ 0 }
 
     ensures ok_within { IfOk result (λ bytes. vec_len bytes ≤ limit) }
-    ensures ok_is_rest { IfOk result (λ bytes. IfSome (F.left files.old) (λ rest. rest ≡ bytes.items)) }
+    ensures ok_is_rest { IfOk result (λ bytes. IfSome (F.left files.old) (λ rest. rest
+        ≡ bytes.items)) }
     ensures ok_given { IfOk result (λ bytes. F.given files.new ≡ vec_len bytes) }
 
-    ensures fault_counted { IsErrOf result ReadError.Fault → Rose (F.faults files.old) (F.faults files.new) }
-    ensures no_fault_keeps_count { result ≢ Err ReadError.Fault → F.faults files.new ≡ F.faults files.old }
-    ensures steady_is_no_fault { IsTrue (F.steady files.old) → IsTrue (F.is_open files.old) → result ≢ Err ReadError.Fault }
-    ensures too_long { IsErrOf result ReadError.TooLong ↔ ((result ≢ Err ReadError.Fault) × (limit < F.given files.new)) }
+    ensures fault_counted { IsErrOf result ReadError.Fault →
+        Rose (F.faults files.old) (F.faults files.new) }
+    ensures no_fault_keeps_count { result ≢ Err ReadError.Fault → F.faults files.new
+        ≡ F.faults files.old }
+    ensures steady_is_no_fault { IsTrue (F.steady files.old) → IsTrue (F.is_open files.old) →
+        result ≢ Err ReadError.Fault }
+    ensures too_long { IsErrOf result ReadError.TooLong ↔
+        ((result ≢ Err ReadError.Fault) × (limit < F.given files.new)) }
     ensures too_long_stops { IsErrOf result ReadError.TooLong → F.given files.new ≡ limit + 1 }
-    ensures too_long_is_rest { IsErrOf result ReadError.TooLong → IfSome (F.left files.old) (λ rest. limit < length rest) }
+    ensures too_long_is_rest { IsErrOf result ReadError.TooLong →
+        IfSome (F.left files.old) (λ rest. limit < length rest) }
 
     ensures same_holds { F.holds files.new ≡ F.holds files.old }
     ensures same_steady { F.steady files.new ≡ F.steady files.old }

@@ -13,10 +13,12 @@ use crate::outside::Sink;
 ///
 /// `Fault` where a write fails. Some first bytes were then written, and not all of them.
 pub fn write_all<K: Sink>(sink: &mut K, bytes: &[u8]) -> Result<(), Fault>
-    ensures ok_appends_all { OnOk result (K.taken sink.new ≡ after_told (K.taken sink.old) bytes.now) }
+    ensures ok_appends_all { OnOk result (K.taken sink.new
+        ≡ after_told (K.taken sink.old) bytes.now) }
     ensures ok_keeps_count { OnOk result (K.faults sink.new ≡ K.faults sink.old) }
 
-    ensures fault_appends_part { OnErr result (GrewByPart (K.taken sink.old) (K.taken sink.new) bytes.now) }
+    ensures fault_appends_part { OnErr result (GrewByPart (K.taken sink.old)
+        (K.taken sink.new) bytes.now) }
     ensures fault_counted { OnErr result (Rose (K.faults sink.old) (K.faults sink.new)) }
 
     ensures count_never_falls { K.faults sink.old ≤ K.faults sink.new }

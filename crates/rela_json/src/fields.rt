@@ -20,7 +20,8 @@ pub fn part<'a>(
     rule: u8,
     row: u32,
 ) -> Result<Option<&'a Value>, LoadError>
-    ensures found { IfOk result (λ m. part_of name.now rule row (view value.now) ≡ Ok (option_map (λ v. view v.now) m)) }
+    ensures found { IfOk result (λ m. part_of name.now rule row (view value.now)
+        ≡ Ok (option_map (λ v. view v.now) m)) }
     ensures fault { IfErr result (λ e. part_of name.now rule row (view value.now) ≡ Err e) }
 {
     member(value, name).map_err(|_| LoadError::WrongShape { rule, row })
@@ -33,8 +34,10 @@ pub fn part<'a>(
 /// `WrongShape` where it is missing or no string.
 #[tactic(auto, unfolding(crate::specs::Fields::string_of))]
 pub fn string(value: Option<&Value>, rule: u8, row: u32) -> Result<&[u8], LoadError>
-    ensures found { IfOk result (λ bytes. string_of rule row (option_map (λ v. view v.now) value.entry) ≡ Ok bytes.now) }
-    ensures fault { IfErr result (λ e. string_of rule row (option_map (λ v. view v.now) value.entry) ≡ Err e) }
+    ensures found { IfOk result (λ bytes.
+        string_of rule row (option_map (λ v. view v.now) value.entry) ≡ Ok bytes.now) }
+    ensures fault { IfErr result (λ e. string_of rule row (option_map (λ v. view v.now) value.entry)
+        ≡ Err e) }
 {
     let value = value.ok_or(LoadError::WrongShape { rule, row })?;
     text(value).map_err(|_| LoadError::WrongShape { rule, row })
@@ -47,8 +50,10 @@ pub fn string(value: Option<&Value>, rule: u8, row: u32) -> Result<&[u8], LoadEr
 /// `WrongShape` where it is missing or no array.
 #[tactic(auto, unfolding(crate::specs::Fields::entries_of))]
 pub fn entries(value: Option<&Value>, rule: u8, row: u32) -> Result<&[Value], LoadError>
-    ensures found { IfOk result (λ vs. entries_of rule row (option_map (λ v. view v.now) value.entry) ≡ Ok (map view vs.now)) }
-    ensures fault { IfErr result (λ e. entries_of rule row (option_map (λ v. view v.now) value.entry) ≡ Err e) }
+    ensures found { IfOk result (λ vs. entries_of rule row (option_map (λ v.
+        view v.now) value.entry) ≡ Ok (map view vs.now)) }
+    ensures fault { IfErr result (λ e. entries_of rule row (option_map (λ v.
+        view v.now) value.entry) ≡ Err e) }
 {
     let value = value.ok_or(LoadError::WrongShape { rule, row })?;
     array(value).map_err(|_| LoadError::WrongShape { rule, row })
@@ -61,8 +66,10 @@ pub fn entries(value: Option<&Value>, rule: u8, row: u32) -> Result<&[Value], Lo
 /// `WrongShape` where it is missing or no whole number from 0 to 2^64 - 1.
 #[tactic(auto, unfolding(crate::specs::Fields::whole_number_of))]
 pub fn whole_number(value: Option<&Value>, rule: u8, row: u32) -> Result<u64, LoadError>
-    ensures found { IfOk result (λ n. whole_number_of rule row (option_map (λ v. view v.now) value.entry) ≡ Ok n) }
-    ensures fault { IfErr result (λ e. whole_number_of rule row (option_map (λ v. view v.now) value.entry) ≡ Err e) }
+    ensures found { IfOk result (λ n. whole_number_of rule row (option_map (λ v.
+        view v.now) value.entry) ≡ Ok n) }
+    ensures fault { IfErr result (λ e. whole_number_of rule row (option_map (λ v.
+        view v.now) value.entry) ≡ Err e) }
 {
     let value = value.ok_or(LoadError::WrongShape { rule, row })?;
     number(value).map_err(|_| LoadError::WrongShape { rule, row })
@@ -80,9 +87,11 @@ pub fn few_entries(
     rule: u8,
     row: u32,
 ) -> Result<&[Value], LoadError>
-    ensures found { IfOk result (λ vs. few_entries_of most rule row (option_map (λ v. view v.now) value.entry) ≡ Ok (map view vs.now)) }
+    ensures found { IfOk result (λ vs. few_entries_of most rule row (option_map (λ v.
+        view v.now) value.entry) ≡ Ok (map view vs.now)) }
     ensures few { IfOk result (λ vs. length vs.now ≤ most) }
-    ensures fault { IfErr result (λ e. few_entries_of most rule row (option_map (λ v. view v.now) value.entry) ≡ Err e) }
+    ensures fault { IfErr result (λ e. few_entries_of most rule row (option_map (λ v.
+        view v.now) value.entry) ≡ Err e) }
 {
     let found = entries(value, rule, row)?;
     if most < found.len() {
@@ -98,7 +107,8 @@ pub fn few_entries(
 /// `WrongShape` where the value is no such array.
 #[tactic(auto, unfolding(crate::specs::Fields::two_entries_of))]
 pub fn two_entries(value: &Value, rule: u8, row: u32) -> Result<(&Value, &Value), LoadError>
-    ensures found { IfOk result (λ ends. two_entries_of rule row (view value.now) ≡ Ok (view ends.0.now, view ends.1.now)) }
+    ensures found { IfOk result (λ ends. two_entries_of rule row (view value.now)
+        ≡ Ok (view ends.0.now, view ends.1.now)) }
     ensures fault { IfErr result (λ e. two_entries_of rule row (view value.now) ≡ Err e) }
 {
     match entries(Some(value), rule, row)? {

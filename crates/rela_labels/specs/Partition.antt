@@ -32,6 +32,7 @@ Together partition s t = block_of partition s ≡ block_of partition t
 pub record IsNumbered (blocks firsts : List ℕ) : Type 0 where
   pub partition : IsPartition blocks
   pub counted : (s : ℕ) → s < length blocks → block_of blocks s < length firsts
-  pub first : (block : ℕ) → block < length firsts → IsLeastOf blocks block (slice_index firsts block)
+  pub first : (block : ℕ) → block < length firsts →
+      IsLeastOf blocks block (slice_index firsts block)
   pub short : length firsts ≤ length blocks
   pub few : length blocks < 2 ^ 32

@@ -13,7 +13,8 @@ pub(crate) fn ascending_union(
     second: &[Symbol],
 ) -> Result<Vec<Symbol>, AllocError>
     ensures ascending { IfOk result (λ all. IsAscending all.items) }
-    ensures members { IfOk result (λ all. (s : ℕ) → Contains all.items s ↔ (Contains first.now s ⊎ Contains second.now s)) }
+    ensures members { IfOk result (λ all. (s : ℕ) → Contains all.items s ↔
+        (Contains first.now s ⊎ Contains second.now s)) }
 {
     let mut all = Vec::from_slice(alloc, first)?;
     all.extend_from_slice(second)?;

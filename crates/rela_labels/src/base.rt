@@ -106,7 +106,8 @@ pub(crate) fn number_apart(
     requires linked { IsLinked base.now.blocks.items base.now.next.items }
     requires ascending { IsAscending apart.now }
     requires within { All (λ s. s < length base.now.blocks.items) apart.now }
-    ensures { IfOk result (λ r. IsLayered base.now.blocks.items base.now.first.items base.now.next.items apart.now
+    ensures { IfOk result (λ r. IsLayered base.now.blocks.items base.now.first.items
+        base.now.next.items apart.now
         r.0.items r.1.items r.2.items) }
 {
     let leads = base.leads(alloc, apart)?;

@@ -37,7 +37,8 @@ pub trait LabelSet: Drop {
         requires { letter < length (letters self.old) }
         ensures size { OnOk result (length (letters self.new) ≡ length (letters self.old)) }
         ensures added { OnOk result (has (letters self.new) letter ≡ true) }
-        ensures others { OnOk result ((k : ℕ) → k ≢ letter → has (letters self.new) k ≡ has (letters self.old) k) }
+        ensures others { OnOk result ((k : ℕ) → k ≢ letter → has (letters self.new) k
+            ≡ has (letters self.old) k) }
         ensures unchanged { IfErr result (λ _. letters self.new ≡ letters self.old) }
         ensures memory { takes_memory ≡ false → IsOk result };
 
@@ -50,21 +51,24 @@ pub trait LabelSet: Drop {
     fn meet(&self, alloc: Global, other: &Self) -> Result<Self, AllocError>
         requires { length (letters self.now) ≡ length (letters other.now) }
         ensures size { IfOk result (λ set. length (letters set) ≡ length (letters self.now)) }
-        ensures both { IfOk result (λ set. (k : ℕ) → has (letters set) k ≡ (has (letters self.now) k && has (letters other.now) k)) }
+        ensures both { IfOk result (λ set. (k : ℕ) → has (letters set) k
+            ≡ (has (letters self.now) k && has (letters other.now) k)) }
         ensures memory { takes_memory ≡ false → IsOk result };
 
     /// The letters that are in one set or the other.
     fn join(&self, alloc: Global, other: &Self) -> Result<Self, AllocError>
         requires { length (letters self.now) ≡ length (letters other.now) }
         ensures size { IfOk result (λ set. length (letters set) ≡ length (letters self.now)) }
-        ensures either { IfOk result (λ set. (k : ℕ) → has (letters set) k ≡ (has (letters self.now) k || has (letters other.now) k)) }
+        ensures either { IfOk result (λ set. (k : ℕ) → has (letters set) k
+            ≡ (has (letters self.now) k || has (letters other.now) k)) }
         ensures memory { takes_memory ≡ false → IsOk result };
 
     /// The letters that are in this set and not in the other.
     fn minus(&self, alloc: Global, other: &Self) -> Result<Self, AllocError>
         requires { length (letters self.now) ≡ length (letters other.now) }
         ensures size { IfOk result (λ set. length (letters set) ≡ length (letters self.now)) }
-        ensures first_only { IfOk result (λ set. (k : ℕ) → has (letters set) k ≡ (has (letters self.now) k && not (has (letters other.now) k))) }
+        ensures first_only { IfOk result (λ set. (k : ℕ) → has (letters set) k
+            ≡ (has (letters self.now) k && not (has (letters other.now) k))) }
         ensures memory { takes_memory ≡ false → IsOk result };
 
     /// Whether no letter is in the set.
@@ -76,7 +80,8 @@ pub trait LabelSet: Drop {
         ensures none { IfNone result ((k : ℕ) → has (letters self.now) k ≡ false) }
         ensures member { IfSome result (λ least. has (letters self.now) least ≡ true) }
         ensures below { IfSome result (λ least. least < length (letters self.now)) }
-        ensures least { IfSome result (λ least. (k : ℕ) → k < least → has (letters self.now) k ≡ false) };
+        ensures least { IfSome result (λ least. (k : ℕ) → k < least →
+            has (letters self.now) k ≡ false) };
 
     /// Whether the two sets have the same letters.
     fn same(&self, other: &Self) -> bool

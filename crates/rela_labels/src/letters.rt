@@ -46,7 +46,8 @@ impl Letters {
     pub(crate) fn copied(&self, alloc: Global, size: u32) -> Result<Letters, AllocError>
         requires { IsSized size self.now }
         ensures sized { IfOk result (IsSized size) }
-        ensures same { IfOk result (λ letters. (k : ℕ) → has_letter letters k ≡ has_letter self.now k) }
+        ensures same { IfOk result (λ letters. (k : ℕ) → has_letter letters k
+            ≡ has_letter self.now k) }
     {
         match self {
             Letters::Few(word) => Ok(Letters::Few(*word)),
@@ -59,7 +60,8 @@ impl Letters {
         requires sized { IsSized size self.old }
         requires below { letter < size }
         ensures sized { IsSized size self.new }
-        ensures each { OnOk result ((k : ℕ) → has_letter self.new k ≡ (has_letter self.old k || letter == k)) }
+        ensures each { OnOk result ((k : ℕ) → has_letter self.new k
+            ≡ (has_letter self.old k || letter == k)) }
         ensures unchanged { IfErr result (λ _. self.new ≡ self.old) }
     {
         match self {
@@ -81,7 +83,8 @@ impl Letters {
         requires first { IsSized size self.now }
         requires second { IsSized size other.now }
         ensures sized { IfOk result (IsSized size) }
-        ensures both { IfOk result (λ letters. (k : ℕ) → has_letter letters k ≡ (has_letter self.now k && has_letter other.now k)) }
+        ensures both { IfOk result (λ letters. (k : ℕ) → has_letter letters k
+            ≡ (has_letter self.now k && has_letter other.now k)) }
     {
         match (self, other) {
             (Letters::Few(word), Letters::Few(other)) => {
@@ -104,7 +107,8 @@ impl Letters {
         requires first { IsSized size self.now }
         requires second { IsSized size other.now }
         ensures sized { IfOk result (IsSized size) }
-        ensures either { IfOk result (λ letters. (k : ℕ) → has_letter letters k ≡ (has_letter self.now k || has_letter other.now k)) }
+        ensures either { IfOk result (λ letters. (k : ℕ) → has_letter letters k
+            ≡ (has_letter self.now k || has_letter other.now k)) }
     {
         match (self, other) {
             (Letters::Few(word), Letters::Few(other)) => {
@@ -127,7 +131,8 @@ impl Letters {
         requires first { IsSized size self.now }
         requires second { IsSized size other.now }
         ensures sized { IfOk result (IsSized size) }
-        ensures first_only { IfOk result (λ letters. (k : ℕ) → has_letter letters k ≡ (has_letter self.now k && not (has_letter other.now k))) }
+        ensures first_only { IfOk result (λ letters. (k : ℕ) → has_letter letters k
+            ≡ (has_letter self.now k && not (has_letter other.now k))) }
     {
         match (self, other) {
             (Letters::Few(word), Letters::Few(other)) => {
@@ -156,7 +161,8 @@ impl Letters {
         requires { HaveFewWords self.now }
         ensures none { IfNone result ((k : ℕ) → has_letter self.now k ≡ false) }
         ensures member { IfSome result (λ least. has_letter self.now least ≡ true) }
-        ensures least { IfSome result (λ least. (k : ℕ) → k < least → has_letter self.now k ≡ false) }
+        ensures least { IfSome result (λ least. (k : ℕ) → k < least →
+            has_letter self.now k ≡ false) }
     {
         match self {
             Letters::Few(word) => least_of_word(*word),

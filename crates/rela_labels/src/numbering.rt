@@ -29,8 +29,10 @@ pub(crate) fn split_keys(
     ensures len { IfOk result (λ keys. length keys.items ≡ length blocks.now) }
     ensures same { IfOk result (λ keys. (s t : ℕ) → s < length blocks.now → t < length blocks.now
         → (slice_index keys.items s ≡ slice_index keys.items t)
-        ↔ ((slice_index blocks.now s ≡ slice_index blocks.now t) × (Contains members.now s ↔ Contains members.now t))) }
-    ensures below { IfOk result (λ keys. (n : ℕ) → All (λ block. block < n) blocks.now → All (λ key. key < 2 * n) keys.items) }
+        ↔ ((slice_index blocks.now s ≡ slice_index blocks.now t) × (Contains members.now s ↔
+        Contains members.now t))) }
+    ensures below { IfOk result (λ keys. (n : ℕ) → All (λ block. block < n) blocks.now →
+        All (λ key. key < 2 * n) keys.items) }
 {
     let mut keys: Vec<usize> = blocks
         .iter()
@@ -81,7 +83,8 @@ impl Numbering {
     /// No key has come yet. Those that come are below `bound`.
     fn new(alloc: Global, bound: usize) -> Result<Numbering, AllocError>
         ensures bound { IfOk result (λ numbering. length numbering.numbers.items ≡ bound) }
-        ensures numbering { IfOk result (λ numbering. IsNumbering [] numbering.numbers.items numbering.blocks.items numbering.firsts.items) }
+        ensures numbering { IfOk result (λ numbering.
+            IsNumbering [] numbering.numbers.items numbering.blocks.items numbering.firsts.items) }
     {
         Ok(Numbering {
             numbers: vec![in alloc; None; bound]?,
@@ -96,10 +99,12 @@ impl Numbering {
         requires below { key < length self.old.numbers.items }
         requires few { length self.old.blocks.items < 2 ^ 32 }
         requires short { length self.old.firsts.items ≤ length self.old.blocks.items }
-        ensures bound { IfOk result (λ _. length self.new.numbers.items ≡ length self.old.numbers.items) }
+        ensures bound { IfOk result (λ _. length self.new.numbers.items
+            ≡ length self.old.numbers.items) }
         ensures numbering { IfOk result (λ _. (keys : List ℕ)
             → IsNumbering keys self.old.numbers.items self.old.blocks.items self.old.firsts.items
-            → IsNumbering (keys ++ key ∷ []) self.new.numbers.items self.new.blocks.items self.new.firsts.items) }
+            → IsNumbering (keys ++ key ∷ []) self.new.numbers.items self.new.blocks.items
+            self.new.firsts.items) }
     {
         if let Some(block) = self.numbers[key] {
             self.blocks.push(block)?;

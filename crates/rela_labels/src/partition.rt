@@ -35,11 +35,14 @@ impl Model for Partition {
 
     ghost Value = { List ℕ };
 
-    ghost view = { λ partition. blocks_now partition.apart.items partition.beside.items partition.numbers.items
+    ghost view = { λ partition. blocks_now partition.apart.items partition.beside.items
+        partition.numbers.items
         partition.base.value.blocks.items };
 
-    ghost invariant = { λ partition. IsLayered partition.base.value.blocks.items partition.base.value.first.items partition.base.value.next.items
-        partition.apart.items partition.beside.items partition.numbers.items partition.least.items };
+    ghost invariant = { λ partition. IsLayered partition.base.value.blocks.items
+        partition.base.value.first.items partition.base.value.next.items
+        partition.apart.items partition.beside.items partition.numbers.items
+        partition.least.items };
 }
 
 impl Partition {
@@ -49,7 +52,8 @@ impl Partition {
         ensures symbols { IfOk result (λ partition. length partition ≡ symbols) }
         ensures partition { IfOk result IsPartition }
         ensures count { IfOk result (λ partition. block_count partition ≡ 1) }
-        ensures one_block { IfOk result (λ partition. (s : ℕ) → s < symbols → block_of partition s ≡ 0) }
+        ensures one_block { IfOk result (λ partition. (s : ℕ) → s < symbols →
+            block_of partition s ≡ 0) }
     {
         let blocks = vec![in alloc; 0; symbols as usize]?;
         let least = vec![in alloc; 0; 1]?;
@@ -63,7 +67,8 @@ impl Partition {
         ensures symbols { IfOk result (λ partition. length partition ≡ symbols) }
         ensures partition { IfOk result IsPartition }
         ensures count { IfOk result (λ partition. block_count partition ≡ symbols) }
-        ensures own_block { IfOk result (λ partition. (s : ℕ) → s < symbols → block_of partition s ≡ s) }
+        ensures own_block { IfOk result (λ partition. (s : ℕ) → s < symbols →
+            block_of partition s ≡ s) }
     {
         let blocks = numbers_below(alloc, symbols)?;
         let least = numbers_below(alloc, symbols)?;
@@ -79,7 +84,8 @@ impl Partition {
         ensures symbols { IfOk result (λ _. length self.new ≡ length self.old) }
         ensures partition { IfOk result (λ _. IsPartition self.new) }
         ensures split { IfOk result (λ _. (s t : ℕ) → s < length self.old → t < length self.old
-            → Together self.new s t ↔ (Together self.old s t × (Contains members.now s ↔ Contains members.now t))) }
+            → Together self.new s t ↔ (Together self.old s t × (Contains members.now s ↔
+            Contains members.now t))) }
         ensures unchanged { IfErr result (λ _. self.new ≡ self.old) }
     {
         let old = self.block_numbers(alloc)?;
@@ -101,7 +107,8 @@ impl Partition {
         requires below { All (λ key. key < bound) keys.now }
         ensures symbols { IfOk result (λ partition. length partition ≡ length keys.now) }
         ensures partition { IfOk result IsPartition }
-        ensures together { IfOk result (λ partition. (s t : ℕ) → s < length keys.now → t < length keys.now
+        ensures together { IfOk result (λ partition. (s t : ℕ) → s < length keys.now →
+            t < length keys.now
             → Together partition s t ↔ Together keys.now s t) }
     {
         let (blocks, least) = number_keys(alloc, keys, bound)?;
@@ -133,8 +140,10 @@ impl Partition {
         requires { All (λ s. s < length self.now) symbols.now }
         ensures symbols { IfOk result (λ partition. length partition ≡ length self.now) }
         ensures partition { IfOk result IsPartition }
-        ensures together { IfOk result (λ partition. (s t : ℕ) → s < length self.now → t < length self.now
-            → Together partition s t ↔ (Together self.now s t × ((u : ℕ) → Contains symbols.now u → (s ≡ u) ↔ (t ≡ u)))) }
+        ensures together { IfOk result (λ partition. (s t : ℕ) → s < length self.now →
+            t < length self.now
+            → Together partition s t ↔ (Together self.now s t × ((u : ℕ) → Contains symbols.now u →
+            (s ≡ u) ↔ (t ≡ u)))) }
     {
         let apart = ascending_union(alloc, &self.apart, symbols)?;
         let (beside, numbers, least) = number_apart(alloc, &self.base, &apart)?;
@@ -182,7 +191,8 @@ impl Partition {
     /// The call does nothing, and its contract is this law.
     pub fn determined_by_blocks(&self, other: &Partition)
         ensures { length self.now ≡ length other.now
-            → ((s t : ℕ) → s < length self.now → t < length self.now → Together self.now s t ↔ Together other.now s t)
+            → ((s t : ℕ) → s < length self.now → t < length self.now → Together self.now s t ↔
+            Together other.now s t)
             → self.now ≡ other.now }
     {
         let _ = &self.least;

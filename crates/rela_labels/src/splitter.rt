@@ -50,7 +50,8 @@ impl Splitter {
         requires { All (λ s. s < length self.old) members.now }
         ensures symbols { length self.new ≡ length self.old }
         ensures split { IfOk result (λ _. (s t : ℕ) → s < length self.old → t < length self.old
-            → Together self.new s t ↔ (Together self.old s t × (Contains members.now s ↔ Contains members.now t))) }
+            → Together self.new s t ↔ (Together self.old s t × (Contains members.now s ↔
+            Contains members.now t))) }
         ensures unchanged { IfErr result (λ _. (s t : ℕ) → s < length self.old → t < length self.old
             → Together self.new s t ↔ Together self.old s t) }
     {
@@ -73,7 +74,8 @@ impl Splitter {
     fn numbered(&self, alloc: Global) -> Result<Partition, AllocError>
         ensures symbols { IfOk result (λ partition. length partition ≡ length self.now) }
         ensures partition { IfOk result IsPartition }
-        ensures together { IfOk result (λ partition. (s t : ℕ) → s < length self.now → t < length self.now
+        ensures together { IfOk result (λ partition. (s t : ℕ) → s < length self.now →
+            t < length self.now
             → Together partition s t ↔ Together self.now s t) }
     {
         Partition::of_keys(alloc, &self.keys, self.moved.len())
@@ -101,7 +103,8 @@ impl Splitter {
         requires { All (λ s. s < length self.old) members.now }
         ensures symbols { length self.new ≡ length self.old }
         ensures split { IfOk result (λ _. (s t : ℕ) → s < length self.old → t < length self.old
-            → Together self.new s t ↔ (Together self.old s t × (Contains members.now s ↔ Contains members.now t))) }
+            → Together self.new s t ↔ (Together self.old s t × (Contains members.now s ↔
+            Contains members.now t))) }
         ensures unchanged { IfErr result (λ _. self.new ≡ self.old) }
     {
         let first = self.moved.len();
@@ -150,7 +153,8 @@ fn move_members(keys: &mut [usize], moved: &[usize], members: &[Symbol], first: 
     requires within { All (λ s. s < length keys.old) members.now }
     requires keys_below { All (λ key. key < first) keys.old }
     requires longer { first ≤ length moved.now }
-    requires given { (s : ℕ) → Contains members.now s → first ≤ slice_index moved.now (slice_index keys.old s) }
+    requires given { (s : ℕ) → Contains members.now s →
+        first ≤ slice_index moved.now (slice_index keys.old s) }
     ensures { (s : ℕ) → s < length keys.old → IsMoved members.now moved.now keys.old keys.new s }
 {
     for s in members {

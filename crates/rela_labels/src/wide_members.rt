@@ -63,7 +63,8 @@ impl Members {
         requires held { IsHeld size self.old }
         requires below { letter < size }
         ensures held { IsHeld size self.new }
-        ensures each { OnOk result ((k : ℕ) → holds self.new k ≡ (holds self.old k || letter == k)) }
+        ensures each { OnOk result ((k : ℕ) → holds self.new k
+            ≡ (holds self.old k || letter == k)) }
         ensures unchanged { IfErr result (λ _. self.new ≡ self.old) }
     {
         if let Members::Many(words) = self {
@@ -79,7 +80,8 @@ impl Members {
         requires held { IsHeld size self.now }
         requires below { letter < size }
         ensures held { IfOk result (IsHeld size) }
-        ensures each { IfOk result (λ members. (k : ℕ) → holds members k ≡ (holds self.now k || letter == k)) }
+        ensures each { IfOk result (λ members. (k : ℕ) → holds members k
+            ≡ (holds self.now k || letter == k)) }
     {
         if let Members::Nothing = self {
             return Ok(Members::One(letter));
@@ -102,7 +104,8 @@ impl Members {
         requires first { IsHeld size self.now }
         requires second { IsHeld size other.now }
         ensures held { IfOk result (IsHeld size) }
-        ensures both { IfOk result (λ members. (k : ℕ) → holds members k ≡ (holds self.now k && holds other.now k)) }
+        ensures both { IfOk result (λ members. (k : ℕ) → holds members k
+            ≡ (holds self.now k && holds other.now k)) }
     {
         match self {
             Members::Nothing => Ok(Members::Nothing),
@@ -129,7 +132,8 @@ impl Members {
         requires first { IsHeld size self.now }
         requires second { IsHeld size other.now }
         ensures held { IfOk result (IsHeld size) }
-        ensures either { IfOk result (λ members. (k : ℕ) → holds members k ≡ (holds self.now k || holds other.now k)) }
+        ensures either { IfOk result (λ members. (k : ℕ) → holds members k
+            ≡ (holds self.now k || holds other.now k)) }
     {
         match other {
             Members::Nothing => self.copied(alloc, size),
@@ -152,7 +156,8 @@ impl Members {
         requires first { IsHeld size self.now }
         requires second { IsHeld size other.now }
         ensures held { IfOk result (IsHeld size) }
-        ensures first_only { IfOk result (λ members. (k : ℕ) → holds members k ≡ (holds self.now k && not (holds other.now k))) }
+        ensures first_only { IfOk result (λ members. (k : ℕ) → holds members k
+            ≡ (holds self.now k && not (holds other.now k))) }
     {
         match self {
             Members::Nothing => Ok(Members::Nothing),

@@ -13,7 +13,8 @@ begins_with byte (first ∷ rest) = first == byte
 
 -- the token of this name in a piece of so many bytes, if it is a name
 abbrev pub named : (List ℕ → TokenKind) → List ℕ → ℕ → Option Front
-named kind name len = if is_name name then Some (record { token = Some (kind name); len = len }) else None
+named kind name len = if is_name name then Some (record { token = Some (kind name); len = len })
+    else None
 
 -- behind the first `"`
 unfoldable pub quoted_front : List ℕ → Option Front
@@ -30,7 +31,8 @@ unfoldable pub bare_front : List ℕ → Option Front
 bare_front text =
     let len = prefix_len is_name_byte text in
     let run = take len text in
-    if is_lone_mark run then Some (record { token = Some (Mark (slice_index run 0)); len = 1 }) else named Bare run len
+    if is_lone_mark run then Some (record { token = Some (Mark (slice_index run 0)); len = 1 })
+    else named Bare run len
 
 unfoldable pub front_of : List ℕ → Option Front
 front_of [] = None

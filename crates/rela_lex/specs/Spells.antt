@@ -48,8 +48,10 @@ StopsBefore passes (byte ∷ rest) = passes byte ≡ false
 
 -- the token may stand before this rest of the text
 abbrev pub TokenStands : TokenKind → List ℕ → Type 0
-TokenStands (Mark byte) rest = IsTrue (is_mark byte) ⊎ (IsTrue (is_lone_mark (byte ∷ [])) × StopsBefore is_name_byte rest)
-TokenStands (Bare name) rest = IsName name × (is_lone_mark name ≡ false) × StopsBefore is_name_byte rest
+TokenStands (Mark byte) rest = IsTrue (is_mark byte) ⊎ (IsTrue (is_lone_mark (byte ∷ []))
+    × StopsBefore is_name_byte rest)
+TokenStands (Bare name) rest = IsName name × (is_lone_mark name ≡ false)
+    × StopsBefore is_name_byte rest
 TokenStands (Quoted name) rest = IsName name
 TokenStands (Reference name) rest = IsName name × StopsBefore is_name_byte rest
 
@@ -62,7 +64,8 @@ Stands (Lexeme kind) rest = TokenStands kind rest
 -- each piece may stand before what follows it
 abbrev pub EachStands : List Piece → List ℕ → Type 0
 EachStands [] rest = ⊤
-EachStands (piece ∷ pieces) rest = Stands piece (flat_map spelling pieces ++ rest) × EachStands pieces rest
+EachStands (piece ∷ pieces) rest = Stands piece (flat_map spelling pieces ++ rest)
+    × EachStands pieces rest
 
 -- the pieces cut the text up to this rest of it
 pub record IsCut (text : List ℕ) (pieces : List Piece) (rest : List ℕ) : Type 0 where
@@ -81,7 +84,8 @@ tokens_at at (Some kind) = record { at = at; kind = kind } ∷ []
 -- the tokens of pieces of which the first stands at this offset
 abbrev pub tokens_from : ℕ → List Piece → List Token
 tokens_from at [] = []
-tokens_from at (piece ∷ pieces) = tokens_at at (token_of piece) ++ tokens_from (at + length (spelling piece)) pieces
+tokens_from at (piece ∷ pieces) = tokens_at at (token_of piece)
+    ++ tokens_from (at + length (spelling piece)) pieces
 
 -- the whole text is cut, and these are the tokens of the cut
 pub record Spells (text : List ℕ) (tokens : List Token) : Type 0 where
@@ -96,7 +100,8 @@ pub record IsBadToken (text : List ℕ) (at : ℕ) : Type 0 where
   pub cut : IsCut text pieces rest
   pub here : at ≡ length (flat_map spelling pieces)
   pub more : rest ≢ []
-  pub none : (piece : Piece) (after : List ℕ) → rest ≡ spelling piece ++ after → ¬ Stands piece after
+  pub none : (piece : Piece) (after : List ℕ) → rest ≡ spelling piece ++ after →
+      ¬ Stands piece after
 
 -- memory ran out, or this is the text's fault
 abbrev pub IsFault : List ℕ → SpecError → Type 0

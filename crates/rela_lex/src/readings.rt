@@ -12,7 +12,8 @@ pub fn one_reading()
         → ((ts : List Token) × Spells text ts) ⊎ ((at : ℕ) × IsBadToken text at) }
     ensures apart { (text : List ℕ) (ts : List Token) (at : ℕ)
         → Spells text ts → ¬ IsBadToken text at }
-    ensures tokens { (text : List ℕ) (ts us : List Token) → Spells text ts → Spells text us → ts ≡ us }
+    ensures tokens { (text : List ℕ) (ts us : List Token) → Spells text ts →
+        Spells text us → ts ≡ us }
     ensures fault { (text : List ℕ) (a b : ℕ) → IsBadToken text a → IsBadToken text b → a ≡ b }
 {}
 

@@ -67,12 +67,14 @@ abbrev pub load_devices : List (List ℕ) → List (List ℕ) → List Data → 
 load_devices earlier interfaces [] = Ok []
 load_devices earlier interfaces (d ∷ ds) = do
   device ← load_device earlier interfaces d
-  devices ← load_devices (with_name earlier device.name) (with_names interfaces device.interfaces) ds
+  devices ← load_devices (with_name earlier device.name)
+      (with_names interfaces device.interfaces) ds
   Ok (device ∷ devices)
 
 -- rules 4 to 6: a group, after groups, devices and interfaces of these names
 
-abbrev pub load_group : List (List ℕ) → List (List ℕ) → List (List ℕ) → Data → Result Group LoadError
+abbrev pub load_group : List (List ℕ) → List (List ℕ) → List (List ℕ) → Data →
+    Result Group LoadError
 load_group earlier devices interfaces d = do
   row ← next_row earlier
   name_part ← part 4 row (codes "name") d
@@ -83,11 +85,14 @@ load_group earlier devices interfaces d = do
   inside ← load_devices devices interfaces ds
   Ok (record { name = name; devices = inside })
 
-abbrev pub load_groups : List (List ℕ) → List (List ℕ) → List (List ℕ) → List Data → Result Network LoadError
+abbrev pub load_groups : List (List ℕ) → List (List ℕ) → List (List ℕ) → List Data →
+    Result Network LoadError
 load_groups earlier devices interfaces [] = Ok []
 load_groups earlier devices interfaces (d ∷ ds) = do
   group ← load_group earlier devices interfaces d
-  groups ← load_groups (with_name earlier group.name) (with_names devices (map (λ device. device.name) group.devices)) (with_names interfaces (flat_map (λ device. device.interfaces) group.devices)) ds
+  groups ← load_groups (with_name earlier group.name)
+      (with_names devices (map (λ device. device.name) group.devices))
+      (with_names interfaces (flat_map (λ device. device.interfaces) group.devices)) ds
   Ok (group ∷ groups)
 
 -- rules 1 to 3: the file

@@ -25,7 +25,8 @@ has_name names name = list_any (bytes_eq name) names
 
 -- the row of the next entry counts the earlier ones, of which there may be 99,999
 abbrev pub next_row : List (List ℕ) → Result ℕ LoadError
-next_row names = if nat_lt (length names) 100000 then Ok (length names) else Err (TooMany (length names))
+next_row names = if nat_lt (length names) 100000 then Ok (length names)
+    else Err (TooMany (length names))
 
 -- these bytes as the name of a location, in that row
 abbrev pub location_name : ℕ → List ℕ → Result (List ℕ) LoadError

@@ -56,7 +56,8 @@ within by.Tag name = with_devices (filter (λ device. has_name device.tags name)
 -- the symbols of a level that lie there, ascending
 abbrev pub members_of : Level → By → List ℕ → Network → List ℕ
 members_of at by name network =
-    filter (λ symbol. has_name (names_at at (within by name network)) (name_of at network symbol)) (range_with_len 0 (length (alphabet_of at network)))
+    filter (λ symbol. has_name (names_at at (within by name network)) (name_of at network symbol))
+    (range_with_len 0 (length (alphabet_of at network)))
 
 -- the names that a network has of a kind
 abbrev pub names_by : By → Network → List (List ℕ)
@@ -88,4 +89,5 @@ by_level level.Group = by.Group
 -- the symbol of the location of a level in which an interface lies
 abbrev pub location_of : Level → Network → ℕ → ℕ
 location_of at network interface =
-    position_or_len (λ place. has_name (names_at level.Interface (within (by_level at) place network)) (name_of level.Interface network interface)) (alphabet_of at network)
+    position_or_len (λ place. has_name (names_at level.Interface (within (by_level at) place
+    network)) (name_of level.Interface network interface)) (alphabet_of at network)

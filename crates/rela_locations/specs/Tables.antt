@@ -40,8 +40,10 @@ abbrev pub under : List (List ℕ) → List (List ℕ) → ℕ → List (ℕ × 
 under children names parent = map (λ n. (index_of children n, parent)) names
 
 -- the numbers of the children of some parents, each with its parent's
-abbrev pub numbered_pairs : {X : Type 0} → List (List ℕ) → List (List ℕ) → (X → List ℕ) → (X → List (List ℕ)) → List X → List (ℕ × ℕ)
-numbered_pairs children parents key inside xs = flat_map (λ x. under children (inside x) (index_of parents (key x))) xs
+abbrev pub numbered_pairs : {X : Type 0} → List (List ℕ) → List (List ℕ) → (X → List ℕ) →
+    (X → List (List ℕ)) → List X → List (ℕ × ℕ)
+numbered_pairs children parents key inside xs =
+    flat_map (λ x. under children (inside x) (index_of parents (key x))) xs
 
 -- a table in which some entries are written
 abbrev pub with_entry : List ℕ → ℕ × ℕ → List ℕ
@@ -52,26 +54,35 @@ with_entries table entries = fold with_entry table entries
 
 -- the places in a table that have this entry
 abbrev pub places_of : List ℕ → ℕ → List ℕ
-places_of table entry = filter (λ place. slice_index table place == entry) (range_with_len 0 (length table))
+places_of table entry = filter (λ place. slice_index table place == entry)
+    (range_with_len 0 (length table))
 
 -- the first location of a level in which a location of a finer one lies
 abbrev pub outer_of : Level → Level → Network → ℕ → ℕ
 outer_of child parent network symbol =
-    position_or_len (λ place. has_name (names_at child (within (by_level parent) place network)) (name_of child network symbol)) (alphabet_of parent network)
+    position_or_len (λ place. has_name (names_at child (within (by_level parent) place network))
+    (name_of child network symbol)) (alphabet_of parent network)
 
 -- for two levels the outer location of each inner one, and the inner ones of each outer one
-pub record IsContainment (child parent : Level) (network : Network) (containment : Containment) : Type 0 where
-  pub outer : containment.outer.items ≡ map (outer_of child parent network) (range_with_len 0 (length (alphabet_of child network)))
-  pub inner : map (λ list. list.items) containment.inner.items ≡ map (λ name. members_of child (by_level parent) name network) (alphabet_of parent network)
+pub record IsContainment (child parent : Level) (network : Network)
+    (containment : Containment) : Type 0 where
+  pub outer : containment.outer.items ≡ map (outer_of child parent network)
+      (range_with_len 0 (length (alphabet_of child network)))
+  pub inner : map (λ list. list.items) containment.inner.items
+      ≡ map (λ name. members_of child (by_level parent) name network) (alphabet_of parent network)
   pub inner_ascend : IsAscending (alphabet_of child network)
   pub outer_ascend : IsAscending (alphabet_of parent network)
-  pub known : (symbol : ℕ) → symbol < length (alphabet_of child network) → outer_of child parent network symbol < length (alphabet_of parent network)
-  pub told : (inner outer : ℕ) → inner < length (alphabet_of child network) → outer < length (alphabet_of parent network)
-      → has_name (names_at child (within (by_level parent) (name_of parent network outer) network)) (name_of child network inner) ≡ (outer_of child parent network inner == outer)
+  pub known : (symbol : ℕ) → symbol < length (alphabet_of child network) →
+      outer_of child parent network symbol < length (alphabet_of parent network)
+  pub told : (inner outer : ℕ) → inner < length (alphabet_of child network) →
+      outer < length (alphabet_of parent network)
+      → has_name (names_at child (within (by_level parent) (name_of parent network outer) network))
+      (name_of child network inner) ≡ (outer_of child parent network inner == outer)
 
 -- each name comes at one place
 abbrev pub IsOnce : List (List ℕ) → Type 0
-IsOnce names = (k l : ℕ) (n : List ℕ) → slice_get names k ≡ Some n → slice_get names l ≡ Some n → k ≡ l
+IsOnce names = (k l : ℕ) (n : List ℕ) → slice_get names k ≡ Some n →
+    slice_get names l ≡ Some n → k ≡ l
 
 -- each name is new where it comes
 abbrev pub AreNew : List (List ℕ) → List (List ℕ) → Type 0
@@ -93,16 +104,22 @@ devices_for tagged tag = option_map_or (λ list. list.items) (get bytes_cmp tagg
 
 -- whether one of these devices has this number and this tag
 abbrev pub is_tagged : List (List ℕ) → List Device → List ℕ → ℕ → Bool
-is_tagged alphabet devices tag n = list_any (λ device. has_name device.tags tag && (index_of alphabet device.name == n)) devices
+is_tagged alphabet devices tag n = list_any (λ device. has_name device.tags tag
+    && (index_of alphabet device.name == n)) devices
 
 -- a map has the devices with each tag
-pub record AreTagged (alphabet : List (List ℕ)) (devices : List Device) (tagged : BTreeMap (List ℕ) (Vec ℕ Global)) : Type 0 where
-  pub with_tag : (tag : List ℕ) (n : ℕ) → has_number (devices_for tagged tag) n ≡ is_tagged alphabet devices tag n
-  pub tags : (tag : List ℕ) → is_some (get bytes_cmp tagged tag) ≡ has_name (flat_map (λ device. device.tags) devices) tag
+pub record AreTagged (alphabet : List (List ℕ)) (devices : List Device)
+    (tagged : BTreeMap (List ℕ) (Vec ℕ Global)) : Type 0 where
+  pub with_tag : (tag : List ℕ) (n : ℕ) → has_number (devices_for tagged tag) n
+      ≡ is_tagged alphabet devices tag n
+  pub tags : (tag : List ℕ) → is_some (get bytes_cmp tagged tag)
+      ≡ has_name (flat_map (λ device. device.tags) devices) tag
 
 pub record AreTables (network : Network) (tables : Tables) : Type 0 where
-  pub interfaces_in_devices : IsContainment level.Interface level.Device network tables.interfaces_in_devices
-  pub interfaces_in_groups : IsContainment level.Interface level.Group network tables.interfaces_in_groups
+  pub interfaces_in_devices : IsContainment level.Interface level.Device network
+      tables.interfaces_in_devices
+  pub interfaces_in_groups : IsContainment level.Interface level.Group network
+      tables.interfaces_in_groups
   pub devices_in_groups : IsContainment level.Device level.Group network tables.devices_in_groups
   pub are_tagged : AreTagged (alphabet_of level.Device network) (devices_in network) tables.tagged
   pub devices_once : IsOnce (device_names (devices_in network))

@@ -35,8 +35,11 @@ impl Containment {
         requires few { inner ≤ 100000 }
         requires pairs { All (λ pair. pair.0 < inner) pairs.now }
         requires table { All (λ entry. entry < outer) (with_entries (replicate inner 0) pairs.now) }
-        ensures outer { IfOk result (λ made. made.outer.items ≡ with_entries (replicate inner 0) pairs.now) }
-        ensures inner { IfOk result (λ made. map (λ list. list.items) made.inner.items ≡ map (places_in (with_entries (replicate inner 0) pairs.now)) (range_with_len 0 outer)) }
+        ensures outer { IfOk result (λ made. made.outer.items
+            ≡ with_entries (replicate inner 0) pairs.now) }
+        ensures inner { IfOk result (λ made. map (λ list. list.items) made.inner.items
+            ≡ map (places_in (with_entries (replicate inner 0) pairs.now))
+            (range_with_len 0 outer)) }
     {
         let table = table_of(alloc, pairs, inner)?;
         let lists = places_of(alloc, table.as_slice(), outer)?;
@@ -66,7 +69,8 @@ fn table_of(alloc: Global, pairs: &[Pair], count: usize) -> Result<Vec<Symbol>, 
 fn places_of(alloc: Global, table: &[Symbol], count: usize) -> Result<Vec<Vec<Symbol>>, AllocError>
     requires few { length table.now ≤ 100000 }
     requires in_range { All (λ entry. entry < count) table.now }
-    ensures { IfOk result (λ lists. map (λ list. list.items) lists.items ≡ map (places_in table.now) (range_with_len 0 count)) }
+    ensures { IfOk result (λ lists. map (λ list. list.items) lists.items
+        ≡ map (places_in table.now) (range_with_len 0 count)) }
 {
     let mut lists = empty_lists(alloc, count)?;
     for (at, entry) in table.iter().enumerate() {

@@ -33,7 +33,8 @@ impl Model for Locations {
 
     ghost view = { λ locations. locations.groups };
 
-    ghost invariant = { λ locations. IsIndexed locations.groups locations.alphabets locations.tables };
+    ghost invariant = { λ locations. IsIndexed locations.groups locations.alphabets
+        locations.tables };
 }
 
 impl Locations {
@@ -96,8 +97,10 @@ impl Locations {
 
     /// The interface of this name, and `None` where no interface has it. Time: expected constant.
     pub fn interface(&self, name: &[u8]) -> Option<Symbol>
-        ensures found { (s : ℕ) → (result ≡ Some s) ↔ (slice_get (alphabet_of levels.Interface self.now) s ≡ Some name.now) }
-        ensures absent { IfNone result (All (λ other. other ≢ name.now) (alphabet_of levels.Interface self.now)) }
+        ensures found { (s : ℕ) → (result ≡ Some s) ↔
+            (slice_get (alphabet_of levels.Interface self.now) s ≡ Some name.now) }
+        ensures absent { IfNone result (All (λ other. other
+            ≢ name.now) (alphabet_of levels.Interface self.now)) }
     {
         self.alphabets.interfaces.find(name)
     }
@@ -131,9 +134,11 @@ impl Locations {
         by: By,
         name: &Name,
     ) -> Result<Vec<Symbol>, MemberError>
-        ensures members { IfOk result (λ symbols. symbols.items ≡ members_of level by name.now self.now) }
+        ensures members { IfOk result (λ symbols. symbols.items
+            ≡ members_of level by name.now self.now) }
         ensures finer { IsErrOf result MemberError.Finer ↔ IsTrue (is_finer by level) }
-        ensures unknown { IsErrOf result MemberError.Unknown ↔ ((is_finer by level ≡ false) × (has_name (names_by by self.now) name.now ≡ false)) }
+        ensures unknown { IsErrOf result MemberError.Unknown ↔
+            ((is_finer by level ≡ false) × (has_name (names_by by self.now) name.now ≡ false)) }
     {
         match by {
             By::Interface => self.in_interface(alloc, level, name),
@@ -152,9 +157,11 @@ impl Locations {
     /// `Finer` where what the name picks is finer than the level, a tag counting as a device; else
     /// `Unknown` where no such location is there, or no device carries the tag. Never `Memory`.
     pub fn find(&self, level: Level, by: By, name: &Name) -> Result<(), MemberError>
-        ensures known { OnOk result ((is_finer by level ≡ false) × (has_name (names_by by self.now) name.now ≡ true)) }
+        ensures known { OnOk result ((is_finer by level ≡ false)
+            × (has_name (names_by by self.now) name.now ≡ true)) }
         ensures finer { IsErrOf result MemberError.Finer ↔ IsTrue (is_finer by level) }
-        ensures unknown { IsErrOf result MemberError.Unknown ↔ ((is_finer by level ≡ false) × (has_name (names_by by self.now) name.now ≡ false)) }
+        ensures unknown { IsErrOf result MemberError.Unknown ↔
+            ((is_finer by level ≡ false) × (has_name (names_by by self.now) name.now ≡ false)) }
         ensures not_memory { result ≢ Err MemberError.Memory }
     {
         if is_finer(by, level) {
@@ -185,9 +192,12 @@ impl Locations {
         level: Level,
         name: &Name,
     ) -> Result<Vec<Symbol>, MemberError>
-        ensures members { IfOk result (λ symbols. symbols.items ≡ members_of level bys.Interface name.now self.now) }
+        ensures members { IfOk result (λ symbols. symbols.items
+            ≡ members_of level bys.Interface name.now self.now) }
         ensures finer { IsErrOf result MemberError.Finer ↔ IsTrue (is_finer bys.Interface level) }
-        ensures unknown { IsErrOf result MemberError.Unknown ↔ ((is_finer bys.Interface level ≡ false) × (has_name (names_by bys.Interface self.now) name.now ≡ false)) }
+        ensures unknown { IsErrOf result MemberError.Unknown ↔
+            ((is_finer bys.Interface level ≡ false)
+            × (has_name (names_by bys.Interface self.now) name.now ≡ false)) }
     {
         match level {
             Level::Interface => itself(alloc, &self.alphabets.interfaces, name),
@@ -202,9 +212,11 @@ impl Locations {
         level: Level,
         name: &Name,
     ) -> Result<Vec<Symbol>, MemberError>
-        ensures members { IfOk result (λ symbols. symbols.items ≡ members_of level bys.Device name.now self.now) }
+        ensures members { IfOk result (λ symbols. symbols.items
+            ≡ members_of level bys.Device name.now self.now) }
         ensures finer { IsErrOf result MemberError.Finer ↔ IsTrue (is_finer bys.Device level) }
-        ensures unknown { IsErrOf result MemberError.Unknown ↔ ((is_finer bys.Device level ≡ false) × (has_name (names_by bys.Device self.now) name.now ≡ false)) }
+        ensures unknown { IsErrOf result MemberError.Unknown ↔ ((is_finer bys.Device level ≡ false)
+            × (has_name (names_by bys.Device self.now) name.now ≡ false)) }
     {
         let devices = &self.alphabets.devices;
         match level {
@@ -219,9 +231,12 @@ impl Locations {
 
     /// The answer of [`members`](Locations::members) for the name of a group.
     fn in_group(&self, alloc: Global, level: Level, name: &Name) -> Result<Vec<Symbol>, MemberError>
-        ensures members { IfOk result (λ symbols. symbols.items ≡ members_of level bys.Group name.now self.now) }
+        ensures members { IfOk result (λ symbols. symbols.items
+            ≡ members_of level bys.Group name.now self.now) }
         ensures finer { IsErrOf result MemberError.Finer ↔ IsTrue (is_finer bys.Group level) }
-        ensures unknown { IsErrOf result MemberError.Unknown ↔ ((is_finer bys.Group level ≡ false) × (has_name (names_by bys.Group self.now) name.now ≡ false)) }
+        ensures unknown { IsErrOf result MemberError.Unknown ↔
+            ((is_finer bys.Group level ≡ false)
+            × (has_name (names_by bys.Group self.now) name.now ≡ false)) }
     {
         let groups = &self.alphabets.groups;
         match level {
@@ -244,9 +259,12 @@ impl Locations {
         level: Level,
         name: &Name,
     ) -> Result<Vec<Symbol>, MemberError>
-        ensures members { IfOk result (λ symbols. symbols.items ≡ members_of level bys.Tag name.now self.now) }
+        ensures members { IfOk result (λ symbols. symbols.items
+            ≡ members_of level bys.Tag name.now self.now) }
         ensures finer { IsErrOf result MemberError.Finer ↔ IsTrue (is_finer bys.Tag level) }
-        ensures unknown { IsErrOf result MemberError.Unknown ↔ ((is_finer bys.Tag level ≡ false) × (has_name (names_by bys.Tag self.now) name.now ≡ false)) }
+        ensures unknown { IsErrOf result MemberError.Unknown ↔
+            ((is_finer bys.Tag level ≡ false)
+            × (has_name (names_by bys.Tag self.now) name.now ≡ false)) }
     {
         let tagged = &self.tables.tagged;
         match level {

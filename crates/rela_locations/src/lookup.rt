@@ -27,7 +27,8 @@ pub(crate) fn itself(
 ) -> Result<Vec<Symbol>, MemberError>
     ensures members { IfOk result (λ members. members.items ≡ index_of alphabet.now name.now ∷ []) }
     ensures known { OnOk result (has_name alphabet.now name.now ≡ true) }
-    ensures unknown { IsErrOf result MemberError.Unknown ↔ (has_name alphabet.now name.now ≡ false) }
+    ensures unknown { IsErrOf result MemberError.Unknown ↔
+        (has_name alphabet.now name.now ≡ false) }
     ensures not_finer { result ≢ Err MemberError.Finer }
 {
     let symbol = find(alphabet, name)?;
@@ -47,9 +48,11 @@ pub(crate) fn inside(
     name: &Name,
 ) -> Result<Vec<Symbol>, MemberError>
     requires { length lists.now ≡ length alphabet.now }
-    ensures members { IfOk result (λ members. members.items ≡ slice_index_or (map (λ list. list.items) lists.now) (index_of alphabet.now name.now) []) }
+    ensures members { IfOk result (λ members. members.items
+        ≡ slice_index_or (map (λ list. list.items) lists.now) (index_of alphabet.now name.now) []) }
     ensures known { OnOk result (has_name alphabet.now name.now ≡ true) }
-    ensures unknown { IsErrOf result MemberError.Unknown ↔ (has_name alphabet.now name.now ≡ false) }
+    ensures unknown { IsErrOf result MemberError.Unknown ↔
+        (has_name alphabet.now name.now ≡ false) }
     ensures not_finer { result ≢ Err MemberError.Finer }
 {
     let symbol = find(alphabet, name)?;
@@ -67,9 +70,11 @@ pub(crate) fn devices_with(
     tag: &Name,
 ) -> Result<Vec<Symbol>, MemberError>
     ensures rising { IfOk result (λ members. IsStrictlySortedBy nat_cmp members.items) }
-    ensures members { IfOk result (λ members. (n : ℕ) → has_number members.items n ≡ has_number (devices_for tagged.now tag.now) n) }
+    ensures members { IfOk result (λ members. (n : ℕ) → has_number members.items n
+        ≡ has_number (devices_for tagged.now tag.now) n) }
     ensures known { OnOk result (is_some (get bytes_cmp tagged.now tag.now) ≡ true) }
-    ensures unknown { IsErrOf result MemberError.Unknown ↔ (is_some (get bytes_cmp tagged.now tag.now) ≡ false) }
+    ensures unknown { IsErrOf result MemberError.Unknown ↔
+        (is_some (get bytes_cmp tagged.now tag.now) ≡ false) }
     ensures not_finer { result ≢ Err MemberError.Finer }
 {
     let Some(devices) = tagged.get(tag) else {
@@ -93,9 +98,12 @@ pub(crate) fn interfaces_with(
 ) -> Result<Vec<Symbol>, MemberError>
     requires { All (λ device. device < length lists.now) (devices_for tagged.now tag.now) }
     ensures rising { IfOk result (λ members. IsStrictlySortedBy nat_cmp members.items) }
-    ensures members { IfOk result (λ members. (n : ℕ) → has_number members.items n ≡ list_any (λ device. has_number (slice_index_or (map (λ list. list.items) lists.now) device []) n) (devices_for tagged.now tag.now)) }
+    ensures members { IfOk result (λ members. (n : ℕ) → has_number members.items n
+        ≡ list_any (λ device. has_number (slice_index_or (map (λ list. list.items) lists.now)
+        device []) n) (devices_for tagged.now tag.now)) }
     ensures known { OnOk result (is_some (get bytes_cmp tagged.now tag.now) ≡ true) }
-    ensures unknown { IsErrOf result MemberError.Unknown ↔ (is_some (get bytes_cmp tagged.now tag.now) ≡ false) }
+    ensures unknown { IsErrOf result MemberError.Unknown ↔
+        (is_some (get bytes_cmp tagged.now tag.now) ≡ false) }
     ensures not_finer { result ≢ Err MemberError.Finer }
 {
     let Some(devices) = tagged.get(tag) else {
@@ -112,7 +120,9 @@ fn joined(
     places: &[Symbol],
 ) -> Result<Vec<Symbol>, AllocError>
     requires { All (λ place. place < length lists.now) places.now }
-    ensures { IfOk result (λ all. (n : ℕ) → has_number all.items n ≡ list_any (λ place. has_number (slice_index_or (map (λ list. list.items) lists.now) place []) n) places.now) }
+    ensures { IfOk result (λ all. (n : ℕ) → has_number all.items n
+        ≡ list_any (λ place. has_number (slice_index_or (map (λ list. list.items) lists.now)
+        place []) n) places.now) }
 {
     let mut all = Vec::new(alloc);
     for place in places {

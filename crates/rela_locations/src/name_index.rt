@@ -28,7 +28,8 @@ impl Model for NameIndex {
 
     ghost view = { λ index. index.alphabet };
 
-    ghost invariant = { λ index. IsIndexOf index.alphabet (map (λ name. name.items) index.names.keys) };
+    ghost invariant = { λ index. IsIndexOf index.alphabet (map (λ name.
+        name.items) index.names.keys) };
 }
 
 impl NameIndex {

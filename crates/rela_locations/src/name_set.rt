@@ -65,7 +65,8 @@ impl NameSet {
         requires { length self.old < 100000 }
         ensures name { IfOk result (λ name. new_name self.old row bytes.now ≡ Ok name) }
         ensures added { IfOk result (λ name. self.new ≡ with_name self.old name) }
-        ensures fault { IfErr result (λ e. e ≢ LoadError.Memory → new_name self.old row bytes.now ≡ Err e) }
+        ensures fault { IfErr result (λ e. e ≢ LoadError.Memory →
+            new_name self.old row bytes.now ≡ Err e) }
     {
         let name = location_name(alloc, bytes, row)?;
         let is_new = self.names.insert(name.copy(alloc)?)?;

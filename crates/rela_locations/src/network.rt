@@ -36,5 +36,9 @@ impl Model for DeviceEntry {
 
     ghost Value = { Device };
 
-    ghost view = { λ entry. record { name = entry.name; tags = entry.tags; interfaces = entry.interfaces } };
+    ghost view = { λ entry. record {
+      name = entry.name;
+      tags = entry.tags;
+      interfaces = entry.interfaces;
+    } };
 }

@@ -21,9 +21,12 @@ pub(crate) fn interfaces_with_devices(
     alphabets: &Alphabets,
     groups: &[GroupEntry],
 ) -> Result<Vec<Pair>, AllocError>
-    requires interfaces { AreKnown alphabets.now.interfaces (interface_names (devices_in groups.now)) }
+    requires interfaces { AreKnown alphabets.now.interfaces
+        (interface_names (devices_in groups.now)) }
     requires devices { AreKnown alphabets.now.devices (device_names (devices_in groups.now)) }
-    ensures { IfOk result (λ pairs. pairs.items ≡ numbered_pairs alphabets.now.interfaces alphabets.now.devices (λ device. device.name) (λ device. device.interfaces) (devices_in groups.now)) }
+    ensures { IfOk result (λ pairs. pairs.items ≡ numbered_pairs alphabets.now.interfaces
+        alphabets.now.devices (λ device. device.name) (λ device. device.interfaces)
+        (devices_in groups.now)) }
 {
     let mut pairs = Vec::new(alloc);
     for group in groups {
@@ -46,7 +49,8 @@ fn add_interfaces(
 ) -> Result<(), AllocError>
     requires interfaces { AreKnown interfaces.now (interface_names entries.now) }
     requires devices { AreKnown devices.now (device_names entries.now) }
-    ensures { IfOk result (λ _. pairs.new.items ≡ pairs.old.items ++ numbered_pairs interfaces.now devices.now (λ device. device.name) (λ device. device.interfaces) entries.now) }
+    ensures { IfOk result (λ _. pairs.new.items ≡ pairs.old.items ++ numbered_pairs interfaces.now
+        devices.now (λ device. device.name) (λ device. device.interfaces) entries.now) }
 {
     for device in entries {
         let symbol = symbol_of(devices, &device.name);
@@ -62,9 +66,12 @@ pub(crate) fn interfaces_with_groups(
     alphabets: &Alphabets,
     groups: &[GroupEntry],
 ) -> Result<Vec<Pair>, AllocError>
-    requires interfaces { AreKnown alphabets.now.interfaces (interface_names (devices_in groups.now)) }
+    requires interfaces { AreKnown alphabets.now.interfaces
+        (interface_names (devices_in groups.now)) }
     requires groups { AreKnown alphabets.now.groups (map (λ group. group.name) groups.now) }
-    ensures { IfOk result (λ pairs. pairs.items ≡ numbered_pairs alphabets.now.interfaces alphabets.now.groups (λ group. group.name) (λ group. interface_names group.devices) groups.now) }
+    ensures { IfOk result (λ pairs. pairs.items ≡ numbered_pairs alphabets.now.interfaces
+        alphabets.now.groups (λ group. group.name) (λ group.
+        interface_names group.devices) groups.now) }
 {
     let mut pairs = Vec::new(alloc);
     for group in groups {
@@ -87,7 +94,8 @@ fn add_all_interfaces(
     group: Symbol,
 ) -> Result<(), AllocError>
     requires { AreKnown interfaces.now (interface_names entries.now) }
-    ensures { IfOk result (λ _. pairs.new.items ≡ pairs.old.items ++ under interfaces.now (interface_names entries.now) group) }
+    ensures { IfOk result (λ _. pairs.new.items ≡ pairs.old.items
+        ++ under interfaces.now (interface_names entries.now) group) }
 {
     for device in entries {
         add_each(pairs, interfaces, device.interfaces.as_slice(), group)?;
@@ -103,7 +111,8 @@ fn add_each(
     parent: Symbol,
 ) -> Result<(), AllocError>
     requires { AreKnown alphabet.now names.now }
-    ensures { IfOk result (λ _. pairs.new.items ≡ pairs.old.items ++ under alphabet.now names.now parent) }
+    ensures { IfOk result (λ _. pairs.new.items ≡ pairs.old.items
+        ++ under alphabet.now names.now parent) }
 {
     for name in names {
         pairs.push((symbol_of(alphabet, name), parent))?;
@@ -120,7 +129,9 @@ pub(crate) fn devices_with_groups(
 ) -> Result<Vec<Pair>, AllocError>
     requires devices { AreKnown alphabets.now.devices (device_names (devices_in groups.now)) }
     requires groups { AreKnown alphabets.now.groups (map (λ group. group.name) groups.now) }
-    ensures { IfOk result (λ pairs. pairs.items ≡ numbered_pairs alphabets.now.devices alphabets.now.groups (λ group. group.name) (λ group. device_names group.devices) groups.now) }
+    ensures { IfOk result (λ pairs. pairs.items
+        ≡ numbered_pairs alphabets.now.devices alphabets.now.groups (λ group. group.name) (λ group.
+        device_names group.devices) groups.now) }
 {
     let mut pairs = Vec::new(alloc);
     for group in groups {
@@ -143,7 +154,8 @@ fn add_devices(
     group: Symbol,
 ) -> Result<(), AllocError>
     requires { AreKnown alphabet.now (device_names entries.now) }
-    ensures { IfOk result (λ _. pairs.new.items ≡ pairs.old.items ++ under alphabet.now (device_names entries.now) group) }
+    ensures { IfOk result (λ _. pairs.new.items ≡ pairs.old.items
+        ++ under alphabet.now (device_names entries.now) group) }
 {
     for device in entries {
         pairs.push((symbol_of(alphabet, &device.name), group))?;

@@ -19,7 +19,8 @@ pub(crate) fn part<'a>(
     rule: u8,
     row: u32,
 ) -> Result<Option<&'a Value>, LoadError>
-    ensures found { IfOk result (λ m. part_of rule row name.now (view value.now) ≡ Ok (option_map (λ v. view v.now) m)) }
+    ensures found { IfOk result (λ m. part_of rule row name.now (view value.now)
+        ≡ Ok (option_map (λ v. view v.now) m)) }
     ensures fault { IfErr result (λ e. part_of rule row name.now (view value.now) ≡ Err e) }
 {
     match member(value, name) {
@@ -34,8 +35,10 @@ pub(crate) fn part<'a>(
 ///
 /// `WrongShape` where it is missing or no string.
 pub(crate) fn bytes<'a>(value: Option<&'a Value>, rule: u8, row: u32) -> Result<&'a [u8], LoadError>
-    ensures found { IfOk result (λ bytes. needed rule row text_of (option_map (λ v. view v.now) value.entry) ≡ Ok bytes.now) }
-    ensures fault { IfErr result (λ e. needed rule row text_of (option_map (λ v. view v.now) value.entry) ≡ Err e) }
+    ensures found { IfOk result (λ bytes.
+        needed rule row text_of (option_map (λ v. view v.now) value.entry) ≡ Ok bytes.now) }
+    ensures fault { IfErr result (λ e. needed rule row text_of (option_map (λ v.
+        view v.now) value.entry) ≡ Err e) }
 {
     let Some(value) = value else {
         return Err(LoadError::WrongShape { rule, row });
@@ -56,8 +59,11 @@ pub(crate) fn entries<'a>(
     rule: u8,
     row: u32,
 ) -> Result<&'a [Value], LoadError>
-    ensures found { IfOk result (λ entries. needed rule row items_of (option_map (λ v. view v.now) value.entry) ≡ Ok (map view entries.now)) }
-    ensures fault { IfErr result (λ e. needed rule row items_of (option_map (λ v. view v.now) value.entry) ≡ Err e) }
+    ensures found { IfOk result (λ entries.
+        needed rule row items_of (option_map (λ v. view v.now) value.entry)
+        ≡ Ok (map view entries.now)) }
+    ensures fault { IfErr result (λ e. needed rule row items_of (option_map (λ v.
+        view v.now) value.entry) ≡ Err e) }
 {
     let Some(value) = value else {
         return Err(LoadError::WrongShape { rule, row });
@@ -74,8 +80,10 @@ pub(crate) fn entries<'a>(
 ///
 /// `WrongShape` where it is missing or no whole number from 0 to 2^64 - 1.
 pub(crate) fn whole_number(value: Option<&Value>, rule: u8, row: u32) -> Result<u64, LoadError>
-    ensures found { IfOk result (λ n. needed rule row number_of (option_map (λ v. view v.now) value.entry) ≡ Ok n) }
-    ensures fault { IfErr result (λ e. needed rule row number_of (option_map (λ v. view v.now) value.entry) ≡ Err e) }
+    ensures found { IfOk result (λ n. needed rule row number_of (option_map (λ v.
+        view v.now) value.entry) ≡ Ok n) }
+    ensures fault { IfErr result (λ e. needed rule row number_of (option_map (λ v.
+        view v.now) value.entry) ≡ Err e) }
 {
     let Some(value) = value else {
         return Err(LoadError::WrongShape { rule, row });

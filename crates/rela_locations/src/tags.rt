@@ -48,8 +48,11 @@ fn add_devices(
     entries: &[DeviceEntry],
 ) -> Result<(), AllocError>
     requires { AreKnown devices.now (device_names entries.now) }
-    ensures with_tag { OnOk result ((t : List ℕ) (n : ℕ) → has_number (devices_for tagged.new t) n ≡ (has_number (devices_for tagged.old t) n || is_tagged devices.now entries.now t n)) }
-    ensures tags { OnOk result ((t : List ℕ) → is_some (get bytes_cmp tagged.new t) ≡ (is_some (get bytes_cmp tagged.old t) || has_name (flat_map (λ device. device.tags) entries.now) t)) }
+    ensures with_tag { OnOk result ((t : List ℕ) (n : ℕ) → has_number (devices_for tagged.new t) n
+        ≡ (has_number (devices_for tagged.old t) n || is_tagged devices.now entries.now t n)) }
+    ensures tags { OnOk result ((t : List ℕ) → is_some (get bytes_cmp tagged.new t)
+        ≡ (is_some (get bytes_cmp tagged.old t)
+        || has_name (flat_map (λ device. device.tags) entries.now) t)) }
 {
     for device in entries {
         let symbol = symbol_of(devices, &device.name);
@@ -65,8 +68,10 @@ fn add_tags(
     tags: &[Name],
     device: Symbol,
 ) -> Result<(), AllocError>
-    ensures with_tag { OnOk result ((t : List ℕ) (n : ℕ) → has_number (devices_for tagged.new t) n ≡ (has_number (devices_for tagged.old t) n || (has_name tags.now t && (device == n)))) }
-    ensures tags { OnOk result ((t : List ℕ) → is_some (get bytes_cmp tagged.new t) ≡ (is_some (get bytes_cmp tagged.old t) || has_name tags.now t)) }
+    ensures with_tag { OnOk result ((t : List ℕ) (n : ℕ) → has_number (devices_for tagged.new t) n
+        ≡ (has_number (devices_for tagged.old t) n || (has_name tags.now t && (device == n)))) }
+    ensures tags { OnOk result ((t : List ℕ) → is_some (get bytes_cmp tagged.new t)
+        ≡ (is_some (get bytes_cmp tagged.old t) || has_name tags.now t)) }
 {
     for tag in tags {
         add_tag(alloc, tagged, tag, device)?;
@@ -77,8 +82,10 @@ fn add_tags(
 /// Adds a device to those with the tag. A tag that the device repeats adds it once, since all tags
 /// of a device come before those of the next.
 fn add_tag(alloc: Global, tagged: &mut Tagged, tag: &Name, device: Symbol) -> Result<(), AllocError>
-    ensures with_tag { OnOk result ((t : List ℕ) (n : ℕ) → has_number (devices_for tagged.new t) n ≡ (has_number (devices_for tagged.old t) n || (bytes_eq t tag.now && (device == n)))) }
-    ensures tags { OnOk result ((t : List ℕ) → is_some (get bytes_cmp tagged.new t) ≡ (is_some (get bytes_cmp tagged.old t) || bytes_eq t tag.now)) }
+    ensures with_tag { OnOk result ((t : List ℕ) (n : ℕ) → has_number (devices_for tagged.new t) n
+        ≡ (has_number (devices_for tagged.old t) n || (bytes_eq t tag.now && (device == n)))) }
+    ensures tags { OnOk result ((t : List ℕ) → is_some (get bytes_cmp tagged.new t)
+        ≡ (is_some (get bytes_cmp tagged.old t) || bytes_eq t tag.now)) }
 {
     if let Some(devices) = tagged.get_mut(tag) {
         if devices.last() != Some(&device) {

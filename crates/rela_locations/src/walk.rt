@@ -111,11 +111,17 @@ fn read_groups(
     seen: &mut Seen,
     values: &[Value],
 ) -> Result<Vec<GroupEntry>, LoadError>
-    ensures groups { IfOk result (λ groups. load_groups seen.old.groups seen.old.devices seen.old.interfaces (map view values.now) ≡ Ok groups.items) }
-    ensures seen_groups { IfOk result (λ groups. seen.new.groups ≡ with_names seen.old.groups (names_at level.Group groups.items)) }
-    ensures seen_devices { IfOk result (λ groups. seen.new.devices ≡ with_names seen.old.devices (names_at level.Device groups.items)) }
-    ensures seen_interfaces { IfOk result (λ groups. seen.new.interfaces ≡ with_names seen.old.interfaces (names_at level.Interface groups.items)) }
-    ensures fault { IfErr result (λ e. e ≢ LoadError.Memory → load_groups seen.old.groups seen.old.devices seen.old.interfaces (map view values.now) ≡ Err e) }
+    ensures groups { IfOk result (λ groups. load_groups seen.old.groups seen.old.devices
+        seen.old.interfaces (map view values.now) ≡ Ok groups.items) }
+    ensures seen_groups { IfOk result (λ groups. seen.new.groups
+        ≡ with_names seen.old.groups (names_at level.Group groups.items)) }
+    ensures seen_devices { IfOk result (λ groups. seen.new.devices
+        ≡ with_names seen.old.devices (names_at level.Device groups.items)) }
+    ensures seen_interfaces { IfOk result (λ groups. seen.new.interfaces
+        ≡ with_names seen.old.interfaces (names_at level.Interface groups.items)) }
+    ensures fault { IfErr result (λ e. e ≢ LoadError.Memory →
+        load_groups seen.old.groups seen.old.devices seen.old.interfaces (map view values.now)
+        ≡ Err e) }
 {
     let mut groups = Vec::new(alloc);
     for value in values {
@@ -128,11 +134,16 @@ fn read_groups(
 /// The group of this entry, whose name and whose devices' and interfaces' names are added to
 /// `seen`.
 fn read_group(alloc: Global, seen: &mut Seen, value: &Value) -> Result<GroupEntry, LoadError>
-    ensures group { IfOk result (λ group. load_group seen.old.groups seen.old.devices seen.old.interfaces (view value.now) ≡ Ok group) }
-    ensures seen_groups { IfOk result (λ group. seen.new.groups ≡ with_name seen.old.groups group.name) }
-    ensures seen_devices { IfOk result (λ group. seen.new.devices ≡ with_names seen.old.devices (map (λ device. device.name) group.devices)) }
-    ensures seen_interfaces { IfOk result (λ group. seen.new.interfaces ≡ with_names seen.old.interfaces (flat_map (λ device. device.interfaces) group.devices)) }
-    ensures fault { IfErr result (λ e. e ≢ LoadError.Memory → load_group seen.old.groups seen.old.devices seen.old.interfaces (view value.now) ≡ Err e) }
+    ensures group { IfOk result (λ group. load_group seen.old.groups seen.old.devices
+        seen.old.interfaces (view value.now) ≡ Ok group) }
+    ensures seen_groups { IfOk result (λ group. seen.new.groups
+        ≡ with_name seen.old.groups group.name) }
+    ensures seen_devices { IfOk result (λ group. seen.new.devices
+        ≡ with_names seen.old.devices (map (λ device. device.name) group.devices)) }
+    ensures seen_interfaces { IfOk result (λ group. seen.new.interfaces
+        ≡ with_names seen.old.interfaces (flat_map (λ device. device.interfaces) group.devices)) }
+    ensures fault { IfErr result (λ e. e ≢ LoadError.Memory →
+        load_group seen.old.groups seen.old.devices seen.old.interfaces (view value.now) ≡ Err e) }
 {
     let row = seen.groups.next_row()?;
     let name = part(value, "name", 4, row)?;
@@ -154,10 +165,14 @@ fn read_devices(
     seen_interfaces: &mut NameSet,
     values: &[Value],
 ) -> Result<Vec<DeviceEntry>, LoadError>
-    ensures devices { IfOk result (λ devices. load_devices seen.old seen_interfaces.old (map view values.now) ≡ Ok devices.items) }
-    ensures seen { IfOk result (λ devices. seen.new ≡ with_names seen.old (map (λ device. device.name) devices.items)) }
-    ensures seen_interfaces { IfOk result (λ devices. seen_interfaces.new ≡ with_names seen_interfaces.old (flat_map (λ device. device.interfaces) devices.items)) }
-    ensures fault { IfErr result (λ e. e ≢ LoadError.Memory → load_devices seen.old seen_interfaces.old (map view values.now) ≡ Err e) }
+    ensures devices { IfOk result (λ devices. load_devices seen.old seen_interfaces.old
+        (map view values.now) ≡ Ok devices.items) }
+    ensures seen { IfOk result (λ devices. seen.new
+        ≡ with_names seen.old (map (λ device. device.name) devices.items)) }
+    ensures seen_interfaces { IfOk result (λ devices. seen_interfaces.new
+        ≡ with_names seen_interfaces.old (flat_map (λ device. device.interfaces) devices.items)) }
+    ensures fault { IfErr result (λ e. e ≢ LoadError.Memory →
+        load_devices seen.old seen_interfaces.old (map view values.now) ≡ Err e) }
 {
     let mut devices = Vec::new(alloc);
     for value in values {
@@ -175,10 +190,13 @@ fn read_device(
     seen_interfaces: &mut NameSet,
     value: &Value,
 ) -> Result<DeviceEntry, LoadError>
-    ensures device { IfOk result (λ device. load_device seen.old seen_interfaces.old (view value.now) ≡ Ok device) }
+    ensures device { IfOk result (λ device. load_device seen.old seen_interfaces.old
+        (view value.now) ≡ Ok device) }
     ensures seen { IfOk result (λ device. seen.new ≡ with_name seen.old device.name) }
-    ensures seen_interfaces { IfOk result (λ device. seen_interfaces.new ≡ with_names seen_interfaces.old device.interfaces) }
-    ensures fault { IfErr result (λ e. e ≢ LoadError.Memory → load_device seen.old seen_interfaces.old (view value.now) ≡ Err e) }
+    ensures seen_interfaces { IfOk result (λ device. seen_interfaces.new
+        ≡ with_names seen_interfaces.old device.interfaces) }
+    ensures fault { IfErr result (λ e. e ≢ LoadError.Memory →
+        load_device seen.old seen_interfaces.old (view value.now) ≡ Err e) }
 {
     let row = seen.next_row()?;
     let name = part(value, "name", 7, row)?;
@@ -197,8 +215,10 @@ fn read_device(
 /// The tags of a device, of which there are none where the member is missing. `row` is that of the
 /// device.
 fn read_tags(alloc: Global, tags: Option<&Value>, row: u32) -> Result<Vec<Name>, LoadError>
-    ensures names { IfOk result (λ names. load_tags row (option_map (λ v. view v.now) tags.entry) ≡ Ok names.items) }
-    ensures fault { IfErr result (λ e. e ≢ LoadError.Memory → load_tags row (option_map (λ v. view v.now) tags.entry) ≡ Err e) }
+    ensures names { IfOk result (λ names. load_tags row (option_map (λ v. view v.now) tags.entry)
+        ≡ Ok names.items) }
+    ensures fault { IfErr result (λ e. e ≢ LoadError.Memory →
+        load_tags row (option_map (λ v. view v.now) tags.entry) ≡ Err e) }
 {
     if tags.is_none() {
         return Ok(Vec::new(alloc));
@@ -215,7 +235,8 @@ fn read_tags(alloc: Global, tags: Option<&Value>, row: u32) -> Result<Vec<Name>,
 /// The tag of this entry, which is any name. `row` is that of the device.
 fn read_tag(alloc: Global, value: &Value, row: u32) -> Result<Name, LoadError>
     ensures tag { IfOk result (λ tag. load_tag row (view value.now) ≡ Ok tag) }
-    ensures fault { IfErr result (λ e. e ≢ LoadError.Memory → load_tag row (view value.now) ≡ Err e) }
+    ensures fault { IfErr result (λ e. e ≢ LoadError.Memory →
+        load_tag row (view value.now) ≡ Err e) }
 {
     match Name::from_bytes(alloc, bytes(Some(value), 10, row)?) {
         Ok(tag) => Ok(tag),
@@ -230,9 +251,11 @@ fn read_interfaces(
     seen: &mut NameSet,
     values: &[Value],
 ) -> Result<Vec<Name>, LoadError>
-    ensures names { IfOk result (λ names. load_interfaces seen.old (map view values.now) ≡ Ok names.items) }
+    ensures names { IfOk result (λ names. load_interfaces seen.old (map view values.now)
+        ≡ Ok names.items) }
     ensures seen { IfOk result (λ names. seen.new ≡ with_names seen.old names.items) }
-    ensures fault { IfErr result (λ e. e ≢ LoadError.Memory → load_interfaces seen.old (map view values.now) ≡ Err e) }
+    ensures fault { IfErr result (λ e. e ≢ LoadError.Memory →
+        load_interfaces seen.old (map view values.now) ≡ Err e) }
 {
     let mut interfaces = Vec::new(alloc);
     for value in values {
@@ -246,7 +269,8 @@ fn read_interfaces(
 fn read_interface(alloc: Global, seen: &mut NameSet, value: &Value) -> Result<Name, LoadError>
     ensures name { IfOk result (λ name. load_interface seen.old (view value.now) ≡ Ok name) }
     ensures seen { IfOk result (λ name. seen.new ≡ with_name seen.old name) }
-    ensures fault { IfErr result (λ e. e ≢ LoadError.Memory → load_interface seen.old (view value.now) ≡ Err e) }
+    ensures fault { IfErr result (λ e. e ≢ LoadError.Memory →
+        load_interface seen.old (view value.now) ≡ Err e) }
 {
     let row = seen.next_row()?;
     seen.add(alloc, bytes(Some(value), 12, row)?, row)

@@ -5,11 +5,13 @@ use Rattle.rela_subset.specs.Deterministic.{Deterministic, IsAccepted, IsFinal, 
 
 -- no word over the letters that follows tells the two words apart
 abbrev pub AreAlike : Deterministic → List ℕ → List ℕ → Type 0
-AreAlike d v w = (rest : List ℕ) → IsOver d.over rest → IsAccepted d (v ++ rest) ↔ IsAccepted d (w ++ rest)
+AreAlike d v w = (rest : List ℕ) → IsOver d.over rest → IsAccepted d (v ++ rest) ↔
+    IsAccepted d (w ++ rest)
 
 -- from the two states the same words over the letters are accepted
 abbrev pub AcceptSame : Deterministic → ℕ → ℕ → Type 0
-AcceptSame d p q = (word : List ℕ) → IsOver d.over word → IsFinal d (led_from d p word) ↔ IsFinal d (led_from d q word)
+AcceptSame d p q = (word : List ℕ) → IsOver d.over word → IsFinal d (led_from d p word) ↔
+    IsFinal d (led_from d q word)
 
 -- no two states accept the same words
 abbrev pub IsMinimal : Deterministic → Type 0
@@ -19,7 +21,8 @@ IsMinimal d = (p q : ℕ) → p < states d → q < states d → AcceptSame d p q
 -- the count is that of some state's class
 pub record AreClasses (d : Deterministic) (count : ℕ) (classes : List ℕ) : Type 0 where
   pub each : length classes ≡ states d
-  pub alike : (p q : ℕ) → p < states d → q < states d → (slice_index classes p ≡ slice_index classes q) ↔ AcceptSame d p q
+  pub alike : (p q : ℕ) → p < states d → q < states d →
+      (slice_index classes p ≡ slice_index classes q) ↔ AcceptSame d p q
   pub counted : (q : ℕ) → q < states d → slice_index classes q < count
   pub met : (c : ℕ) → c < count → (q : ℕ) × (q < states d) × (slice_index classes q ≡ c)
 
@@ -41,7 +44,8 @@ abbrev pub moves_onto : Deterministic → List ℕ → ℕ → List Move
 moves_onto d classes q = map (onto classes) (moves_of d q)
 
 -- one state for each class, which is final and has edges as the head of its class
-pub record IsQuotient (d : Deterministic) (classes heads : List ℕ) (r : Deterministic) : Type 0 where
+pub record IsQuotient (d : Deterministic) (classes heads : List ℕ)
+    (r : Deterministic) : Type 0 where
   pub over : r.over ≡ d.over
   pub start : r.start ≡ slice_index classes d.start
   pub finals : r.finals ≡ map (finality d) heads

@@ -48,8 +48,10 @@ fn alike<L: LabelSet>(alloc: Global, dfa: &Dfa<L>, rest: &L, letter: u32) -> Res
     requires letter { has dfa.now.over letter ≡ true }
     requires size { length (L.letters rest.now) ≡ length dfa.now.over }
     ensures size { IfOk result (λ block. length (L.letters block) ≡ length dfa.now.over) }
-    ensures itself { IfOk result (λ block. has (L.letters rest.now) letter ≡ true → has (L.letters block) letter ≡ true) }
-    ensures alike { IfOk result (λ block. (k : ℕ) → has (L.letters block) k ≡ true → (has (L.letters rest.now) k ≡ true) × LeadAlike dfa.now letter k) }
+    ensures itself { IfOk result (λ block. has (L.letters rest.now) letter ≡ true →
+        has (L.letters block) letter ≡ true) }
+    ensures alike { IfOk result (λ block. (k : ℕ) → has (L.letters block) k ≡ true →
+        (has (L.letters rest.now) k ≡ true) × LeadAlike dfa.now letter k) }
 {
     let mut block = rest.copy(alloc)?;
     for q in 0..dfa.states() {
@@ -71,8 +73,10 @@ fn narrowed<L: LabelSet>(
     requires letter { has dfa.now.over letter ≡ true }
     requires size { length (L.letters block) ≡ length dfa.now.over }
     ensures size { IfOk result (λ narrow. length (L.letters narrow) ≡ length dfa.now.over) }
-    ensures itself { IfOk result (λ narrow. has (L.letters block) letter ≡ true → has (L.letters narrow) letter ≡ true) }
-    ensures alike { IfOk result (λ narrow. (k : ℕ) → has (L.letters narrow) k ≡ true → (has (L.letters block) k ≡ true) × (next dfa.now q letter ≡ next dfa.now q k)) }
+    ensures itself { IfOk result (λ narrow. has (L.letters block) letter ≡ true →
+        has (L.letters narrow) letter ≡ true) }
+    ensures alike { IfOk result (λ narrow. (k : ℕ) → has (L.letters narrow) k ≡ true →
+        (has (L.letters block) k ≡ true) × (next dfa.now q letter ≡ next dfa.now q k)) }
 {
     let edges = dfa.edges(q);
     for edge in edges {

@@ -22,7 +22,8 @@ impl Refinement {
         requires held { IsHeld (length self.old.classes.items) (stage_of self.old) }
         requires count { length self.old.members.items ≡ first + length origins.now }
         requires origins { All (λ class. class < first) origins.now }
-        ensures { IfOk result (λ _. KeepsAfter first origins.now (stage_of self.old) (stage_of self.new)) }
+        ensures { IfOk result (λ _. KeepsAfter first origins.now (stage_of self.old)
+            (stage_of self.new)) }
     {
         let largest = self.largest(alloc, first, origins)?;
         for j in &largest {
@@ -59,7 +60,8 @@ impl Refinement {
         requires first { a < length self.old.members.items }
         requires second { b < length self.old.members.items }
         requires apart { a ≢ b }
-        ensures { IfOk result (λ _. IsSwapped (length self.old.classes.items) a b (stage_of self.old) (stage_of self.new)) }
+        ensures { IfOk result (λ _. IsSwapped (length self.old.classes.items) a b
+            (stage_of self.old) (stage_of self.new)) }
     {
         let first = own(alloc, &self.members[a], &self.classes, a)?;
         let second = own(alloc, &self.members[b], &self.classes, b)?;
@@ -82,9 +84,12 @@ impl Refinement {
     ) -> Result<Vec<usize>, AllocError>
         requires states { All (λ q. q < length self.now.classes.items) waiting.now }
         requires each { length targets.now ≡ length waiting.now }
-        requires targets { All (λ class. class < length self.now.members.items + count) targets.now }
-        requires used { (j : ℕ) → j < count → (i : ℕ) × (i < length waiting.now) × (slice_index targets.now i ≡ length self.now.members.items + j) }
-        ensures { IfOk result (λ origins. AreOrigins (stage_of self.now) waiting.now targets.now count origins.items) }
+        requires targets { All (λ class. class < length self.now.members.items
+            + count) targets.now }
+        requires used { (j : ℕ) → j < count → (i : ℕ) × (i < length waiting.now)
+            × (slice_index targets.now i ≡ length self.now.members.items + j) }
+        ensures { IfOk result (λ origins. AreOrigins (stage_of self.now) waiting.now targets.now
+            count origins.items) }
     {
         let first = self.members.len();
         let mut origins = vec![in alloc; 0; count]?;
@@ -105,9 +110,11 @@ fn own(
     class: usize,
 ) -> Result<Vec<usize>, AllocError>
     requires { All (λ q. q < length classes.now) list.now }
-    ensures all { IfOk result (λ own. (q : ℕ) → Contains list.now q → slice_index classes.now q ≡ class → Contains own.items q) }
+    ensures all { IfOk result (λ own. (q : ℕ) → Contains list.now q → slice_index classes.now q
+        ≡ class → Contains own.items q) }
     ensures states { IfOk result (λ own. All (λ q. q < length classes.now) own.items) }
-    ensures only { IfOk result (λ own. (q : ℕ) → Contains own.items q → slice_index classes.now q ≡ class) }
+    ensures only { IfOk result (λ own. (q : ℕ) → Contains own.items q →
+        slice_index classes.now q ≡ class) }
 {
     let mut own = Vec::new(alloc);
     for q in list {
@@ -123,7 +130,8 @@ fn write_all(classes: &mut Vec<usize>, states: &[usize], class: usize)
     requires { All (λ q. q < length classes.old.items) states.now }
     ensures each { length classes.new.items ≡ length classes.old.items }
     ensures written { (q : ℕ) → Contains states.now q → slice_index classes.new.items q ≡ class }
-    ensures others { (q : ℕ) → ¬ Contains states.now q → slice_index classes.new.items q ≡ slice_index classes.old.items q }
+    ensures others { (q : ℕ) → ¬ Contains states.now q → slice_index classes.new.items q
+        ≡ slice_index classes.old.items q }
 {
     for q in states {
         classes[*q] = class;

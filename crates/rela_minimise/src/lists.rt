@@ -9,7 +9,8 @@ use std::alloc::AllocError;
 /// Puts the number at the end of the list at this place.
 pub(crate) fn put(lists: &mut Vec<Vec<usize>>, at: usize, number: usize) -> Result<(), AllocError>
     requires { at < length lists.old.items }
-    ensures { IfOk result (λ _. lists_of lists.new.items ≡ slice_set (lists_of lists.old.items) at (slice_index_or (lists_of lists.old.items) at [] ++ number ∷ [])) }
+    ensures { IfOk result (λ _. lists_of lists.new.items ≡ slice_set (lists_of lists.old.items) at
+        (slice_index_or (lists_of lists.old.items) at [] ++ number ∷ [])) }
 {
     lists[at].push(number)?;
     Ok(())
@@ -32,9 +33,12 @@ pub(crate) fn has_settled(
 ) -> Result<bool, AllocError>
     requires states { All (λ q. q < length classes.now) list.old.items }
     requires flagged { length stale.now ≡ length classes.now }
-    ensures found { IfOk result (λ found. IsTrue found → (q : ℕ) × IsSettledIn classes.now stale.now class q) }
-    ensures none { IfOk result (λ found. found ≡ false → (q : ℕ) → Contains list.old.items q → ¬ IsSettledIn classes.now stale.now class q) }
-    ensures kept { IfOk result (λ _. (q : ℕ) → Contains list.old.items q → IsSettledIn classes.now stale.now class q → Contains list.new.items q) }
+    ensures found { IfOk result (λ found. IsTrue found → (q : ℕ)
+        × IsSettledIn classes.now stale.now class q) }
+    ensures none { IfOk result (λ found. found ≡ false → (q : ℕ) → Contains list.old.items q →
+        ¬ IsSettledIn classes.now stale.now class q) }
+    ensures kept { IfOk result (λ _. (q : ℕ) → Contains list.old.items q →
+        IsSettledIn classes.now stale.now class q → Contains list.new.items q) }
     ensures states { IfOk result (λ _. All (λ q. q < length classes.now) list.new.items) }
 {
     while let Some(q) = list.pop() {

@@ -16,9 +16,13 @@ pub(crate) fn mark_before_new(
     members: &[Vec<usize>],
     first: usize,
 ) -> Result<(), AllocError>
-    requires predecessors { (q : ℕ) → All (λ p. p < length stale.old) (slice_index_or (lists_of predecessors.now) q []) }
-    requires members { (c : ℕ) → All (λ q. q < length predecessors.now) (slice_index_or (lists_of members.now) c []) }
-    ensures { IfOk result (λ _. Marks (PrecedesNew (lists_of predecessors.now) (lists_of members.now) first (length members.now)) stale.old waiting.old.items stale.new waiting.new.items) }
+    requires predecessors { (q : ℕ) → All (λ p. p < length stale.old)
+        (slice_index_or (lists_of predecessors.now) q []) }
+    requires members { (c : ℕ) → All (λ q. q < length predecessors.now)
+        (slice_index_or (lists_of members.now) c []) }
+    ensures { IfOk result (λ _. Marks (PrecedesNew (lists_of predecessors.now)
+        (lists_of members.now) first (length members.now)) stale.old waiting.old.items stale.new
+        waiting.new.items) }
 {
     for class in first..members.len() {
         mark_before(stale, waiting, predecessors, &members[class])?;
@@ -33,9 +37,12 @@ fn mark_before(
     predecessors: &[Vec<usize>],
     states: &[usize],
 ) -> Result<(), AllocError>
-    requires predecessors { (q : ℕ) → All (λ p. p < length stale.old) (slice_index_or (lists_of predecessors.now) q []) }
+    requires predecessors { (q : ℕ) → All (λ p. p < length stale.old)
+        (slice_index_or (lists_of predecessors.now) q []) }
     requires states { All (λ q. q < length predecessors.now) states.now }
-    ensures { IfOk result (λ _. Marks (λ p. (q : ℕ) × Contains states.now q × Contains (slice_index_or (lists_of predecessors.now) q []) p) stale.old waiting.old.items stale.new waiting.new.items) }
+    ensures { IfOk result (λ _. Marks (λ p. (q : ℕ) × Contains states.now q
+        × Contains (slice_index_or (lists_of predecessors.now) q []) p) stale.old waiting.old.items
+        stale.new waiting.new.items) }
 {
     for q in states {
         mark_all(stale, waiting, &predecessors[*q])?;
@@ -50,7 +57,8 @@ fn mark_all(
     states: &[usize],
 ) -> Result<(), AllocError>
     requires { All (λ q. q < length stale.old) states.now }
-    ensures { IfOk result (λ _. Marks (Contains states.now) stale.old waiting.old.items stale.new waiting.new.items) }
+    ensures { IfOk result (λ _. Marks (Contains states.now) stale.old waiting.old.items stale.new
+        waiting.new.items) }
 {
     for q in states {
         mark(stale, waiting, *q)?;
@@ -61,7 +69,8 @@ fn mark_all(
 /// Marks the state as stale, and puts it with those that wait, unless it was stale.
 fn mark(stale: &mut [bool], waiting: &mut Vec<usize>, q: usize) -> Result<(), AllocError>
     requires { q < length stale.old }
-    ensures { IfOk result (λ _. Marks (λ p. p ≡ q) stale.old waiting.old.items stale.new waiting.new.items) }
+    ensures { IfOk result (λ _. Marks (λ p. p ≡ q) stale.old waiting.old.items stale.new
+        waiting.new.items) }
 {
     if stale[q] {
         return Ok(());

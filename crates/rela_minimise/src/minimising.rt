@@ -19,11 +19,13 @@ use std::alloc::{AllocError, Global};
 pub fn minimise<L: LabelSet>(alloc: Global, dfa: &Dfa<L>) -> Result<Dfa<L>, AllocError>
     ensures over { IfOk result (λ made. made.over ≡ dfa.now.over) }
     ensures start { IfOk result (λ made. made.start ≡ 0) }
-    ensures language { IfOk result (λ made. (word : List ℕ) → IsAccepted made word ↔ IsAccepted dfa.now word) }
+    ensures language { IfOk result (λ made. (word : List ℕ) → IsAccepted made word ↔
+        IsAccepted dfa.now word) }
     ensures reachable { IfOk result IsReachable }
     ensures minimal { IfOk result IsMinimal }
     ensures arrival { IfOk result IsByArrival }
-    ensures classes { IfOk result (λ made. (v w : List ℕ) → IsOver dfa.now.over v → IsOver dfa.now.over w
+    ensures classes { IfOk result (λ made. (v w : List ℕ) → IsOver dfa.now.over v →
+        IsOver dfa.now.over w
         → (state_after made v ≡ state_after made w) ↔ AreAlike dfa.now v w) }
 {
     let copy = dfa.copy(alloc)?;
@@ -37,7 +39,8 @@ pub fn minimise<L: LabelSet>(alloc: Global, dfa: &Dfa<L>) -> Result<Dfa<L>, Allo
 pub fn into_minimal<L: LabelSet>(alloc: Global, dfa: Dfa<L>) -> Result<Dfa<L>, AllocError>
     ensures over { IfOk result (λ made. made.over ≡ dfa.over) }
     ensures start { IfOk result (λ made. made.start ≡ 0) }
-    ensures language { IfOk result (λ made. (word : List ℕ) → IsAccepted made word ↔ IsAccepted dfa word) }
+    ensures language { IfOk result (λ made. (word : List ℕ) → IsAccepted made word ↔
+        IsAccepted dfa word) }
     ensures reachable { IfOk result IsReachable }
     ensures minimal { IfOk result IsMinimal }
     ensures arrival { IfOk result IsByArrival }
@@ -57,7 +60,8 @@ pub fn into_minimal<L: LabelSet>(alloc: Global, dfa: Dfa<L>) -> Result<Dfa<L>, A
 /// given one.
 fn merged<L: LabelSet>(alloc: Global, dfa: Dfa<L>) -> Result<Dfa<L>, AllocError>
     ensures over { IfOk result (λ made. made.over ≡ dfa.over) }
-    ensures language { IfOk result (λ made. (word : List ℕ) → IsAccepted made word ↔ IsAccepted dfa word) }
+    ensures language { IfOk result (λ made. (word : List ℕ) → IsAccepted made word ↔
+        IsAccepted dfa word) }
     ensures alike { IfOk result (λ made. (v w : List ℕ) → IsOver dfa.over v → IsOver dfa.over w
         → (state_after made v ≡ state_after made w) ↔ AreAlike dfa v w) }
 {

@@ -32,7 +32,8 @@ pub(crate) fn predecessors<L: LabelSet>(
 /// As many empty lists as `count`.
 fn empty_lists(alloc: Global, count: usize) -> Result<Vec<Vec<usize>>, AllocError>
     ensures each { IfOk result (λ lists. length lists.items ≡ count) }
-    ensures empty { IfOk result (λ lists. (i : ℕ) → slice_index_or (lists_of lists.items) i [] ≡ []) }
+    ensures empty { IfOk result (λ lists. (i : ℕ) →
+        slice_index_or (lists_of lists.items) i [] ≡ []) }
 {
     let mut lists = Vec::with_capacity(alloc, count)?;
     for _i in 0..count {
@@ -49,7 +50,8 @@ fn add_all<L: LabelSet>(
 ) -> Result<(), AllocError>
     requires { All (λ edge. edge.to < length lists.old.items) edges.now }
     ensures each { IfOk result (λ _. length lists.new.items ≡ length lists.old.items) }
-    ensures added { IfOk result (λ _. HasAdded (map (move_of L.letters) edges.now) p (lists_of lists.old.items) (lists_of lists.new.items)) }
+    ensures added { IfOk result (λ _. HasAdded (map (move_of L.letters) edges.now) p
+        (lists_of lists.old.items) (lists_of lists.new.items)) }
 {
     for edge in edges {
         put(lists, edge.to, p)?;

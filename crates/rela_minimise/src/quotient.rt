@@ -22,8 +22,10 @@ pub(crate) fn quotient<L: LabelSet>(
     requires deterministic { IsDeterministic dfa.now }
     requires classes { AreClasses dfa.now count classes.now }
     ensures over { IfOk result (λ made. made.over ≡ dfa.now.over) }
-    ensures language { IfOk result (λ made. (word : List ℕ) → IsAccepted made word ↔ IsAccepted dfa.now word) }
-    ensures alike { IfOk result (λ made. (v w : List ℕ) → IsOver dfa.now.over v → IsOver dfa.now.over w → (state_after made v ≡ state_after made w) ↔ AreAlike dfa.now v w) }
+    ensures language { IfOk result (λ made. (word : List ℕ) → IsAccepted made word ↔
+        IsAccepted dfa.now word) }
+    ensures alike { IfOk result (λ made. (v w : List ℕ) → IsOver dfa.now.over v →
+        IsOver dfa.now.over w → (state_after made v ≡ state_after made w) ↔ AreAlike dfa.now v w) }
 {
     let heads = heads(alloc, classes, count)?;
     let finals = finals_of(alloc, dfa, &heads)?;
@@ -73,7 +75,8 @@ fn edges_of<L: LabelSet>(
     requires deterministic { IsDeterministic dfa.now }
     requires classes { length classes.now ≡ states dfa.now }
     requires heads { All (λ q. q < states dfa.now) heads.now }
-    ensures { IfOk result (λ edges. moves_in L.letters edges.items ≡ map (moves_onto dfa.now classes.now) heads.now) }
+    ensures { IfOk result (λ edges. moves_in L.letters edges.items
+        ≡ map (moves_onto dfa.now classes.now) heads.now) }
 {
     let mut edges = Vec::with_capacity(alloc, heads.len())?;
     for q in heads {
@@ -89,7 +92,8 @@ fn edges_onto<L: LabelSet>(
     classes: &[usize],
 ) -> Result<Vec<Edge<L>>, AllocError>
     requires { All (λ edge. edge.to < length classes.now) edges.now }
-    ensures { IfOk result (λ turned. map (move_of L.letters) turned.items ≡ map (onto classes.now) (map (move_of L.letters) edges.now)) }
+    ensures { IfOk result (λ turned. map (move_of L.letters) turned.items
+        ≡ map (onto classes.now) (map (move_of L.letters) edges.now)) }
 {
     let mut turned = Vec::with_capacity(alloc, edges.len())?;
     for edge in edges {
@@ -105,7 +109,8 @@ fn edge_onto<L: LabelSet>(
     classes: &[usize],
 ) -> Result<Edge<L>, AllocError>
     requires { edge.now.to < length classes.now }
-    ensures { IfOk result (λ turned. move_of L.letters turned ≡ onto classes.now (move_of L.letters edge.now)) }
+    ensures { IfOk result (λ turned. move_of L.letters turned
+        ≡ onto classes.now (move_of L.letters edge.now)) }
 {
     let to = classes[edge.to];
     match &edge.label {

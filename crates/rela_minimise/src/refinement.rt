@@ -66,7 +66,8 @@ impl Refinement {
         requires columns { All (IsMap (states dfa.now)) (lists_of columns.now) }
         requires state { q < states dfa.now }
         requires sound { IsSound dfa.now (lists_of columns.now) (stage_of self.old) }
-        ensures settles { IfOk result (λ _. Settles dfa.now (lists_of columns.now) (stage_of self.old) (stage_of self.new)) }
+        ensures settles { IfOk result (λ _.
+            Settles dfa.now (lists_of columns.now) (stage_of self.old) (stage_of self.new)) }
         ensures settled { IfOk result (λ _. HasSettled (stage_of self.new) q) }
     {
         let class = self.classes[q];
@@ -90,7 +91,8 @@ impl Refinement {
         requires columns { All (IsMap (states dfa.now)) (lists_of columns.now) }
         requires states { All (λ q. q < states dfa.now) waiting.now }
         requires sound { IsSound dfa.now (lists_of columns.now) (stage_of self.old) }
-        ensures settles { IfOk result (λ _. Settles dfa.now (lists_of columns.now) (stage_of self.old) (stage_of self.new)) }
+        ensures settles { IfOk result (λ _.
+            Settles dfa.now (lists_of columns.now) (stage_of self.old) (stage_of self.new)) }
         ensures settled { IfOk result (λ _. All (HasSettled (stage_of self.new)) waiting.now) }
     {
         for q in waiting {
@@ -112,8 +114,10 @@ impl Refinement {
         requires columns { All (IsMap (states dfa.now)) (lists_of columns.now) }
         requires state { q < states dfa.now }
         requires sound { IsSound dfa.now (lists_of columns.now) (stage_of self.now) }
-        ensures goes { IfOk result (λ class. Goes dfa.now (lists_of columns.now) (stage_of self.now) found.new q class) }
-        ensures found { IfOk result (λ class. HasFound (length self.now.members.items) found.old found.new class) }
+        ensures goes { IfOk result (λ class. Goes dfa.now (lists_of columns.now) (stage_of self.now)
+            found.new q class) }
+        ensures found { IfOk result (λ class. HasFound (length self.now.members.items) found.old
+            found.new class) }
     {
         let signature = signature(alloc, dfa, columns, &self.classes, q)?;
         let class = self.classes[q];
@@ -139,8 +143,12 @@ impl Refinement {
         requires sound { IsSound dfa.now (lists_of columns.now) (stage_of self.now) }
         requires none { found.old ≡ [] }
         ensures each { IfOk result (λ targets. length targets.items ≡ length waiting.now) }
-        ensures goes { IfOk result (λ targets. (i : ℕ) → i < length waiting.now → Goes dfa.now (lists_of columns.now) (stage_of self.now) found.new (slice_index waiting.now i) (slice_index targets.items i)) }
-        ensures used { IfOk result (λ targets. (j : ℕ) → j < length found.new → (i : ℕ) × (i < length waiting.now) × (slice_index targets.items i ≡ length self.now.members.items + j)) }
+        ensures goes { IfOk result (λ targets. (i : ℕ) → i < length waiting.now →
+            Goes dfa.now (lists_of columns.now) (stage_of self.now) found.new
+            (slice_index waiting.now i) (slice_index targets.items i)) }
+        ensures used { IfOk result (λ targets. (j : ℕ) → j < length found.new → (i : ℕ)
+            × (i < length waiting.now) × (slice_index targets.items i
+            ≡ length self.now.members.items + j)) }
     {
         let mut targets = Vec::with_capacity(alloc, waiting.len())?;
         for q in waiting {
@@ -180,7 +188,8 @@ impl Refinement {
         requires flagged { length self.old.stale.items ≡ length self.old.classes.items }
         requires each { length targets.now ≡ length waiting.now }
         requires classes { All (λ class. class < length self.old.members.items) targets.now }
-        ensures { IfOk result (λ _. AreAssigned waiting.now targets.now (length waiting.now) (stage_of self.old) (stage_of self.new)) }
+        ensures { IfOk result (λ _. AreAssigned waiting.now targets.now (length waiting.now)
+            (stage_of self.old) (stage_of self.new)) }
     {
         for (i, q) in waiting.iter().enumerate() {
             self.assign(*q, targets[i])?;
@@ -205,7 +214,8 @@ impl Refinement {
         requires waiting { AreWaiting (states dfa.now) self.old.stale.items waiting.now }
         requires sound { IsSound dfa.now (lists_of columns.now) (stage_of self.old) }
         requires coarse { IsCoarse dfa.now (lists_of columns.now) (stage_of self.old) }
-        ensures { IfOk result (λ _. IsAfter dfa.now (lists_of columns.now) (stage_of self.old) (stage_of self.new)) }
+        ensures { IfOk result (λ _. IsAfter dfa.now (lists_of columns.now) (stage_of self.old)
+            (stage_of self.new)) }
     {
         self.settle_all(alloc, dfa, columns, waiting)?;
         let mut found = Signatures::new(alloc);

@@ -19,7 +19,8 @@ use std::alloc::{AllocError, Global};
 /// round only those states are looked at again from which a letter leads to a new class.
 pub(crate) fn refined<L: LabelSet>(alloc: Global, dfa: &Dfa<L>) -> Result<Refinement, AllocError>
     requires { IsDeterministic dfa.now }
-    ensures { IfOk result (λ made. AreClasses dfa.now (length made.members.items) made.classes.items) }
+    ensures { IfOk result (λ made. AreClasses dfa.now (length made.members.items)
+        made.classes.items) }
 {
     let columns = columns(alloc, dfa)?;
     let predecessors = predecessors(alloc, dfa)?;

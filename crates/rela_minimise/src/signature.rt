@@ -21,7 +21,8 @@ pub(crate) fn signature<L: LabelSet>(
     requires classes { length classes.now ≡ states dfa.now }
     requires columns { All (IsMap (states dfa.now)) (lists_of columns.now) }
     requires state { q < states dfa.now }
-    ensures { IfOk result (λ signed. signed.items ≡ is_signature dfa.now (lists_of columns.now) classes.now q) }
+    ensures { IfOk result (λ signed. signed.items
+        ≡ is_signature dfa.now (lists_of columns.now) classes.now q) }
 {
     let mut signed = Vec::with_capacity(alloc, columns.len())?;
     signed.push(if dfa.is_final(q) { 1 } else { 0 })?;

@@ -57,7 +57,8 @@ impl Signatures {
         ensures at { IfOk result (λ number. slice_index_or self.new number [] ≡ signature.items) }
         ensures within { IfOk result (λ number. number < length self.new) }
         ensures small { IfOk result (λ number. number < 2 ^ 63) }
-        ensures grown { IfOk result (λ number. (self.new ≡ self.old) ⊎ ((self.new ≡ self.old ++ signature.items ∷ []) × (number ≡ length self.old))) }
+        ensures grown { IfOk result (λ number. (self.new ≡ self.old)
+            ⊎ ((self.new ≡ self.old ++ signature.items ∷ []) × (number ≡ length self.old))) }
     {
         let (number, _) = self.found.insert_full(signature)?;
         prove!(number < self.found.len());

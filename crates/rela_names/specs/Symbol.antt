@@ -50,4 +50,5 @@ symbol_text names s = meaning_text (meaning_of names s)
 -- the texts of the symbols with one blank between two, or `()` for the empty word
 abbrev pub word_text : List (List ℕ) → List ℕ → List ℕ
 word_text names [] = codes "()"
-word_text names (s ∷ others) = symbol_text names s ++ flat_map (λ t. 32 ∷ symbol_text names t) others
+word_text names (s ∷ others) = symbol_text names s ++ flat_map (λ t.
+    32 ∷ symbol_text names t) others

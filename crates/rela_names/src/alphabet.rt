@@ -143,7 +143,8 @@ impl Alphabet {
     /// Appends the text of one symbol.
     fn push_symbol(&self, text: &mut Vec<u8>, symbol: Symbol) -> Result<(), AllocError>
         requires { symbol < path_symbols self.now + MAX_MARKERS }
-        ensures { IfOk result (λ _. text.new.items ≡ text.old.items ++ symbol_text self.now symbol) }
+        ensures { IfOk result (λ _. text.new.items ≡ text.old.items
+            ++ symbol_text self.now symbol) }
     {
         if let Some(name) = self.name_of(symbol) {
             text.extend_from_slice(name.as_bytes())

@@ -15,7 +15,8 @@ silent to = record { label = None; to = to }
 -- the edges that leave p, their ends `by` later, and where p is final a silent edge to the exit
 abbrev pub leaving : Automaton → ℕ → Option ℕ → ℕ → List Move
 leaving a by exit p =
-    map (shifted by) (moves_of a p) ++ (if slice_index_or a.finals p false then map silent (option_to_list exit) else [])
+    map (shifted by) (moves_of a p) ++ (if slice_index_or a.finals p false
+    then map silent (option_to_list exit) else [])
 
 -- those of each state
 abbrev pub copied : Automaton → ℕ → Option ℕ → List (List Move)
@@ -23,7 +24,8 @@ copied a by exit = map (leaving a by exit) (range_with_len 0 (states a))
 
 -- the edges of a first state, which lead to both starts, and then those of each state of the two
 abbrev pub united : Automaton → Automaton → List (List Move)
-united a b = map silent ((1 + a.start) ∷ (1 + states a + b.start) ∷ []) ∷ copied a 1 None ++ copied b (1 + states a) None
+united a b = map silent ((1 + a.start) ∷ (1 + states a + b.start) ∷ []) ∷ copied a 1 None
+    ++ copied b (1 + states a) None
 
 -- the set of one letter
 abbrev pub single : ℕ → ℕ → List Bool

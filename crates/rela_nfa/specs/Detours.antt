@@ -49,7 +49,8 @@ is_step a q = not (slice_index_or a.finals q false) && only_labelled (moves_of a
 
 -- the edge itself; where it is silent and the state is a step, the edge of that step
 abbrev pub pulled : Automaton → ℕ → Move → Move
-pulled a end move = if not (has_label move.label) && is_step a end then slice_index_or (moves_of a end) 0 move else move
+pulled a end move = if not (has_label move.label) && is_step a end
+    then slice_index_or (moves_of a end) 0 move else move
 
 -- the edge, its end moved on to the one that stands for it
 abbrev pub redirected : List ℕ → Move → Move

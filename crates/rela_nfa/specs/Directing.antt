@@ -30,7 +30,8 @@ silent_labels moves = flat_map (λ m. silent_label m.label) moves
 abbrev pub shared_label : Label → Label → List Label
 shared_label None other = []
 shared_label (Some s) None = []
-shared_label (Some s) (Some t) = if list_any (λ b. b) (common s t) then Some (common s t) ∷ [] else []
+shared_label (Some s) (Some t) = if list_any (λ b. b) (common s t)
+    then Some (common s t) ∷ [] else []
 
 abbrev pub labels_with : Label → List Move → List Label
 labels_with label others = flat_map (λ n. shared_label label n.label) others
@@ -38,4 +39,5 @@ labels_with label others = flat_map (λ n. shared_label label n.label) others
 -- the labels of the edges of the two together that leave a pair
 abbrev pub joint_labels : Automaton → Automaton → Pair → List Label
 joint_labels a b x =
-    silent_labels (moves_of a x.left) ++ silent_labels (moves_of b x.right) ++ flat_map (λ m. labels_with m.label (moves_of b x.right)) (moves_of a x.left)
+    silent_labels (moves_of a x.left) ++ silent_labels (moves_of b x.right) ++ flat_map (λ m.
+    labels_with m.label (moves_of b x.right)) (moves_of a x.left)

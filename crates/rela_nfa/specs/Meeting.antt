@@ -22,7 +22,8 @@ pub record IsMeet (a b : Automaton) (pairs : List Pair) (r : Automaton) : Type 0
   pub distinct : AreDistinct pairs
   pub together : (x : Pair) → Contains pairs x → AreReachedTogether a b x
   pub all : (x : Pair) → AreReachedTogether a b x → Contains pairs x
-  pub reached : (k : ℕ) (x : Pair) → slice_get pairs k ≡ Some x → (word : List ℕ) → (Reach r k word → ReachBoth a b x word) × (ReachBoth a b x word → Reach r k word)
+  pub reached : (k : ℕ) (x : Pair) → slice_get pairs k ≡ Some x → (word : List ℕ) →
+      (Reach r k word → ReachBoth a b x word) × (ReachBoth a b x word → Reach r k word)
 
 -- the letters that are in both sets
 abbrev pub common : List Bool → List Bool → List Bool
@@ -37,7 +38,8 @@ pub record JointMove : Type 0 where
 abbrev pub labelled_both : Option (List Bool) → Option (List Bool) → Pair → List JointMove
 labelled_both None other to = []
 labelled_both (Some s) None to = []
-labelled_both (Some s) (Some t) to = if list_any (λ b. b) (common s t) then record { label = Some (common s t); to = to } ∷ [] else []
+labelled_both (Some s) (Some t) to = if list_any (λ b. b) (common s t)
+    then record { label = Some (common s t); to = to } ∷ [] else []
 
 -- a silent edge, where the other automaton stays
 abbrev pub silent_one : Option (List Bool) → Pair → List JointMove
@@ -59,7 +61,8 @@ moves_with m others = flat_map (λ n. labelled_both m.label n.label (pair_of m.t
 -- the edges of the two together that leave a pair
 abbrev pub joint_moves : Automaton → Automaton → Pair → List JointMove
 joint_moves a b x =
-    left_moves x.right (moves_of a x.left) ++ right_moves x.left (moves_of b x.right) ++ flat_map (λ m. moves_with m (moves_of b x.right)) (moves_of a x.left)
+    left_moves x.right (moves_of a x.left) ++ right_moves x.left (moves_of b x.right)
+    ++ flat_map (λ m. moves_with m (moves_of b x.right)) (moves_of a x.left)
 
 -- the pairs to which they lead
 abbrev pub next_pairs : Automaton → Automaton → Pair → List Pair
@@ -73,7 +76,8 @@ numbered (j ∷ moves) (t ∷ targets) = record { label = j.label; to = t } ∷ 
 
 -- those of the pair of this number
 abbrev pub product_moves_at : Automaton → Automaton → Exploration → ℕ → List Move
-product_moves_at a b explored k = numbered (slice_index_or (map (joint_moves a b) explored.pairs) k []) (slice_index_or explored.targets k [])
+product_moves_at a b explored k = numbered (slice_index_or (map (joint_moves a b) explored.pairs)
+    k []) (slice_index_or explored.targets k [])
 
 -- whether both states are final
 abbrev pub final_both : Automaton → Automaton → Pair → Bool
@@ -83,5 +87,6 @@ final_both a b x = slice_index_or a.finals x.left false && slice_index_or b.fina
 pub record IsProduct (a b : Automaton) (explored : Exploration) (r : Automaton) : Type 0 where
   pub letters : r.letters ≡ a.letters
   pub start : r.start ≡ 0
-  pub edges : r.edges ≡ map (product_moves_at a b explored) (range_with_len 0 (length explored.pairs))
+  pub edges : r.edges ≡ map (product_moves_at a b explored)
+      (range_with_len 0 (length explored.pairs))
   pub finals : r.finals ≡ map (final_both a b) explored.pairs

@@ -23,4 +23,5 @@ IsClosed a states = (p q : ℕ) → Contains states p → HasStep a p None q →
 pub record Closes (a : Automaton) (old new : List ℕ) : Type 0 where
   pub kept : (q : ℕ) → Contains old q → Contains new q
   pub closed : IsClosed a new
-  pub only : (word : List ℕ) → ((q : ℕ) → Contains old q → Reach a q word) → (q : ℕ) → Contains new q → Reach a q word
+  pub only : (word : List ℕ) → ((q : ℕ) → Contains old q → Reach a q word) → (q : ℕ) →
+      Contains new q → Reach a q word

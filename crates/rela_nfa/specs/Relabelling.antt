@@ -8,7 +8,8 @@ use Rattle.rela_nfa.specs.Automaton.{Automaton, Move}
 -- the fine partition is of the same symbols, and two that share a block of it share one of the coarse partition
 pub record Refines (fine coarse : List ℕ) : Type 0 where
   pub same_symbols : length fine ≡ length coarse
-  pub together : (s t : ℕ) → s < length fine → t < length fine → Together fine s t → Together coarse s t
+  pub together : (s t : ℕ) → s < length fine → t < length fine → Together fine s t →
+      Together coarse s t
 
 -- a word of symbols, each read as its block
 abbrev pub blocks_of : List ℕ → List ℕ → List ℕ
@@ -19,7 +20,10 @@ abbrev pub relabelled : List ℕ → List Bool → List Bool
 relabelled parents set = map (has set) parents
 
 abbrev pub relabelled_move : List ℕ → Move → Move
-relabelled_move parents move = record { label = option_map (relabelled parents) move.label; to = move.to }
+relabelled_move parents move = record {
+  label = option_map (relabelled parents) move.label;
+  to = move.to;
+}
 
 -- the same automaton with other labels
 pub record IsRelabelled (parents : List ℕ) (a r : Automaton) : Type 0 where

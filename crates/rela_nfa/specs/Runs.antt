@@ -12,7 +12,8 @@ pub record Step : Type 0 where
 -- one of the edges leads to q, silently, or by a letter of its label
 abbrev pub StepIn : List Move → Option ℕ → ℕ → Type 0
 StepIn moves None q = Contains moves (record { label = None; to = q })
-StepIn moves (Some k) q = (set : List Bool) × Contains moves (record { label = Some set; to = q }) × (has set k ≡ true)
+StepIn moves (Some k) q = (set : List Bool) × Contains moves (record { label = Some set; to = q })
+    × (has set k ≡ true)
 
 -- an edge leads from p to q
 abbrev pub HasStep : Automaton → ℕ → Option ℕ → ℕ → Type 0

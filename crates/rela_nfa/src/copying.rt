@@ -19,7 +19,9 @@ fn add_shifted<L: LabelSet>(
     by: usize,
 ) -> Result<(), AllocError>
     requires { All (λ edge. by + edge.to < 2 ^ 64) others.now }
-    ensures { OnOk result (map (move_of L.letters) edges.new.items ≡ map (move_of L.letters) edges.old.items ++ map (shifted by) (map (move_of L.letters) others.now)) }
+    ensures { OnOk result (map (move_of L.letters) edges.new.items
+        ≡ map (move_of L.letters) edges.old.items
+        ++ map (shifted by) (map (move_of L.letters) others.now)) }
 {
     for edge in others {
         edges.push(edge.shifted(alloc, by)?)?;
@@ -82,7 +84,8 @@ impl<L: LabelSet> Nfa<L> {
     ) -> Result<(), AllocError>
         requires state { q < states self.now }
         requires room { by + states self.now ≤ 2 ^ 64 }
-        ensures { OnOk result (map (move_of L.letters) edges.new.items ≡ map (move_of L.letters) edges.old.items ++ leaving self.now by exit q) }
+        ensures { OnOk result (map (move_of L.letters) edges.new.items
+            ≡ map (move_of L.letters) edges.old.items ++ leaving self.now by exit q) }
     {
         add_shifted(alloc, edges, self.edges(q), by)?;
         if self.is_final(q) {

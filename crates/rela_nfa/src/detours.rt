@@ -61,7 +61,8 @@ fn walk<L: LabelSet>(
 fn settle(ends: &mut [usize], path: &[usize], end: usize)
     requires { All (λ p. p < length ends.old) path.now }
     ensures settled { (p : ℕ) → Contains path.now p → slice_index ends.new p ≡ end }
-    ensures kept { (p : ℕ) → Contains path.now p ⊎ (slice_index ends.new p ≡ slice_index ends.old p) }
+    ensures kept { (p : ℕ) → Contains path.now p
+        ⊎ (slice_index ends.new p ≡ slice_index ends.old p) }
 {
     for p in path {
         ends[*p] = end;
@@ -88,8 +89,10 @@ pub(crate) fn detour_ends<L: LabelSet>(
 ) -> Result<Vec<usize>, AllocError>
     ensures count { IfOk result (λ ends. length ends.items ≡ states nfa.now) }
     ensures states { IfOk result (λ ends. All (λ end. end < states nfa.now) ends.items) }
-    ensures led { IfOk result (λ ends. (q : ℕ) → q < states nfa.now → Detours nfa.now q (slice_index ends.items q)) }
-    ensures ended { IfOk result (λ ends. (q : ℕ) → q < states nfa.now → IsEnd nfa.now (slice_index ends.items q)) }
+    ensures led { IfOk result (λ ends. (q : ℕ) → q < states nfa.now →
+        Detours nfa.now q (slice_index ends.items q)) }
+    ensures ended { IfOk result (λ ends. (q : ℕ) → q < states nfa.now →
+        IsEnd nfa.now (slice_index ends.items q)) }
 {
     let mut ends = numbers(alloc, nfa.states())?;
     let mut flags = vec![in alloc; false; nfa.states()]?;

@@ -15,7 +15,9 @@ pub fn add_directed<L: LabelSet>(
     label: Option<L>,
     targets: &[usize],
 ) -> Result<(), AllocError>
-    ensures { OnOk result (map (move_of L.letters) edges.new.items ≡ extended (map (move_of L.letters) edges.old.items) (option_map L.letters label ∷ []) targets.now) }
+    ensures { OnOk result (map (move_of L.letters) edges.new.items
+        ≡ extended (map (move_of L.letters) edges.old.items) (option_map L.letters label
+        ∷ []) targets.now) }
 {
     if let Some(to) = targets.get(edges.len()) {
         edges.push(Edge { label, to: *to })?;
@@ -29,7 +31,9 @@ fn add_if_silent<L: LabelSet>(
     source: &Edge<L>,
     targets: &[usize],
 ) -> Result<(), AllocError>
-    ensures { OnOk result (map (move_of L.letters) edges.new.items ≡ extended (map (move_of L.letters) edges.old.items) (silent_label (move_of L.letters source.now).label) targets.now) }
+    ensures { OnOk result (map (move_of L.letters) edges.new.items
+        ≡ extended (map (move_of L.letters) edges.old.items)
+        (silent_label (move_of L.letters source.now).label) targets.now) }
 {
     if source.label.is_none() {
         add_directed(edges, None, targets)?;
@@ -44,7 +48,9 @@ pub fn add_silent<L: LabelSet>(
     sources: &[Edge<L>],
     targets: &[usize],
 ) -> Result<(), AllocError>
-    ensures { OnOk result (map (move_of L.letters) edges.new.items ≡ extended (map (move_of L.letters) edges.old.items) (silent_labels (map (move_of L.letters) sources.now)) targets.now) }
+    ensures { OnOk result (map (move_of L.letters) edges.new.items
+        ≡ extended (map (move_of L.letters) edges.old.items)
+        (silent_labels (map (move_of L.letters) sources.now)) targets.now) }
 {
     for source in sources {
         add_if_silent(edges, source, targets)?;

@@ -20,7 +20,8 @@ impl<L: LabelSet> Edge<L> {
     /// A copy of the edge that leads to a state `by` later.
     pub(crate) fn shifted(&self, alloc: Global, by: usize) -> Result<Edge<L>, AllocError>
         requires { by + self.now.to < 2 ^ 64 }
-        ensures { IfOk result (λ edge. move_of L.letters edge ≡ shifted by (move_of L.letters self.now)) }
+        ensures { IfOk result (λ edge. move_of L.letters edge
+            ≡ shifted by (move_of L.letters self.now)) }
     {
         let to = by + self.to;
         match &self.label {

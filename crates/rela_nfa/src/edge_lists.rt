@@ -89,7 +89,8 @@ impl<L: LabelSet> EdgeLists<L> {
     /// Adds a state, which these edges leave, and takes them out of the vector. Time: linear in
     /// them.
     pub fn push(&mut self, edges: &mut Vec<Edge<L>>) -> Result<(), AllocError>
-        ensures list { OnOk result (self.new ≡ self.old ++ map (move_of L.letters) edges.old.items ∷ []) }
+        ensures list { OnOk result (self.new ≡ self.old
+            ++ map (move_of L.letters) edges.old.items ∷ []) }
         ensures taken { OnOk result (edges.new.items ≡ []) }
     {
         self.starts.push(self.edges.len())?;

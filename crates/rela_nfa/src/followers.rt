@@ -57,8 +57,10 @@ fn add_followers<L: LabelSet>(
     requires letters { first.now.letters ≡ second.now.letters }
     requires left { pair.left < states first.now }
     requires right { pair.right < states second.now }
-    ensures next { OnOk result (followers.new.items ≡ followers.old.items ++ next_pairs first.now second.now pair) }
-    ensures lead { OnOk result (All (λ x. (x.left < states first.now) × (x.right < states second.now)) (next_pairs first.now second.now pair)) }
+    ensures next { OnOk result (followers.new.items ≡ followers.old.items
+        ++ next_pairs first.now second.now pair) }
+    ensures lead { OnOk result (All (λ x. (x.left < states first.now)
+        × (x.right < states second.now)) (next_pairs first.now second.now pair)) }
 {
     let left = first.edges(pair.left);
     let right = second.edges(pair.right);
@@ -76,7 +78,8 @@ fn add_if_silent<L: LabelSet>(
     edge: &Edge<L>,
     to: Pair,
 ) -> Result<(), AllocError>
-    ensures { OnOk result (followers.new.items ≡ followers.old.items ++ map (λ j. j.to) (silent_one (move_of L.letters edge.now).label to)) }
+    ensures { OnOk result (followers.new.items ≡ followers.old.items
+        ++ map (λ j. j.to) (silent_one (move_of L.letters edge.now).label to)) }
 {
     if edge.label.is_none() {
         followers.push(to)?;
@@ -90,7 +93,8 @@ fn add_left<L: LabelSet>(
     edges: &[Edge<L>],
     right: usize,
 ) -> Result<(), AllocError>
-    ensures { OnOk result (followers.new.items ≡ followers.old.items ++ map (λ j. j.to) (left_moves right (map (move_of L.letters) edges.now))) }
+    ensures { OnOk result (followers.new.items ≡ followers.old.items
+        ++ map (λ j. j.to) (left_moves right (map (move_of L.letters) edges.now))) }
 {
     for edge in edges {
         let to = Pair {
@@ -108,7 +112,8 @@ fn add_right<L: LabelSet>(
     edges: &[Edge<L>],
     left: usize,
 ) -> Result<(), AllocError>
-    ensures { OnOk result (followers.new.items ≡ followers.old.items ++ map (λ j. j.to) (right_moves left (map (move_of L.letters) edges.now))) }
+    ensures { OnOk result (followers.new.items ≡ followers.old.items
+        ++ map (λ j. j.to) (right_moves left (map (move_of L.letters) edges.now))) }
 {
     for edge in edges {
         let to = Pair {
@@ -127,9 +132,11 @@ fn add_together<L: LabelSet>(
     first: &Edge<L>,
     second: &Edge<L>,
 ) -> Result<(), AllocError>
-    requires { ForSome first.now.label (λ s. ForSome second.now.label (λ t. length (L.letters s) ≡ length (L.letters t))) }
+    requires { ForSome first.now.label (λ s. ForSome second.now.label (λ t. length (L.letters s)
+        ≡ length (L.letters t))) }
     ensures { OnOk result (followers.new.items ≡ followers.old.items
-        ++ map (λ j. j.to) (labelled_both (move_of L.letters first.now).label (move_of L.letters second.now).label (pair_of first.now.to second.now.to))) }
+        ++ map (λ j. j.to) (labelled_both (move_of L.letters first.now).label
+        (move_of L.letters second.now).label (pair_of first.now.to second.now.to))) }
 {
     if let (Some(s), Some(t)) = (&first.label, &second.label) {
         if !s.meet(alloc, t)?.is_empty() {
@@ -149,8 +156,12 @@ fn add_with<L: LabelSet>(
     first: &Edge<L>,
     others: &[Edge<L>],
 ) -> Result<(), AllocError>
-    requires { ForSome first.now.label (λ s. All (λ second. ForSome second.label (λ t. length (L.letters s) ≡ length (L.letters t))) others.now) }
-    ensures { OnOk result (followers.new.items ≡ followers.old.items ++ map (λ j. j.to) (moves_with (move_of L.letters first.now) (map (move_of L.letters) others.now))) }
+    requires { ForSome first.now.label (λ s.
+        All (λ second. ForSome second.label (λ t. length (L.letters s)
+        ≡ length (L.letters t))) others.now) }
+    ensures { OnOk result (followers.new.items ≡ followers.old.items
+        ++ map (λ j. j.to) (moves_with (move_of L.letters first.now)
+        (map (move_of L.letters) others.now))) }
 {
     for second in others {
         add_together(alloc, followers, first, second)?;

@@ -33,7 +33,8 @@ fn product_finals<L: LabelSet>(
     pairs: &[Pair],
 ) -> Result<Vec<bool>, AllocError>
     requires { All (λ x. (x.left < states first.now) × (x.right < states second.now)) pairs.now }
-    ensures { IfOk result (λ finals. finals.items ≡ map (final_both first.now second.now) pairs.now) }
+    ensures { IfOk result (λ finals. finals.items
+        ≡ map (final_both first.now second.now) pairs.now) }
 {
     let mut finals = Vec::with_capacity(alloc, pairs.len())?;
     for pair in pairs {
@@ -50,10 +51,12 @@ fn product_edges<L: LabelSet>(
     explored: &Explored,
 ) -> Result<EdgeLists<L>, AllocError>
     requires letters { first.now.letters ≡ second.now.letters }
-    requires pairs { All (λ x. (x.left < states first.now) × (x.right < states second.now)) explored.now.pairs }
+    requires pairs { All (λ x. (x.left < states first.now) × (x.right < states second.now))
+        explored.now.pairs }
     requires one_list_each { length explored.now.targets ≡ length explored.now.pairs }
     requires targets { NumbersNext (next_pairs first.now second.now) explored.now }
-    ensures { IfOk result (λ edges. edges ≡ map (product_moves_at first.now second.now explored.now) (range_with_len 0 (length explored.now.pairs))) }
+    ensures { IfOk result (λ edges. edges ≡ map (product_moves_at first.now second.now explored.now)
+        (range_with_len 0 (length explored.now.pairs))) }
 {
     let pairs = explored.pairs();
     let mut edges = EdgeLists::with_capacity(alloc, pairs.len())?;
@@ -75,9 +78,11 @@ fn product<L: LabelSet>(
     explored: &Explored,
 ) -> Result<Nfa<L>, AllocError>
     requires letters { first.now.letters ≡ second.now.letters }
-    requires pairs { All (λ x. (x.left < states first.now) × (x.right < states second.now)) explored.now.pairs }
+    requires pairs { All (λ x. (x.left < states first.now) × (x.right < states second.now))
+        explored.now.pairs }
     requires distinct { AreDistinct explored.now.pairs }
-    requires first { slice_get explored.now.pairs 0 ≡ Some (pair_of first.now.start second.now.start) }
+    requires first { slice_get explored.now.pairs 0
+        ≡ Some (pair_of first.now.start second.now.start) }
     requires reachable { (x : Pair) → Contains explored.now.pairs x
         ↔ Reachable (next_pairs first.now second.now) (pair_of first.now.start second.now.start) x }
     requires one_list_each { length explored.now.targets ≡ length explored.now.pairs }
@@ -111,12 +116,16 @@ impl<L: LabelSet> Nfa<L> {
         requires limit { 1 ≤ limit }
         ensures letters { IfOk result (λ nfa. nfa.letters ≡ self.now.letters) }
         ensures few { IfOk result (λ nfa. states nfa ≤ limit) }
-        ensures pairs { IfOk result (λ nfa. (pairs : List Pair) × IsMeet self.now other.now pairs nfa) }
-        ensures language { IfOk result (λ nfa. (w : List ℕ) → Accepts nfa w ↔ (Accepts self.now w × Accepts other.now w)) }
+        ensures pairs { IfOk result (λ nfa. (pairs : List Pair)
+            × IsMeet self.now other.now pairs nfa) }
+        ensures language { IfOk result (λ nfa. (w : List ℕ) → Accepts nfa w ↔
+            (Accepts self.now w × Accepts other.now w)) }
 
         // The limit, exactly.
-        ensures within { IfOk result (λ _. ¬ MoreThan limit (AreReachedTogether self.now other.now)) }
-        ensures limit { IfErr result (λ e. e ≡ BuildError.Limit → MoreThan limit (AreReachedTogether self.now other.now)) }
+        ensures within { IfOk result (λ _.
+            ¬ MoreThan limit (AreReachedTogether self.now other.now)) }
+        ensures limit { IfErr result (λ e. e ≡ BuildError.Limit →
+            MoreThan limit (AreReachedTogether self.now other.now)) }
         ensures greatest { limit ≡ usize.MAX → IfErr result (λ e. e ≢ BuildError.Limit) }
     {
         let meeting = Meeting {

@@ -22,9 +22,12 @@ fn add_shared<L: LabelSet>(
     second: &Edge<L>,
     targets: &[usize],
 ) -> Result<(), AllocError>
-    requires { ForSome first.now.label (λ s. ForSome second.now.label (λ t. length (L.letters s) ≡ length (L.letters t))) }
-    ensures { OnOk result (map (move_of L.letters) edges.new.items ≡ extended (map (move_of L.letters) edges.old.items)
-        (shared_label (move_of L.letters first.now).label (move_of L.letters second.now).label) targets.now) }
+    requires { ForSome first.now.label (λ s. ForSome second.now.label (λ t. length (L.letters s)
+        ≡ length (L.letters t))) }
+    ensures { OnOk result (map (move_of L.letters) edges.new.items
+        ≡ extended (map (move_of L.letters) edges.old.items)
+        (shared_label (move_of L.letters first.now).label (move_of L.letters second.now).label)
+        targets.now) }
 {
     if let (Some(s), Some(t)) = (&first.label, &second.label) {
         let common = s.meet(alloc, t)?;
@@ -43,9 +46,13 @@ fn add_with<L: LabelSet>(
     others: &[Edge<L>],
     targets: &[usize],
 ) -> Result<(), AllocError>
-    requires { ForSome first.now.label (λ s. All (λ second. ForSome second.label (λ t. length (L.letters s) ≡ length (L.letters t))) others.now) }
-    ensures { OnOk result (map (move_of L.letters) edges.new.items ≡ extended (map (move_of L.letters) edges.old.items)
-        (labels_with (move_of L.letters first.now).label (map (move_of L.letters) others.now)) targets.now) }
+    requires { ForSome first.now.label (λ s.
+        All (λ second. ForSome second.label (λ t. length (L.letters s)
+        ≡ length (L.letters t))) others.now) }
+    ensures { OnOk result (map (move_of L.letters) edges.new.items
+        ≡ extended (map (move_of L.letters) edges.old.items)
+        (labels_with (move_of L.letters first.now).label (map (move_of L.letters) others.now))
+        targets.now) }
 {
     for second in others {
         add_shared(alloc, edges, first, second, targets)?;
@@ -68,7 +75,8 @@ pub(crate) fn add_joint<L: LabelSet>(
     requires letters { first.now.letters ≡ second.now.letters }
     requires left { pair.left < states first.now }
     requires right { pair.right < states second.now }
-    ensures { OnOk result (map (move_of L.letters) edges.new.items ≡ numbered (joint_moves first.now second.now pair) targets.now) }
+    ensures { OnOk result (map (move_of L.letters) edges.new.items
+        ≡ numbered (joint_moves first.now second.now pair) targets.now) }
 {
     let left = first.edges(pair.left);
     let right = second.edges(pair.right);

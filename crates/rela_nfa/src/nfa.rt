@@ -58,7 +58,12 @@ impl<L: LabelSet> Nfa<L> {
         edges: Vec<Vec<Edge<L>>>,
     ) -> Result<Nfa<L>, AllocError>
         requires fits { L.fits letters }
-        requires automaton { IsAutomaton (record { letters = letters; start = start; finals = finals.now; edges = moves_in L.letters edges.items }) }
+        requires automaton { IsAutomaton (record {
+          letters = letters;
+          start = start;
+          finals = finals.now;
+          edges = moves_in L.letters edges.items;
+        }) }
         ensures letters { IfOk result (λ nfa. nfa.letters ≡ letters) }
         ensures start { IfOk result (λ nfa. nfa.start ≡ start) }
         ensures finals { IfOk result (λ nfa. nfa.finals ≡ finals.now) }
@@ -73,7 +78,12 @@ impl<L: LabelSet> Nfa<L> {
     /// constant time.
     pub fn from_lists(letters: u32, start: usize, finals: Vec<bool>, edges: EdgeLists<L>) -> Nfa<L>
         requires fits { L.fits letters }
-        requires automaton { IsAutomaton (record { letters = letters; start = start; finals = finals.items; edges = edges }) }
+        requires automaton { IsAutomaton (record {
+          letters = letters;
+          start = start;
+          finals = finals.items;
+          edges = edges;
+        }) }
         ensures letters { result.letters ≡ letters }
         ensures start { result.start ≡ start }
         ensures finals { result.finals ≡ finals.items }
@@ -127,7 +137,8 @@ impl<L: LabelSet> Nfa<L> {
         ensures moves { map (move_of L.letters) result.now ≡ moves_of self.now q }
         ensures automaton { IsAutomaton self.now }
         ensures lead { All (λ edge. edge.to < states self.now) result.now }
-        ensures sized { All (λ edge. ForSome edge.label (λ set. length (L.letters set) ≡ self.now.letters)) result.now }
+        ensures sized { All (λ edge. ForSome edge.label (λ set. length (L.letters set)
+            ≡ self.now.letters)) result.now }
     {
         self.edges.list(q)
     }

@@ -22,9 +22,12 @@ impl<L: LabelSet> Nfa<L> {
         ensures letters { IfOk result (λ nfa. nfa.letters ≡ self.now.letters) }
         ensures states { IfOk result (λ nfa. states nfa ≡ 1 + states self.now + states other.now) }
         ensures start { IfOk result (λ nfa. (w : List ℕ) → Reach nfa 0 w ↔ (w ≡ [])) }
-        ensures first { IfOk result (λ nfa. (q : ℕ) (w : List ℕ) → q < states self.now → Reach nfa (1 + q) w ↔ Reach self.now q w) }
-        ensures second { IfOk result (λ nfa. (q : ℕ) (w : List ℕ) → Reach nfa (1 + states self.now + q) w ↔ Reach other.now q w) }
-        ensures language { IfOk result (λ nfa. (w : List ℕ) → Accepts nfa w ↔ (Accepts self.now w ⊎ Accepts other.now w)) }
+        ensures first { IfOk result (λ nfa. (q : ℕ) (w : List ℕ) → q < states self.now →
+            Reach nfa (1 + q) w ↔ Reach self.now q w) }
+        ensures second { IfOk result (λ nfa. (q : ℕ) (w : List ℕ) →
+            Reach nfa (1 + states self.now + q) w ↔ Reach other.now q w) }
+        ensures language { IfOk result (λ nfa. (w : List ℕ) → Accepts nfa w ↔
+            (Accepts self.now w ⊎ Accepts other.now w)) }
     {
         let mut finals = Vec::new(alloc);
         finals.push(false)?;
@@ -58,9 +61,12 @@ impl<L: LabelSet> Nfa<L> {
         requires letters { self.now.letters ≡ other.now.letters }
         ensures letters { IfOk result (λ nfa. nfa.letters ≡ self.now.letters) }
         ensures states { IfOk result (λ nfa. states nfa ≡ states self.now + states other.now) }
-        ensures first { IfOk result (λ nfa. (q : ℕ) (w : List ℕ) → q < states self.now → Reach nfa q w ↔ Reach self.now q w) }
-        ensures second { IfOk result (λ nfa. (q : ℕ) (w : List ℕ) → Reach nfa (states self.now + q) w ↔ Joins (Accepts self.now) (Reach other.now q) w) }
-        ensures language { IfOk result (λ nfa. (w : List ℕ) → Accepts nfa w ↔ Joins (Accepts self.now) (Accepts other.now) w) }
+        ensures first { IfOk result (λ nfa. (q : ℕ) (w : List ℕ) → q < states self.now →
+            Reach nfa q w ↔ Reach self.now q w) }
+        ensures second { IfOk result (λ nfa. (q : ℕ) (w : List ℕ) →
+            Reach nfa (states self.now + q) w ↔ Joins (Accepts self.now) (Reach other.now q) w) }
+        ensures language { IfOk result (λ nfa. (w : List ℕ) → Accepts nfa w ↔
+            Joins (Accepts self.now) (Accepts other.now) w) }
     {
         let count = self.states();
         let mut finals = vec![in alloc; false; count]?;
@@ -83,8 +89,10 @@ impl<L: LabelSet> Nfa<L> {
         ensures letters { IfOk result (λ nfa. nfa.letters ≡ self.now.letters) }
         ensures states { IfOk result (λ nfa. states nfa ≡ 1 + states self.now) }
         ensures start { IfOk result (λ nfa. (w : List ℕ) → Reach nfa 0 w ↔ (w ≡ [])) }
-        ensures copies { IfOk result (λ nfa. (q : ℕ) (w : List ℕ) → Reach nfa (1 + q) w ↔ Joins (Repeats (Accepts self.now)) (Reach self.now q) w) }
-        ensures language { IfOk result (λ nfa. (w : List ℕ) → Accepts nfa w ↔ Repeats (Accepts self.now) w) }
+        ensures copies { IfOk result (λ nfa. (q : ℕ) (w : List ℕ) → Reach nfa (1 + q) w ↔
+            Joins (Repeats (Accepts self.now)) (Reach self.now q) w) }
+        ensures language { IfOk result (λ nfa. (w : List ℕ) → Accepts nfa w ↔
+            Repeats (Accepts self.now) w) }
     {
         let mut finals = Vec::new(alloc);
         finals.push(true)?;

@@ -29,7 +29,8 @@ impl<L: LabelSet> Edge<L> {
     fn follow(&self, letter: Option<u32>, set: &mut StateSet) -> Result<(), AllocError>
         requires { self.now.to < set.old.count }
         ensures count { set.new.count ≡ set.old.count }
-        ensures adds { OnOk result (Adds (StepIn (move_of L.letters self.now ∷ []) letter) set.old.states set.new.states) }
+        ensures adds { OnOk result (Adds (StepIn (move_of L.letters self.now ∷ []) letter)
+            set.old.states set.new.states) }
     {
         if self.takes(letter) {
             set.insert(self.to)?;
@@ -72,7 +73,9 @@ impl<L: LabelSet> Nfa<L> {
     ) -> Result<StateSet, AllocError>
         requires { reached.now.count ≡ states self.now }
         ensures count { IfOk result (λ set. set.count ≡ states self.now) }
-        ensures reached { IfOk result (λ set. (w : List ℕ) → AreReached self.now w reached.now.states → AreReached self.now (w ++ letter ∷ []) set.states) }
+        ensures reached { IfOk result (λ set. (w : List ℕ) →
+            AreReached self.now w reached.now.states →
+            AreReached self.now (w ++ letter ∷ []) set.states) }
     {
         let mut set = self.after(alloc, reached, letter)?;
         self.close(&mut set)?;
@@ -83,7 +86,8 @@ impl<L: LabelSet> Nfa<L> {
     fn after(&self, alloc: Global, from: &StateSet, letter: u32) -> Result<StateSet, AllocError>
         requires { from.now.count ≡ states self.now }
         ensures count { IfOk result (λ set. set.count ≡ states self.now) }
-        ensures after { IfOk result (λ set. (q : ℕ) → Contains set.states q ↔ ((p : ℕ) × Contains from.now.states p × HasStep self.now p (Some letter) q)) }
+        ensures after { IfOk result (λ set. (q : ℕ) → Contains set.states q ↔
+            ((p : ℕ) × Contains from.now.states p × HasStep self.now p (Some letter) q)) }
     {
         let mut set = StateSet::new(alloc, self.states())?;
         for q in from.members() {
@@ -102,7 +106,8 @@ impl<L: LabelSet> Nfa<L> {
         requires state { q < states self.now }
         requires set { set.old.count ≡ states self.now }
         ensures count { set.new.count ≡ set.old.count }
-        ensures adds { OnOk result (Adds (HasStep self.now q letter) set.old.states set.new.states) }
+        ensures adds { OnOk result (Adds (HasStep self.now q letter) set.old.states
+            set.new.states) }
     {
         for edge in self.edges(q) {
             edge.follow(letter, set)?;

@@ -23,7 +23,8 @@ pub fn parents_of(
 ) -> Result<Vec<u32>, AllocError>
     requires { Refines fine.now coarse.now }
     ensures len { IfOk result (λ parents. vec_len parents ≡ block_count fine.now) }
-    ensures parents { IfOk result (λ parents. (s : ℕ) → s < length fine.now → slice_index parents.items (block_of fine.now s) ≡ block_of coarse.now s) }
+    ensures parents { IfOk result (λ parents. (s : ℕ) → s < length fine.now →
+        slice_index parents.items (block_of fine.now s) ≡ block_of coarse.now s) }
 {
     let mut parents = Vec::with_capacity(alloc, fine.blocks() as usize)?;
     for block in 0..fine.blocks() {
@@ -56,7 +57,8 @@ fn put<M: LabelSet>(alloc: Global, set: &mut M, letter: u32, is_in: bool) -> Res
     requires lacking { has (M.letters set.old) letter ≡ false }
     ensures size { OnOk result (length (M.letters set.new) ≡ length (M.letters set.old)) }
     ensures here { OnOk result (has (M.letters set.new) letter ≡ is_in) }
-    ensures others { OnOk result ((k : ℕ) → k ≢ letter → has (M.letters set.new) k ≡ has (M.letters set.old) k) }
+    ensures others { OnOk result ((k : ℕ) → k ≢ letter → has (M.letters set.new) k
+        ≡ has (M.letters set.old) k) }
 {
     if is_in {
         set.add(alloc, letter)?;
@@ -72,7 +74,8 @@ fn relabelled_edge<L: LabelSet, M: LabelSet>(
 ) -> Result<Edge<M>, AllocError>
     requires few { length parents.now < 2 ^ 32 }
     requires fits { M.fits (length parents.now) }
-    ensures { IfOk result (λ new. move_of M.letters new ≡ relabelled_move parents.now (move_of L.letters edge.now)) }
+    ensures { IfOk result (λ new. move_of M.letters new
+        ≡ relabelled_move parents.now (move_of L.letters edge.now)) }
 {
     match &edge.label {
         Some(set) => Ok(Edge {
@@ -94,7 +97,8 @@ fn relabelled_edges<L: LabelSet, M: LabelSet>(
 ) -> Result<Vec<Edge<M>>, AllocError>
     requires few { length parents.now < 2 ^ 32 }
     requires fits { M.fits (length parents.now) }
-    ensures { IfOk result (λ new. map (move_of M.letters) new.items ≡ map (relabelled_move parents.now) (map (move_of L.letters) edges.now)) }
+    ensures { IfOk result (λ new. map (move_of M.letters) new.items
+        ≡ map (relabelled_move parents.now) (map (move_of L.letters) edges.now)) }
 {
     let mut new = Vec::with_capacity(alloc, edges.len())?;
     for edge in edges {
@@ -134,8 +138,11 @@ impl<L: LabelSet> Nfa<L> {
         requires fits { M.fits (block_count to.now) }
         ensures letters { IfOk result (λ nfa. nfa.letters ≡ block_count to.now) }
         ensures states { IfOk result (λ nfa. states nfa ≡ states self.now) }
-        ensures reached { IfOk result (λ nfa. (q : ℕ) (w : List ℕ) → All (λ s. s < length to.now) w → Reach nfa q (blocks_of to.now w) ↔ Reach self.now q (blocks_of from.now w)) }
-        ensures language { IfOk result (λ nfa. (w : List ℕ) → All (λ s. s < length to.now) w → Accepts nfa (blocks_of to.now w) ↔ Accepts self.now (blocks_of from.now w)) }
+        ensures reached { IfOk result (λ nfa. (q : ℕ) (w : List ℕ) →
+            All (λ s. s < length to.now) w → Reach nfa q (blocks_of to.now w) ↔
+            Reach self.now q (blocks_of from.now w)) }
+        ensures language { IfOk result (λ nfa. (w : List ℕ) → All (λ s. s < length to.now) w →
+            Accepts nfa (blocks_of to.now w) ↔ Accepts self.now (blocks_of from.now w)) }
     {
         let letters = to.blocks();
         let parents = parents_of(alloc, from, to)?;

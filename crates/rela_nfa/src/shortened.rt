@@ -36,7 +36,8 @@ fn is_step<L: LabelSet>(nfa: &Nfa<L>, q: usize) -> bool
 fn pulled<'a, L: LabelSet>(nfa: &'a Nfa<L>, end: usize, edge: &'a Edge<L>) -> &'a Edge<L>
     requires state { end < states nfa.now }
     requires lead { edge.now.to < states nfa.now }
-    ensures pulled { move_of L.letters result.now ≡ pulled nfa.now end (move_of L.letters edge.now) }
+    ensures pulled { move_of L.letters result.now
+        ≡ pulled nfa.now end (move_of L.letters edge.now) }
     ensures lead { result.now.to < states nfa.now }
 {
     if edge.label.is_none() && is_step(nfa, end) {
@@ -53,7 +54,8 @@ fn redirected<L: LabelSet>(
     edge: &Edge<L>,
 ) -> Result<Edge<L>, AllocError>
     requires { edge.now.to < length ends.now }
-    ensures { IfOk result (λ new. move_of L.letters new ≡ redirected ends.now (move_of L.letters edge.now)) }
+    ensures { IfOk result (λ new. move_of L.letters new
+        ≡ redirected ends.now (move_of L.letters edge.now)) }
 {
     let to = ends[edge.to];
     match &edge.label {
@@ -76,7 +78,8 @@ fn add_direct<L: LabelSet>(
     requires state { q < states nfa.now }
     requires count { length ends.now ≡ states nfa.now }
     requires ends { All (λ end. end < states nfa.now) ends.now }
-    ensures { OnOk result (map (move_of L.letters) direct.new.items ≡ map (move_of L.letters) direct.old.items ++ direct_moves nfa.now ends.now q) }
+    ensures { OnOk result (map (move_of L.letters) direct.new.items
+        ≡ map (move_of L.letters) direct.old.items ++ direct_moves nfa.now ends.now q) }
 {
     let edges = nfa.edges(q);
     for edge in edges {
@@ -94,7 +97,8 @@ fn direct_lists<L: LabelSet>(
 ) -> Result<EdgeLists<L>, AllocError>
     requires count { length ends.now ≡ states nfa.now }
     requires ends { All (λ end. end < states nfa.now) ends.now }
-    ensures { IfOk result (λ edges. edges ≡ map (direct_moves nfa.now ends.now) (range_with_len 0 (states nfa.now))) }
+    ensures { IfOk result (λ edges. edges
+        ≡ map (direct_moves nfa.now ends.now) (range_with_len 0 (states nfa.now))) }
 {
     let mut edges = EdgeLists::with_capacity(alloc, nfa.states())?;
     let mut direct = Vec::new(alloc);
@@ -136,11 +140,15 @@ impl<L: LabelSet> Nfa<L> {
         ensures letters { IfOk result (λ nfa. nfa.letters ≡ self.now.letters) }
         ensures states { IfOk result (λ nfa. states nfa ≡ states self.now) }
         ensures finals { IfOk result (λ nfa. nfa.finals ≡ self.now.finals) }
-        ensures edges { IfOk result (λ nfa. (p : ℕ) → length (moves_of nfa p) ≡ length (moves_of self.now p)) }
+        ensures edges { IfOk result (λ nfa. (p : ℕ) → length (moves_of nfa p)
+            ≡ length (moves_of self.now p)) }
         ensures begins { IfOk result (λ nfa. IsEnd self.now nfa.start) }
-        ensures direct { IfOk result (λ nfa. (p : ℕ) (move : Move) → Contains (moves_of nfa p) move → IsEnd self.now move.to) }
-        ensures pulled { IfOk result (λ nfa. (p q : ℕ) → HasStep nfa p None q → is_step self.now q ≡ false) }
-        ensures reached { IfOk result (λ nfa. (q : ℕ) (w : List ℕ) → Reach nfa q w → Reach self.now q w) }
+        ensures direct { IfOk result (λ nfa. (p : ℕ) (move : Move) →
+            Contains (moves_of nfa p) move → IsEnd self.now move.to) }
+        ensures pulled { IfOk result (λ nfa. (p q : ℕ) → HasStep nfa p None q →
+            is_step self.now q ≡ false) }
+        ensures reached { IfOk result (λ nfa. (q : ℕ) (w : List ℕ) → Reach nfa q w →
+            Reach self.now q w) }
         ensures language { IfOk result (λ nfa. (w : List ℕ) → Accepts nfa w ↔ Accepts self.now w) }
     {
         let ends = detour_ends(alloc, self)?;

@@ -44,8 +44,10 @@ impl<L: LabelSet> Nfa<L> {
         ensures letters { IfOk result (λ nfa. nfa.letters ≡ letters) }
         ensures states { IfOk result (λ nfa. states nfa ≡ 2) }
         ensures start { IfOk result (λ nfa. (w : List ℕ) → Reach nfa 0 w ↔ (w ≡ [])) }
-        ensures end { IfOk result (λ nfa. (w : List ℕ) → Reach nfa 1 w ↔ IsLetterOf (L.letters set.now) w) }
-        ensures language { IfOk result (λ nfa. (w : List ℕ) → Accepts nfa w ↔ IsLetterOf (L.letters set.now) w) }
+        ensures end { IfOk result (λ nfa. (w : List ℕ) → Reach nfa 1 w ↔
+            IsLetterOf (L.letters set.now) w) }
+        ensures language { IfOk result (λ nfa. (w : List ℕ) → Accepts nfa w ↔
+            IsLetterOf (L.letters set.now) w) }
     {
         let finals = Vec::from_slice(alloc, &[false, true])?;
         let edges = edges_of_letter(alloc, set.copy(alloc)?)?;
@@ -64,7 +66,8 @@ impl<L: LabelSet> Nfa<L> {
         requires letters { All (λ k. k < letters) word.now }
         ensures letters { IfOk result (λ nfa. nfa.letters ≡ letters) }
         ensures states { IfOk result (λ nfa. states nfa ≡ length word.now + 1) }
-        ensures reached { IfOk result (λ nfa. (q : ℕ) (w : List ℕ) → Reach nfa q w ↔ ((q ≤ length word.now) × (w ≡ take q word.now))) }
+        ensures reached { IfOk result (λ nfa. (q : ℕ) (w : List ℕ) → Reach nfa q w ↔
+            ((q ≤ length word.now) × (w ≡ take q word.now))) }
         ensures language { IfOk result (λ nfa. (w : List ℕ) → Accepts nfa w ↔ (w ≡ word.now)) }
     {
         let mut finals = vec![in alloc; false; word.len()]?;
@@ -126,7 +129,8 @@ fn add_link<L: LabelSet>(
 ) -> Result<(), AllocError>
     requires room { length edges.old < 2 ^ 63 }
     requires empty { leaving.old.items ≡ [] }
-    ensures edges { OnOk result (edges.new ≡ edges.old ++ link_by (L.letters set) (length edges.old) ∷ []) }
+    ensures edges { OnOk result (edges.new ≡ edges.old ++ link_by (L.letters set) (length edges.old)
+        ∷ []) }
     ensures empty { OnOk result (leaving.new.items ≡ []) }
 {
     let next = edges.len() + 1;

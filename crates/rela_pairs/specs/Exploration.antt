@@ -10,9 +10,11 @@ pub record Exploration : Type 0 where
 -- the numbers of each pair are those of its next ones, in their order
 abbrev pub NumbersNext : (Pair → List Pair) → Exploration → Type 0
 NumbersNext next e =
-    (k : ℕ) (x : Pair) → slice_get e.pairs k ≡ Some x → map (slice_get e.pairs) (slice_index_or e.targets k []) ≡ map Some (next x)
+    (k : ℕ) (x : Pair) → slice_get e.pairs k ≡ Some x →
+    map (slice_get e.pairs) (slice_index_or e.targets k []) ≡ map Some (next x)
 
 -- each pair but the first is one of the next of an earlier one
 abbrev pub FoundEarlier : (Pair → List Pair) → Exploration → Type 0
 FoundEarlier next e =
-    (k : ℕ) (x : Pair) → 0 < k → slice_get e.pairs k ≡ Some x → (j : ℕ) × (y : Pair) × (j < k) × (slice_get e.pairs j ≡ Some y) × Contains (next y) x
+    (k : ℕ) (x : Pair) → 0 < k → slice_get e.pairs k ≡ Some x → (j : ℕ) × (y : Pair) × (j < k)
+    × (slice_get e.pairs j ≡ Some y) × Contains (next y) x

@@ -29,4 +29,5 @@ pub record AreTold (shape : Shape) (pairs : List Pair) (numbers : List (Option �
   pub small : length numbers ≤ 2 ^ 20
   pub distinct : AreDistinct pairs
   pub fit : All (Fits shape) pairs
-  pub told : (x : Pair) → Fits shape x → Tells pairs x (slice_index_or numbers (place_of shape x) None)
+  pub told : (x : Pair) → Fits shape x →
+      Tells pairs x (slice_index_or numbers (place_of shape x) None)

@@ -31,7 +31,8 @@ pub fn explore<S: Successors>(
     requires limit { 1 ≤ limit }
     ensures distinct { IfOk result (λ e. AreDistinct e.pairs) }
     ensures first { IfOk result (λ e. slice_get e.pairs 0 ≡ Some start) }
-    ensures reachable { IfOk result (λ e. (x : Pair) → Contains e.pairs x ↔ Reachable (S.next successors.now) start x) }
+    ensures reachable { IfOk result (λ e. (x : Pair) → Contains e.pairs x ↔
+        Reachable (S.next successors.now) start x) }
     ensures one_list_each { IfOk result (λ e. length e.targets ≡ length e.pairs) }
     ensures targets { IfOk result (λ e. NumbersNext (S.next successors.now) e) }
     ensures earlier { IfOk result (λ e. FoundEarlier (S.next successors.now) e) }
@@ -39,7 +40,8 @@ pub fn explore<S: Successors>(
 
     // The limit, exactly.
     ensures within { IfOk result (λ _. ¬ MoreThan limit (Reachable (S.next successors.now) start)) }
-    ensures limit { IfErr result (λ e. e ≡ BuildError.Limit → MoreThan limit (Reachable (S.next successors.now) start)) }
+    ensures limit { IfErr result (λ e. e ≡ BuildError.Limit →
+        MoreThan limit (Reachable (S.next successors.now) start)) }
     ensures greatest { limit ≡ usize.MAX → IfErr result (λ e. e ≢ BuildError.Limit) }
 {
     let mut found = Found::new(alloc, successors.shape())?;

@@ -51,7 +51,8 @@ impl Found {
     /// The number of a pair, which is put in unless it is there.
     fn find(&mut self, pair: Pair) -> Result<usize, AllocError>
         requires { Takes self.old pair }
-        ensures numbered { IfOk result (λ number. slice_get (pairs_of self.new) number ≡ Some pair) }
+        ensures numbered { IfOk result (λ number.
+            slice_get (pairs_of self.new) number ≡ Some pair) }
         ensures finds { IfOk result (λ _. Finds (pairs_of self.old) (pairs_of self.new) pair) }
         ensures takes { (x : Pair) → Takes self.old x → Takes self.new x }
     {
@@ -66,10 +67,12 @@ impl Found {
     pub(crate) fn number(&mut self, pair: Pair, limit: usize) -> Result<usize, BuildError>
         requires few { length (pairs_of self.old) ≤ limit }
         requires takes { Takes self.old pair }
-        ensures numbered { IfOk result (λ number. slice_get (pairs_of self.new) number ≡ Some pair) }
+        ensures numbered { IfOk result (λ number.
+            slice_get (pairs_of self.new) number ≡ Some pair) }
         ensures finds { IfOk result (λ _. Finds (pairs_of self.old) (pairs_of self.new) pair) }
         ensures few { IfOk result (λ _. length (pairs_of self.new) ≤ limit) }
-        ensures limit { IfErr result (λ e. e ≡ BuildError.Limit → Passes limit (pair ∷ []) (pairs_of self.old) (pairs_of self.new)) }
+        ensures limit { IfErr result (λ e. e ≡ BuildError.Limit →
+            Passes limit (pair ∷ []) (pairs_of self.old) (pairs_of self.new)) }
         ensures takes { (x : Pair) → Takes self.old x → Takes self.new x }
     {
         let number = self.find(pair)?;
@@ -92,7 +95,8 @@ impl Found {
         ensures numbers { OnOk result (AreNumbers (pairs_of self.new) pairs.now numbers.new.items) }
         ensures grows { OnOk result (GrowsBy pairs.now (pairs_of self.old) (pairs_of self.new)) }
         ensures few { OnOk result (length (pairs_of self.new) ≤ limit) }
-        ensures limit { IfErr result (λ e. e ≡ BuildError.Limit → Passes limit pairs.now (pairs_of self.old) (pairs_of self.new)) }
+        ensures limit { IfErr result (λ e. e ≡ BuildError.Limit →
+            Passes limit pairs.now (pairs_of self.old) (pairs_of self.new)) }
         ensures takes { (x : Pair) → Takes self.old x → Takes self.new x }
     {
         numbers.clear();

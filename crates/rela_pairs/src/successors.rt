@@ -30,6 +30,7 @@ pub trait Successors {
         followers: &mut Vec<Pair>,
     ) -> Result<(), AllocError>
         requires { is_pair self.now pair }
-        ensures next { OnOk result (followers.new.items ≡ followers.old.items ++ next self.now pair) }
+        ensures next { OnOk result (followers.new.items ≡ followers.old.items
+            ++ next self.now pair) }
         ensures pairs { OnOk result (All (is_pair self.now) (next self.now pair)) };
 }

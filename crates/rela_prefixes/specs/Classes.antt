@@ -16,7 +16,8 @@ IsCut prefixes c = Any (λ p. IsStrictlyWithin p c) prefixes
 -- A class is not cut, and it is all addresses or its parent is cut.
 pub record IsClass (prefixes : List Ipv4Prefix) (c : Ipv4Prefix) : Type 0 where
   pub uncut : All (λ p. ¬ IsStrictlyWithin p c) prefixes
-  pub parent_cut : (c.length ≡ 0) ⊎ ((parent : Ipv4Prefix) × IsParent parent c × IsCut prefixes parent)
+  pub parent_cut : (c.length ≡ 0) ⊎ ((parent : Ipv4Prefix) × IsParent parent c
+      × IsCut prefixes parent)
 
 -- each begins where the one before it ends, the first at the first number, and the last ends before the second
 abbrev pub Adjoin : ℕ → List Ipv4Prefix → ℕ → Type 0
@@ -28,7 +29,8 @@ pub record IsInOne (prefixes : List Ipv4Prefix) (a k : ℕ) : Type 0 where
   pub prefix : Ipv4Prefix
   pub at : slice_get prefixes k ≡ Some prefix
   pub holds : Holds prefix a
-  pub alone : (j : ℕ) (other : Ipv4Prefix) → slice_get prefixes j ≡ Some other → Holds other a → j ≡ k
+  pub alone : (j : ℕ) (other : Ipv4Prefix) → slice_get prefixes j ≡ Some other →
+      Holds other a → j ≡ k
 
 -- the classes of some prefixes, in the order of their addresses
 pub record AreClasses (prefixes classes : List Ipv4Prefix) : Type 0 where

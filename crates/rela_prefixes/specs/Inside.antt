@@ -18,9 +18,11 @@ pub record IsNumbered (prefixes : List Ipv4Prefix) (cell : Ipv4Prefix) (n : Numb
   pub inside : IsInside cell n.prefix
 
 -- those prefixes of the list that lie inside the cell, with their places
-pub record AreInside (prefixes : List Ipv4Prefix) (cell : Ipv4Prefix) (ns : List Numbered) : Type 0 where
+pub record AreInside (prefixes : List Ipv4Prefix) (cell : Ipv4Prefix)
+    (ns : List Numbered) : Type 0 where
   pub each : All (IsNumbered prefixes cell) ns
-  pub every : (k : ℕ) (p : Ipv4Prefix) → slice_get prefixes k ≡ Some p → IsInside cell p → Contains ns (record { prefix = p; number = k })
+  pub every : (k : ℕ) (p : Ipv4Prefix) → slice_get prefixes k ≡ Some p → IsInside cell p →
+      Contains ns (record { prefix = p; number = k })
 
 -- the prefix holds the cell and is shorter
 pub record IsAbove (cell p : Ipv4Prefix) : Type 0 where
@@ -33,14 +35,17 @@ LongestAbove prefixes cell = LongestWanted (IsAbove cell) prefixes
 
 -- the cell is all addresses, or its parent is cut
 abbrev pub IsReached : List Ipv4Prefix → Ipv4Prefix → Type 0
-IsReached prefixes c = (c.length ≡ 0) ⊎ ((parent : Ipv4Prefix) × IsParent parent c × IsCut prefixes parent)
+IsReached prefixes c = (c.length ≡ 0) ⊎ ((parent : Ipv4Prefix) × IsParent parent c
+    × IsCut prefixes parent)
 
 -- where the upper half of the cell begins
 abbrev pub middle_of : Ipv4Prefix → ℕ
-middle_of cell = if nat_lt cell.length 32 then cell.address + 2 ^ (31 - cell.length) else cell.address
+middle_of cell = if nat_lt cell.length 32 then cell.address + 2 ^ (31 - cell.length)
+    else cell.address
 
 -- what is known of a cell: the prefixes inside it, the longest above it, and that it is reached
-pub record IsKnown (prefixes : List Ipv4Prefix) (cell : Ipv4Prefix) (ns : List Numbered) (longest : Option ℕ) : Type 0 where
+pub record IsKnown (prefixes : List Ipv4Prefix) (cell : Ipv4Prefix) (ns : List Numbered)
+    (longest : Option ℕ) : Type 0 where
   pub inside : AreInside prefixes cell ns
   pub above : LongestAbove prefixes cell longest
   pub reached : IsReached prefixes cell
@@ -48,4 +53,5 @@ pub record IsKnown (prefixes : List Ipv4Prefix) (cell : Ipv4Prefix) (ns : List N
 -- all prefixes of the list, with their places
 pub record AreNumbered (prefixes : List Ipv4Prefix) (ns : List Numbered) : Type 0 where
   pub as_many : length ns ≡ length prefixes
-  pub each : (k : ℕ) (p : Ipv4Prefix) → slice_get prefixes k ≡ Some p → slice_get ns k ≡ Some (record { prefix = p; number = k })
+  pub each : (k : ℕ) (p : Ipv4Prefix) → slice_get prefixes k ≡ Some p → slice_get ns k
+      ≡ Some (record { prefix = p; number = k })

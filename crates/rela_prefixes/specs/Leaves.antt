@@ -26,4 +26,5 @@ pub record AreLeaves (prefixes : List Ipv4Prefix) (from to : ℕ) (leaves : List
 unfoldable pub HasLeaves : Ipv4Prefix → List Numbered → Option ℕ → List Leaf → List Leaf → Type 0
 HasLeaves cell inside above old new =
     (prefixes : List Ipv4Prefix) → IsKnown prefixes cell inside above
-    → (more : List Leaf) × (new ≡ old ++ more) × AreLeaves prefixes cell.address (cell.address + 2 ^ (32 - cell.length)) more
+    → (more : List Leaf) × (new ≡ old ++ more) × AreLeaves prefixes cell.address (cell.address
+    + 2 ^ (32 - cell.length)) more

@@ -5,7 +5,8 @@ use Rattle.rela_flows.specs.declared.prefix.Ipv4Prefix.{Ipv4Prefix}
 use Rattle.rela_prefixes.specs.Holding.{Holds}
 
 -- the prefix at the place k is wanted, and no wanted one is longer
-pub record IsLongest (Wanted : Ipv4Prefix → Type 0) (prefixes : List Ipv4Prefix) (k : ℕ) : Type 0 where
+pub record IsLongest (Wanted : Ipv4Prefix → Type 0) (prefixes : List Ipv4Prefix)
+    (k : ℕ) : Type 0 where
   pub prefix : Ipv4Prefix
   pub at : slice_get prefixes k ≡ Some prefix
   pub wanted : Wanted prefix

@@ -72,7 +72,8 @@ impl PrefixTable {
 /// How many of the leaves begin at the address or before it. Time: a binary search.
 fn place_after(leaves: &[Leaf], address: u32) -> usize
     requires { IsNonDecreasingBy (λ leaf. leaf.cell.address) leaves.now }
-    ensures parted { IsPartitionPoint (λ leaf. leaf.cell.address ≤ address) (λ leaf. address < leaf.cell.address) leaves.now result }
+    ensures parted { IsPartitionPoint (λ leaf. leaf.cell.address ≤ address) (λ leaf. address
+        < leaf.cell.address) leaves.now result }
     ensures within { result ≤ length leaves.now }
 {
     leaves.partition_point(|leaf| leaf.cell.address <= address)

@@ -24,4 +24,5 @@ class_opening true = codes "[^"
 class_opening false = codes "["
 
 unfoldable pub class_text : Bool → List Member → List ℕ
-class_text negated members = class_opening negated ++ (joined (codes " ") member_text members ++ codes "]")
+class_text negated members = class_opening negated
+    ++ (joined (codes " ") member_text members ++ codes "]")

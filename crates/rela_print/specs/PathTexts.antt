@@ -16,7 +16,10 @@ abbrev pub postfixed : Printed → List ℕ → Printed
 postfixed part mark = record { binding = 5; text = within 5 part ++ mark }
 
 abbrev pub chain : ℕ → List ℕ → List Printed → Printed
-chain binding between parts = record { binding = binding; text = joined between (within binding) parts }
+chain binding between parts = record {
+  binding = binding;
+  text = joined between (within binding) parts;
+}
 
 -- one layer of a path expression, with each part printed
 abbrev pub path_layer : PathExpr-F Printed → Printed

@@ -23,9 +23,13 @@ check_words true = codes "check atmost "
 check_words false = codes "check "
 
 unfoldable pub item_line : Item → List ℕ
-item_line (item.Path name at body) = codes "path " ++ (name_text name ++ (codes " = " ++ (path_text body ++ codes ";\n")))
-item_line (item.Spec name at body) = codes "spec " ++ (name_text name ++ (codes " = " ++ (spec_text body ++ codes ";\n")))
-item_line (item.Check at_most name at when body) = check_words at_most ++ (name_text name ++ (condition_text when ++ (codes " : " ++ (spec_text body ++ codes ";\n"))))
+item_line (item.Path name at body) = codes "path "
+    ++ (name_text name ++ (codes " = " ++ (path_text body ++ codes ";\n")))
+item_line (item.Spec name at body) = codes "spec "
+    ++ (name_text name ++ (codes " = " ++ (spec_text body ++ codes ";\n")))
+item_line (item.Check at_most name at when body) =
+    check_words at_most ++ (name_text name
+    ++ (condition_text when ++ (codes " : " ++ (spec_text body ++ codes ";\n"))))
 
 unfoldable pub lines : List Item → List ℕ
 lines [] = []

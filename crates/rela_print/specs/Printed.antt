@@ -8,4 +8,5 @@ pub record Printed : Type 0 where
 
 -- the text as that of a part, in parentheses unless it binds more tightly than the whole
 unfoldable pub within : ℕ → Printed → List ℕ
-within above part = if nat_lt above part.binding then part.text else codes "(" ++ (part.text ++ codes ")")
+within above part = if nat_lt above part.binding then part.text else codes "("
+    ++ (part.text ++ codes ")")

@@ -62,7 +62,8 @@ spec_at_zero = fold-SpecExpr SpecExpr spec_layer_at_zero
 abbrev pub item_at_zero : Item → Item
 item_at_zero (item.Path name at body) = item.Path name 0 (path_at_zero body)
 item_at_zero (item.Spec name at body) = item.Spec name 0 (spec_at_zero body)
-item_at_zero (item.Check at_most name at when body) = item.Check at_most name 0 when (spec_at_zero body)
+item_at_zero (item.Check at_most name at when body) =
+    item.Check at_most name 0 when (spec_at_zero body)
 
 unfoldable pub file_at_zero : SpecFile → SpecFile
 file_at_zero file = record { level = file.level; items = map item_at_zero file.items }

@@ -18,13 +18,15 @@ unfoldable pub modifier_text : Modifier PathExpr → List ℕ
 modifier_text modifier.Preserve = codes "preserve"
 modifier_text (modifier.Add p) = codes "add(" ++ (path_text p ++ codes ")")
 modifier_text (modifier.Remove p) = codes "remove(" ++ (path_text p ++ codes ")")
-modifier_text (modifier.Replace p q) = codes "replace(" ++ (path_text p ++ (codes ", " ++ (path_text q ++ codes ")")))
+modifier_text (modifier.Replace p q) = codes "replace("
+    ++ (path_text p ++ (codes ", " ++ (path_text q ++ codes ")")))
 modifier_text modifier.Drop = codes "drop"
 modifier_text (modifier.AnyOf p) = codes "any(" ++ (path_text p ++ codes ")")
 modifier_text (modifier.Ignore p) = codes "ignore(" ++ (path_text p ++ codes ")")
 
 unfoldable pub unit_text : PathExpr → Modifier PathExpr → List ℕ
-unit_text zone m = codes "{ " ++ (path_text zone ++ (codes " : " ++ (modifier_text m ++ codes " }")))
+unit_text zone m = codes "{ " ++ (path_text zone
+    ++ (codes " : " ++ (modifier_text m ++ codes " }")))
 
 -- one layer of a specification, with each part printed
 abbrev pub spec_layer : SpecExpr-F Printed → Printed

@@ -78,7 +78,8 @@ fn push_item(out: &mut Vec<u8>, item: &Item) -> Result<(), AllocError>
 
 /// Appends what stands before the body of a definition.
 fn push_definition(out: &mut Vec<u8>, word: &[u8], name: &Name) -> Result<(), AllocError>
-    ensures { OnOk result (out.new.items ≡ out.old.items ++ (word.now ++ (name_text name.now ++ codes " = "))) }
+    ensures { OnOk result (out.new.items ≡ out.old.items
+        ++ (word.now ++ (name_text name.now ++ codes " = "))) }
 {
     out.extend_from_slice(word)?;
     push_name(out, name)?;
@@ -92,7 +93,9 @@ fn push_check(
     name: &Name,
     when: &Predicate,
 ) -> Result<(), AllocError>
-    ensures { OnOk result (out.new.items ≡ out.old.items ++ (check_words at_most ++ (name_text name.now ++ (condition_text when.now ++ codes " : ")))) }
+    ensures { OnOk result (out.new.items ≡ out.old.items
+        ++ (check_words at_most ++ (name_text name.now ++ (condition_text when.now
+        ++ codes " : ")))) }
 {
     out.extend_from_slice(check_words(at_most))?;
     push_name(out, name)?;

@@ -32,7 +32,8 @@ fn class_opening(negated: bool) -> &'static [u8]
 
 /// Appends the members, with a blank between each two.
 fn push_members(out: &mut Vec<u8>, members: &[Member]) -> Result<(), AllocError>
-    ensures { OnOk result (out.new.items ≡ out.old.items ++ joined (codes " ") member_text members.now) }
+    ensures { OnOk result (out.new.items ≡ out.old.items
+        ++ joined (codes " ") member_text members.now) }
 {
     let Some((first, others)) = members.split_first() else {
         return Ok(());

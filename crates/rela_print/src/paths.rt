@@ -98,7 +98,8 @@ fn push_part(out: &mut Vec<u8>, part: &PathExpr, above: u8) -> Result<(), AllocE
 /// Appends the part and then `mark`, which repeats it or begins what repeats it.
 #[cycle(push_path)]
 fn push_postfix(out: &mut Vec<u8>, part: &PathExpr, mark: &[u8]) -> Result<(), AllocError>
-    ensures { OnOk result (out.new.items ≡ out.old.items ++ (within 5 (printed_path part.now) ++ mark.now)) }
+    ensures { OnOk result (out.new.items ≡ out.old.items
+        ++ (within 5 (printed_path part.now) ++ mark.now)) }
 {
     push_part(out, part, POSTFIX)?;
     out.extend_from_slice(mark)
@@ -112,7 +113,8 @@ fn push_parts(
     above: u8,
     between: &[u8],
 ) -> Result<(), AllocError>
-    ensures { OnOk result (out.new.items ≡ out.old.items ++ joined between.now (λ part. within above (printed_path part)) parts.now) }
+    ensures { OnOk result (out.new.items ≡ out.old.items ++ joined between.now (λ part.
+        within above (printed_path part)) parts.now) }
 {
     let Some((first, others)) = parts.split_first() else {
         return Ok(());

@@ -76,7 +76,8 @@ fn is_all(predicate: &Predicate) -> bool
 #[tactic(auto, using(crate::proofs::PrintedPredicates::predicate_forms))]
 #[cycle(push_predicate)]
 fn push_predicate(out: &mut Vec<u8>, predicate: &Predicate) -> Result<(), AllocError>
-    ensures { OnOk result (out.new.items ≡ out.old.items ++ (printed_predicate predicate.now).text) }
+    ensures { OnOk result (out.new.items ≡ out.old.items
+        ++ (printed_predicate predicate.now).text) }
 {
     match predicate {
         Predicate::All => out.extend_from_slice(b"all"),
@@ -106,7 +107,8 @@ fn push_predicate(out: &mut Vec<u8>, predicate: &Predicate) -> Result<(), AllocE
 #[tactic(auto, unfolding(crate::specs::Printed::within))]
 #[cycle(push_predicate)]
 fn push_part(out: &mut Vec<u8>, part: &Predicate, above: u8) -> Result<(), AllocError>
-    ensures { OnOk result (out.new.items ≡ out.old.items ++ within above (printed_predicate part.now)) }
+    ensures { OnOk result (out.new.items ≡ out.old.items
+        ++ within above (printed_predicate part.now)) }
 {
     if above < binding_of(part) {
         return push_predicate(out, part);
@@ -124,7 +126,8 @@ fn push_parts(
     above: u8,
     between: &[u8],
 ) -> Result<(), AllocError>
-    ensures { OnOk result (out.new.items ≡ out.old.items ++ joined between.now (λ part. within above (printed_predicate part)) parts.now) }
+    ensures { OnOk result (out.new.items ≡ out.old.items ++ joined between.now (λ part.
+        within above (printed_predicate part)) parts.now) }
 {
     let Some((first, others)) = parts.split_first() else {
         return Ok(());

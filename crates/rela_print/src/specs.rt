@@ -68,7 +68,8 @@ fn push_parts(
     above: u8,
     between: &[u8],
 ) -> Result<(), AllocError>
-    ensures { OnOk result (out.new.items ≡ out.old.items ++ joined between.now (λ part. within above (printed_spec part)) parts.now) }
+    ensures { OnOk result (out.new.items ≡ out.old.items ++ joined between.now (λ part.
+        within above (printed_spec part)) parts.now) }
 {
     let Some((first, others)) = parts.split_first() else {
         return Ok(());
@@ -121,7 +122,8 @@ fn push_modifier(out: &mut Vec<u8>, modifier: &Modifier<PathExpr>) -> Result<(),
 
 /// Appends `opening`, the path expression and a closing bracket.
 fn push_call(out: &mut Vec<u8>, opening: &[u8], path: &PathExpr) -> Result<(), AllocError>
-    ensures { OnOk result (out.new.items ≡ out.old.items ++ (opening.now ++ (path_text path.now ++ codes ")"))) }
+    ensures { OnOk result (out.new.items ≡ out.old.items
+        ++ (opening.now ++ (path_text path.now ++ codes ")"))) }
 {
     out.extend_from_slice(opening)?;
     push_path(out, path)?;

@@ -24,7 +24,10 @@ pub record IsPlain (p : Plain) : Type 0 where
 
 -- the edge of an arrow, where the labels have these numbers
 abbrev pub labelled : List (List Bool) → Arrow → Move
-labelled labels arrow = record { label = option_map (λ k. slice_index_or labels k []) arrow.label; to = arrow.to }
+labelled labels arrow = record {
+  label = option_map (λ k. slice_index_or labels k []) arrow.label;
+  to = arrow.to;
+}
 
 -- the edges of the arrows of each state
 abbrev pub edges_by : List (List Bool) → List (List Arrow) → List (List Move)
@@ -32,4 +35,9 @@ edges_by labels arrows = map (map (labelled labels)) arrows
 
 -- the automaton with these labels, over this number of letters
 abbrev pub automaton_of : ℕ → List (List Bool) → Plain → Automaton
-automaton_of letters labels p = record { letters = letters; start = p.start; finals = p.finals; edges = edges_by labels p.arrows }
+automaton_of letters labels p = record {
+  letters = letters;
+  start = p.start;
+  finals = p.finals;
+  edges = edges_by labels p.arrows;
+}

@@ -15,7 +15,8 @@ arrows_of arrows q = slice_index_or arrows q []
 -- silent arrows lead from p to each state of the list in turn, and at last to q
 abbrev pub BySilent : List (List Arrow) → ℕ → List ℕ → ℕ → Type 0
 BySilent arrows p [] q = p ≡ q
-BySilent arrows p (r ∷ rest) q = Contains (arrows_of arrows p) (record { label = None; to = r }) × BySilent arrows r rest q
+BySilent arrows p (r ∷ rest) q = Contains (arrows_of arrows p) (record { label = None; to = r })
+    × BySilent arrows r rest q
 
 -- silent arrows lead from p to q, which may be p
 abbrev pub Silently : List (List Arrow) → ℕ → ℕ → Type 0
@@ -23,18 +24,21 @@ Silently arrows p q = (path : List ℕ) × BySilent arrows p path q
 
 -- the step is by a labelled arrow of a state to which silent arrows lead from p
 abbrev pub IsStepFrom : List (List Arrow) → ℕ → Step → Type 0
-IsStepFrom arrows p step = (c : ℕ) × Silently arrows p c × Contains (arrows_of arrows c) (record { label = Some step.label; to = step.to })
+IsStepFrom arrows p step = (c : ℕ) × Silently arrows p c
+    × Contains (arrows_of arrows c) (record { label = Some step.label; to = step.to })
 
 -- each letter of the one label is in the other
 abbrev pub IsWithin : List (List Bool) → ℕ → ℕ → Type 0
-IsWithin labels k l = (letter : ℕ) → has (slice_index_or labels k []) letter ≡ true → has (slice_index_or labels l []) letter ≡ true
+IsWithin labels k l = (letter : ℕ) → has (slice_index_or labels k []) letter ≡ true →
+    has (slice_index_or labels l []) letter ≡ true
 
 -- the flags are set for labels of which the one is within the other alone
 abbrev pub AreWithin : List (List Bool) → List (List Bool) → Type 0
 AreWithin labels flags = (k l : ℕ) → IsSet flags k l → IsWithin labels k l
 
 -- one of the steps is by each letter of the label k, to a state that simulates t
-pub record HasAnswer (within relation : List (List Bool)) (steps : List Step) (k t : ℕ) : Type 0 where
+pub record HasAnswer (within relation : List (List Bool)) (steps : List Step)
+    (k t : ℕ) : Type 0 where
   pub step : Step
   pub listed : Contains steps step
   pub label : IsSet within k step.label
@@ -43,14 +47,19 @@ pub record HasAnswer (within relation : List (List Bool)) (steps : List Step) (k
 -- the state p, which has these steps, can go along with the arrow: where that is silent, p simulates its end
 abbrev pub IsAnswered : List (List Bool) → List (List Bool) → ℕ → List Step → Arrow → Type 0
 IsAnswered within relation p steps arrow =
-    MatchOption arrow.label (IsSet relation p arrow.to) (λ k. HasAnswer within relation steps k arrow.to)
+    MatchOption arrow.label (IsSet relation p arrow.to) (λ k.
+    HasAnswer within relation steps k arrow.to)
 
 -- p can go along with each arrow of q, and where q is final silent arrows lead from p to a final state
-pub record Simulates (labels : List (List Bool)) (n : Plain) (relation : List (List Bool)) (p q : ℕ) : Type 0 where
-  pub final : IsTrue (slice_index_or n.finals q false) → (f : ℕ) × Silently n.arrows p f × IsTrue (slice_index_or n.finals f false)
-  pub silent : (t : ℕ) → Contains (arrows_of n.arrows q) (record { label = None; to = t }) → IsSet relation p t
+pub record Simulates (labels : List (List Bool)) (n : Plain) (relation : List (List Bool))
+    (p q : ℕ) : Type 0 where
+  pub final : IsTrue (slice_index_or n.finals q false) → (f : ℕ) × Silently n.arrows p f
+      × IsTrue (slice_index_or n.finals f false)
+  pub silent : (t : ℕ) → Contains (arrows_of n.arrows q) (record { label = None; to = t }) →
+      IsSet relation p t
   pub labelled : (k t : ℕ) → Contains (arrows_of n.arrows q) (record { label = Some k; to = t })
-      → (step : Step) × IsStepFrom n.arrows p step × IsWithin labels k step.label × IsSet relation step.to t
+      → (step : Step) × IsStepFrom n.arrows p step × IsWithin labels k step.label
+      × IsSet relation step.to t
 
 -- each state simulates those that are set for it
 abbrev pub IsSimulation : List (List Bool) → Plain → List (List Bool) → Type 0
@@ -65,15 +74,20 @@ pub record IsLowering (relation : List (List Bool)) (n p : ℕ) (arrow : Arrow) 
 
 -- the arrows of the state, and silent ones to those that it simulates
 abbrev pub IsWidened : List (List Bool) → ℕ → ℕ → List Arrow → List Arrow → Type 0
-IsWidened relation n p old new = (arrow : Arrow) → Contains new arrow ↔ (Contains old arrow ⊎ IsLowering relation n p arrow)
+IsWidened relation n p old new = (arrow : Arrow) → Contains new arrow ↔
+    (Contains old arrow ⊎ IsLowering relation n p arrow)
 
 -- the steps of each state are such as it may take, silently at first, and the flag is set of states from which silent
 -- arrows lead to a final one
 pub record AreClosed (n : Plain) (steps : List (List Step)) (finals : List Bool) : Type 0 where
-  pub stepped : (p : ℕ) (step : Step) → Contains (slice_index_or steps p []) step → IsStepFrom n.arrows p step
-  pub final : (p : ℕ) → IsTrue (slice_index_or finals p false) → (f : ℕ) × Silently n.arrows p f × IsTrue (slice_index_or n.finals f false)
+  pub stepped : (p : ℕ) (step : Step) → Contains (slice_index_or steps p []) step →
+      IsStepFrom n.arrows p step
+  pub final : (p : ℕ) → IsTrue (slice_index_or finals p false) → (f : ℕ) × Silently n.arrows p f
+      × IsTrue (slice_index_or n.finals f false)
 
 -- by these steps and flags p can go along with q
-pub record GoesAlong (n : Plain) (steps : List (List Step)) (finals : List Bool) (within relation : List (List Bool)) (p q : ℕ) : Type 0 where
+pub record GoesAlong (n : Plain) (steps : List (List Step)) (finals : List Bool)
+    (within relation : List (List Bool)) (p q : ℕ) : Type 0 where
   pub final : IsTrue (slice_index_or n.finals q false) → IsTrue (slice_index_or finals p false)
-  pub answered : All (IsAnswered within relation p (slice_index_or steps p [])) (arrows_of n.arrows q)
+  pub answered : All (IsAnswered within relation p (slice_index_or steps p []))
+      (arrows_of n.arrows q)

@@ -9,4 +9,9 @@ abbrev pub lists_of : {X A : Type 0} → List (Vec X A) → List (List X)
 lists_of lists = map (λ list. list.items) lists
 
 abbrev pub plain : Numbered → Plain
-plain n = record { labels = n.labels; start = n.start; finals = n.finals.items; arrows = lists_of n.arrows.items }
+plain n = record {
+  labels = n.labels;
+  start = n.start;
+  finals = n.finals.items;
+  arrows = lists_of n.arrows.items;
+}

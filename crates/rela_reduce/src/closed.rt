@@ -30,7 +30,8 @@ pub(crate) fn closed_steps(
     most: usize,
 ) -> Result<Option<Closed>, AllocError>
     requires { IsPlain (plain whole.now) }
-    ensures { IfOk result (λ found. IfSome found (λ closed. AreClosed (plain whole.now) (lists_of closed.steps.items) closed.finals.items)) }
+    ensures { IfOk result (λ found. IfSome found (λ closed.
+        AreClosed (plain whole.now) (lists_of closed.steps.items) closed.finals.items)) }
 {
     let mut steps = Vec::with_capacity(alloc, whole.finals.len())?;
     let mut finals = Vec::with_capacity(alloc, whole.finals.len())?;
@@ -53,7 +54,8 @@ pub(crate) fn closed_steps(
 fn silent_ends(alloc: Global, whole: &Numbered, p: usize) -> Result<Vec<usize>, AllocError>
     requires plain { IsPlain (plain whole.now) }
     requires state { p < length whole.now.finals.items }
-    ensures silent { IfOk result (λ ends. All (Silently (lists_of whole.now.arrows.items) p) ends.items) }
+    ensures silent { IfOk result (λ ends.
+        All (Silently (lists_of whole.now.arrows.items) p) ends.items) }
     ensures states { IfOk result (λ ends. All (λ q. q < length whole.now.finals.items) ends.items) }
 {
     let mut flags = vec![in alloc; false; whole.finals.len()]?;
@@ -95,7 +97,8 @@ fn steps_of(alloc: Global, whole: &Numbered, states: &[usize]) -> Result<Vec<Ste
     requires plain { IsPlain (plain whole.now) }
     requires states { All (λ q. q < length whole.now.finals.items) states.now }
     ensures { IfOk result (λ steps. All (λ step. (c : ℕ) × Contains states.now c
-        × Contains (arrows_of (lists_of whole.now.arrows.items) c) (record { label = Some step.label; to = step.to })) steps.items) }
+        × Contains (arrows_of (lists_of whole.now.arrows.items) c)
+        (record { label = Some step.label; to = step.to })) steps.items) }
 {
     let mut steps = Vec::new(alloc);
     for q in states {
@@ -107,7 +110,10 @@ fn steps_of(alloc: Global, whole: &Numbered, states: &[usize]) -> Result<Vec<Ste
 /// Puts the labelled ones of the arrows behind the others, as steps.
 fn add_steps(arrows: &[Arrow], steps: &mut Vec<Step>) -> Result<(), AllocError>
     ensures { IfOk result (λ _. (step : StepOf) → Contains steps.new.items step
-        → Contains steps.old.items step ⊎ Contains arrows.now (record { label = Some step.label; to = step.to })) }
+        → Contains steps.old.items step ⊎ Contains arrows.now (record {
+          label = Some step.label;
+          to = step.to;
+        })) }
 {
     for arrow in arrows {
         if let Some(label) = arrow.label {
@@ -122,7 +128,8 @@ fn add_steps(arrows: &[Arrow], steps: &mut Vec<Step>) -> Result<(), AllocError>
 
 /// Whether one of the states is final.
 fn has_final(whole: &Numbered, states: &[usize]) -> bool
-    ensures { IsTrue result → (f : ℕ) × Contains states.now f × IsTrue (slice_index_or whole.now.finals.items f false) }
+    ensures { IsTrue result → (f : ℕ) × Contains states.now f
+        × IsTrue (slice_index_or whole.now.finals.items f false) }
 {
     for q in states {
         if flag(&whole.finals, *q) {

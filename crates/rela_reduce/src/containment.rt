@@ -30,7 +30,8 @@ fn containment<L: LabelSet>(
     k: usize,
 ) -> Result<Vec<bool>, AllocError>
     requires { k < length labels.now }
-    ensures { IfOk result (λ row. (l : ℕ) → IsTrue (slice_index_or row.items l false) → IsWithin labels.now k l) }
+    ensures { IfOk result (λ row. (l : ℕ) → IsTrue (slice_index_or row.items l false) →
+        IsWithin labels.now k l) }
 {
     let mut row = Vec::with_capacity(alloc, labels.len())?;
     for l in 0..labels.len() {

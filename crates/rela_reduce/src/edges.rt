@@ -18,7 +18,8 @@ pub(crate) fn edge_lists<L: LabelSet>(
     lists: &[Vec<Arrow>],
     labels: &Labels<'_, L>,
 ) -> Result<EdgeLists<L>, AllocError>
-    requires { All (All (λ arrow. ForSome arrow.label (λ k. k < length labels.now))) (lists_of lists.now) }
+    requires { All (All (λ arrow. ForSome arrow.label (λ k. k < length labels.now)))
+        (lists_of lists.now) }
     ensures { IfOk result (λ edges. edges ≡ edges_by labels.now (lists_of lists.now)) }
 {
     let mut edges = EdgeLists::with_capacity(alloc, lists.len())?;
@@ -36,7 +37,8 @@ fn edges_of<L: LabelSet>(
     labels: &Labels<'_, L>,
 ) -> Result<Vec<Edge<L>>, AllocError>
     requires { All (λ arrow. ForSome arrow.label (λ k. k < length labels.now)) arrows.now }
-    ensures { IfOk result (λ edges. map (move_of L.letters) edges.items ≡ map (labelled labels.now) arrows.now) }
+    ensures { IfOk result (λ edges. map (move_of L.letters) edges.items
+        ≡ map (labelled labels.now) arrows.now) }
 {
     let mut edges = Vec::with_capacity(alloc, arrows.len())?;
     for arrow in arrows {

@@ -57,8 +57,10 @@ impl<'a, L: LabelSet> Labels<'a, L> {
     /// expectation beside.
     pub(crate) fn number(&mut self, label: &'a L) -> Result<usize, AllocError>
         ensures within { IfOk result (λ number. number < length self.new) }
-        ensures at { IfOk result (λ number. slice_index_or self.new number [] ≡ L.letters label.now) }
-        ensures grown { IfOk result (λ _. (more : List (List Bool)) × (self.new ≡ self.old ++ more)) }
+        ensures at { IfOk result (λ number. slice_index_or self.new number []
+            ≡ L.letters label.now) }
+        ensures grown { IfOk result (λ _. (more : List (List Bool))
+            × (self.new ≡ self.old ++ more)) }
     {
         let fingerprint = fingerprint(label);
         if let Some(number) = self.numbers.get(&fingerprint).copied() {

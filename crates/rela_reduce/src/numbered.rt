@@ -64,8 +64,11 @@ fn arrows_of<'a, L: LabelSet>(
     a: &'a Nfa<L>,
     labels: &mut Labels<'a, L>,
 ) -> Result<Vec<Vec<Arrow>>, AllocError>
-    ensures edges { IfOk result (λ arrows. edges_by labels.new (lists_of arrows.items) ≡ a.now.edges) }
-    ensures known { IfOk result (λ arrows. All (All (λ arrow. ForSome arrow.label (λ k. k < length labels.new))) (lists_of arrows.items)) }
+    ensures edges { IfOk result (λ arrows.
+        edges_by labels.new (lists_of arrows.items) ≡ a.now.edges) }
+    ensures known { IfOk result (λ arrows.
+        All (All (λ arrow. ForSome arrow.label (λ k. k < length labels.new)))
+        (lists_of arrows.items)) }
 {
     let mut lists = Vec::with_capacity(alloc, a.states())?;
     for q in 0..a.states() {
@@ -81,9 +84,12 @@ fn arrows_for<'a, L: LabelSet>(
     edges: &'a [Edge<L>],
     labels: &mut Labels<'a, L>,
 ) -> Result<Vec<Arrow>, AllocError>
-    ensures edges { IfOk result (λ arrows. map (labelled labels.new) arrows.items ≡ map (move_of L.letters) edges.now) }
-    ensures known { IfOk result (λ arrows. All (λ arrow. ForSome arrow.label (λ k. k < length labels.new)) arrows.items) }
-    ensures grown { IfOk result (λ _. (more : List (List Bool)) × (labels.new ≡ labels.old ++ more)) }
+    ensures edges { IfOk result (λ arrows. map (labelled labels.new) arrows.items
+        ≡ map (move_of L.letters) edges.now) }
+    ensures known { IfOk result (λ arrows.
+        All (λ arrow. ForSome arrow.label (λ k. k < length labels.new)) arrows.items) }
+    ensures grown { IfOk result (λ _. (more : List (List Bool))
+        × (labels.new ≡ labels.old ++ more)) }
 {
     let mut arrows = Vec::with_capacity(alloc, edges.len())?;
     for edge in edges {
@@ -100,7 +106,8 @@ fn arrow_for<'a, L: LabelSet>(
 ) -> Result<Arrow, AllocError>
     ensures edge { IfOk result (λ arrow. labelled labels.new arrow ≡ move_of L.letters edge.now) }
     ensures known { IfOk result (λ arrow. ForSome arrow.label (λ k. k < length labels.new)) }
-    ensures grown { IfOk result (λ _. (more : List (List Bool)) × (labels.new ≡ labels.old ++ more)) }
+    ensures grown { IfOk result (λ _. (more : List (List Bool))
+        × (labels.new ≡ labels.old ++ more)) }
 {
     let to = edge.to;
     match &edge.label {

@@ -67,7 +67,8 @@ fn relation_of<L: LabelSet>(
     labels: &Labels<'_, L>,
 ) -> Result<Vec<Vec<bool>>, AllocError>
     requires { IsPlain (plain whole.now) }
-    ensures { IfOk result (λ rows. (p q : ℕ) → p < length whole.now.finals.items → q < length whole.now.finals.items → IsSet (lists_of rows.items) p q
+    ensures { IfOk result (λ rows. (p q : ℕ) → p < length whole.now.finals.items →
+        q < length whole.now.finals.items → IsSet (lists_of rows.items) p q
         → Simulates labels.now (plain whole.now) (lists_of rows.items) p q) }
 {
     if whole.finals.len() > MOST_STATES || labels.len() > MOST_LABELS {

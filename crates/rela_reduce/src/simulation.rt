@@ -29,8 +29,10 @@ pub(crate) fn simulation(
     within: &[Vec<bool>],
 ) -> Result<Vec<Vec<bool>>, AllocError>
     requires { IsPlain (plain whole.now) }
-    ensures { IfOk result (λ rows. (p q : ℕ) → p < length whole.now.finals.items → q < length whole.now.finals.items → IsSet (lists_of rows.items) p q
-        → GoesAlong (plain whole.now) (lists_of closed.now.steps.items) closed.now.finals.items (lists_of within.now) (lists_of rows.items) p q) }
+    ensures { IfOk result (λ rows. (p q : ℕ) → p < length whole.now.finals.items →
+        q < length whole.now.finals.items → IsSet (lists_of rows.items) p q
+        → GoesAlong (plain whole.now) (lists_of closed.now.steps.items) closed.now.finals.items
+        (lists_of within.now) (lists_of rows.items) p q) }
 {
     let mut relation = square(alloc, whole.finals.len(), true)?;
     for _round in 0..ROUNDS {
@@ -51,8 +53,10 @@ fn prune(
 ) -> bool
     requires { IsPlain (plain whole.now) }
     ensures same { result ≡ false → relation.new ≡ relation.old }
-    ensures along { result ≡ false → (p q : ℕ) → p < length whole.now.finals.items → q < length whole.now.finals.items → IsSet (lists_of relation.old) p q
-        → GoesAlong (plain whole.now) (lists_of closed.now.steps.items) closed.now.finals.items (lists_of within.now) (lists_of relation.old) p q }
+    ensures along { result ≡ false → (p q : ℕ) → p < length whole.now.finals.items →
+        q < length whole.now.finals.items → IsSet (lists_of relation.old) p q
+        → GoesAlong (plain whole.now) (lists_of closed.now.steps.items) closed.now.finals.items
+        (lists_of within.now) (lists_of relation.old) p q }
 {
     let mut cleared = false;
     for later in 0..whole.finals.len() {
@@ -75,8 +79,10 @@ fn prune_row(
 ) -> bool
     requires { IsPlain (plain whole.now) }
     ensures same { result ≡ false → relation.new ≡ relation.old }
-    ensures along { result ≡ false → (q : ℕ) → q < length whole.now.finals.items → IsSet (lists_of relation.old) p q
-        → GoesAlong (plain whole.now) (lists_of closed.now.steps.items) closed.now.finals.items (lists_of within.now) (lists_of relation.old) p q }
+    ensures along { result ≡ false → (q : ℕ) → q < length whole.now.finals.items →
+        IsSet (lists_of relation.old) p q
+        → GoesAlong (plain whole.now) (lists_of closed.now.steps.items) closed.now.finals.items
+        (lists_of within.now) (lists_of relation.old) p q }
 {
     let mut cleared = false;
     for q in 0..whole.finals.len() {
@@ -99,7 +105,8 @@ fn goes_along(
 ) -> bool
     requires plain { IsPlain (plain whole.now) }
     requires state { q < length whole.now.finals.items }
-    ensures { IsTrue result → GoesAlong (plain whole.now) (lists_of closed.now.steps.items) closed.now.finals.items (lists_of within.now) (lists_of relation.now) p q }
+    ensures { IsTrue result → GoesAlong (plain whole.now) (lists_of closed.now.steps.items)
+        closed.now.finals.items (lists_of within.now) (lists_of relation.now) p q }
 {
     if whole.finals[q] && !flag(&closed.finals, p) {
         return false;
@@ -131,7 +138,8 @@ fn is_answered(
     p: usize,
     arrow: Arrow,
 ) -> bool
-    ensures { IsTrue result → IsAnswered (lists_of within.now) (lists_of relation.now) p steps.now arrow }
+    ensures { IsTrue result → IsAnswered (lists_of within.now) (lists_of relation.now) p
+        steps.now arrow }
 {
     match arrow.label {
         Some(k) => has_answer(steps, within, relation, k, arrow.to),
@@ -147,7 +155,8 @@ fn has_answer(
     k: usize,
     t: usize,
 ) -> bool
-    ensures { IsTrue result → HasAnswer (lists_of within.now) (lists_of relation.now) steps.now k t }
+    ensures { IsTrue result → HasAnswer (lists_of within.now)
+        (lists_of relation.now) steps.now k t }
 {
     for step in steps {
         if is_set(within, k, step.label) && is_set(relation, step.to, t) {

@@ -18,7 +18,8 @@ pub(crate) fn widened(
     requires { IsPlain (plain whole.now) }
     ensures each { IfOk result (λ lists. length lists.items ≡ length whole.now.finals.items) }
     ensures widened { IfOk result (λ lists. (p : ℕ) → p < length whole.now.finals.items
-        → IsWidened (lists_of relation.now) (length whole.now.finals.items) p (arrows_of (lists_of whole.now.arrows.items) p) (arrows_of (lists_of lists.items) p)) }
+        → IsWidened (lists_of relation.now) (length whole.now.finals.items) p
+        (arrows_of (lists_of whole.now.arrows.items) p) (arrows_of (lists_of lists.items) p)) }
 {
     let mut lists = Vec::with_capacity(alloc, whole.finals.len())?;
     for p in 0..whole.finals.len() {
@@ -36,7 +37,8 @@ fn with_lower(
     states: usize,
     p: usize,
 ) -> Result<Vec<Arrow>, AllocError>
-    ensures { IfOk result (λ list. IsWidened (lists_of relation.now) states p arrows.now list.items) }
+    ensures { IfOk result (λ list. IsWidened (lists_of relation.now) states p
+        arrows.now list.items) }
 {
     let mut list = Vec::from_slice(alloc, arrows)?;
     for q in 0..states {

@@ -29,4 +29,5 @@ is_unselected (Checked flow check row) = false
 
 -- 1 where a row is violated, else 3 where one is undecided, else 0
 abbrev pub status_of : List ReportRow → ℕ
-status_of rows = if list_any is_violated rows then 1 else if list_any is_undecided rows then 3 else 0
+status_of rows = if list_any is_violated rows then 1
+    else if list_any is_undecided rows then 3 else 0

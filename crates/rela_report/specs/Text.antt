@@ -35,7 +35,8 @@ verdict_lines names (Violated word side source) =
 
 abbrev pub row_lines : List (List ℕ) → ReportRow → List ℕ
 row_lines names (Unselected flow) = codes "flow " ++ (flow ++ line (codes " unselected"))
-row_lines names (Checked flow check row) = codes "flow " ++ (flow ++ (codes " check " ++ (check ++ verdict_lines names row)))
+row_lines names (Checked flow check row) =
+    codes "flow " ++ (flow ++ (codes " check " ++ (check ++ verdict_lines names row)))
 
 -- a label and a count
 unfoldable pub count_text : List ℕ → ℕ → List ℕ
@@ -44,8 +45,10 @@ count_text label n = label ++ decimal n
 -- how many rows there are, and how many of each kind
 abbrev pub total_text : ℕ → ℕ → ℕ → ℕ → ℕ → List ℕ
 total_text rows compliant violated undecided unselected =
-    count_text (codes "total ") rows ++ (count_text (codes " compliant ") compliant ++ (count_text (codes " violated ") violated
-    ++ (count_text (codes " undecided ") undecided ++ line (count_text (codes " unselected ") unselected))))
+    count_text (codes "total ") rows ++ (count_text (codes " compliant ") compliant
+    ++ (count_text (codes " violated ") violated
+    ++ (count_text (codes " undecided ") undecided
+    ++ line (count_text (codes " unselected ") unselected))))
 
 abbrev pub total_line : List ReportRow → List ℕ
 total_line rows =

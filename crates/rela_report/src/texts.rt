@@ -84,7 +84,8 @@ impl Counts {
 /// The total line of so many rows with these counts, with its line feed.
 fn total_text(alloc: Global, rows: usize, counts: &Counts) -> Result<Vec<u8>, AllocError>
     ensures { IfOk result (λ text. text.items
-        ≡ total_text rows counts.now.compliant counts.now.violated counts.now.undecided counts.now.unselected) }
+        ≡ total_text rows counts.now.compliant counts.now.violated counts.now.undecided
+        counts.now.unselected) }
 {
     let mut text = String::new(alloc);
     push_count(&mut text, "total ", rows)?;
@@ -99,7 +100,8 @@ fn total_text(alloc: Global, rows: usize, counts: &Counts) -> Result<Vec<u8>, Al
 /// Appends a label and a decimal number.
 #[tactic(auto, unfolding(crate::specs::Text::count_text))]
 fn push_count(text: &mut String, label: &str, n: usize) -> Result<(), AllocError>
-    ensures { OnOk result (string_bytes text.new ≡ string_bytes text.old ++ count_text label.now n) }
+    ensures { OnOk result (string_bytes text.new ≡ string_bytes text.old
+        ++ count_text label.now n) }
 {
     write!(text, "{label}{n}")
 }
@@ -174,7 +176,8 @@ fn push_word(
     alphabet: &Alphabet,
 ) -> Result<(), AllocError>
     requires { HasTexts alphabet.now word.now }
-    ensures { OnOk result (text.new.items ≡ text.old.items ++ line (label.now ++ word_text alphabet.now word.now)) }
+    ensures { OnOk result (text.new.items ≡ text.old.items
+        ++ line (label.now ++ word_text alphabet.now word.now)) }
 {
     let spelled = alphabet.text_of(alloc, word)?;
     text.extend_from_slice(label)?;

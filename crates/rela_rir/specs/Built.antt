@@ -21,7 +21,8 @@ pub record LetterStates (member : ℕ → Type 0) (r : ℕ → List ℕ → Type
   pub count : (q : ℕ) (w : List ℕ) → r q w → q < 2
 
 -- the n states of the first machine, and after them those of the second
-pub record SideBySide {I : Type 0} (n : ℕ) (first_reach second_reach r : ℕ → I → Type 0) : Type 0 where
+pub record SideBySide {I : Type 0} (n : ℕ)
+    (first_reach second_reach r : ℕ → I → Type 0) : Type 0 where
   pub count : (q : ℕ) (i : I) → first_reach q i → q < n
   pub first : (q : ℕ) (i : I) → q < n → r q i ↔ first_reach q i
   pub second : (q : ℕ) (i : I) → r (n + q) i ↔ second_reach q i

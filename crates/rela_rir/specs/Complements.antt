@@ -32,10 +32,16 @@ pub record Parts : Type 1 where
 
 module _ (X Y : Type 0) (term : X → PathTerm) (inside : X → Parts) (inside_r : Y → Parts) where
   abbrev pub parts_of_layer : PathTerm-F X Y → Parts
-  parts_of_layer layer = record { parts = layer_parts term (λ x. (inside x).parts) (λ r. (inside_r r).parts) layer }
+  parts_of_layer layer = record {
+    parts = layer_parts term (λ x. (inside x).parts) (λ r.
+        (inside_r r).parts) layer;
+  }
 
   abbrev pub parts_of_layer_r : RelTerm-F X Y → Parts
-  parts_of_layer_r layer = record { parts = layer_parts_r term (λ x. (inside x).parts) (λ r. (inside_r r).parts) layer }
+  parts_of_layer_r layer = record {
+    parts = layer_parts_r term (λ x. (inside x).parts) (λ r.
+        (inside_r r).parts) layer;
+  }
 
 -- The parts that are complemented in the path term, those inside its relation terms too, in order: the
 -- complement of number k is that of the part at k.

@@ -38,7 +38,8 @@ pub record ReachedR (m : Scene) (r : RelTerm) (k : ℕ) : Type 0 where
 
 -- some place of one of the two terms is reached by just one of the two words
 abbrev pub ToldByPlace : Scene → PathTerm → PathTerm → List ℕ → List ℕ → Type 0
-ToldByPlace m x y w z = ((p : Place) × JustOne (At m x p w) (At m x p z)) ⊎ ((p : Place) × JustOne (At m y p w) (At m y p z))
+ToldByPlace m x y w z = ((p : Place) × JustOne (At m x p w) (At m x p z))
+    ⊎ ((p : Place) × JustOne (At m y p w) (At m y p z))
 
 -- k words, of which each two are told apart by a place of one of the two terms; where a last word is given,
 -- none of them comes after it in shortlex order
@@ -69,12 +70,15 @@ module _ {X Y : Type 0} (part : X → Type 0) (part_r : Y → Type 0) where
   LayerSomeR (Compose r s) = part_r r ⊎ part_r s
 
 -- One layer of a term has it, or some part of that layer, where it is given which terms the parts are.
-module _ {X Y : Type 0} (term : X → PathTerm) (relation : Y → RelTerm) (part : X → Type 0) (part_r : Y → Type 0) where
+module _ {X Y : Type 0} (term : X → PathTerm) (relation : Y → RelTerm) (part : X → Type 0)
+    (part_r : Y → Type 0) where
   abbrev pub LayerHas : (PathTerm → Type 0) → PathTerm-F X Y → Type 0
-  LayerHas P layer = P (roll-PathTerm (map-PathTerm X Y PathTerm RelTerm term relation layer)) ⊎ LayerSome part part_r layer
+  LayerHas P layer = P (roll-PathTerm (map-PathTerm X Y PathTerm RelTerm term relation layer))
+      ⊎ LayerSome part part_r layer
 
   abbrev pub LayerHasR : (RelTerm → Type 0) → RelTerm-F X Y → Type 0
-  LayerHasR R layer = R (roll-RelTerm (map-RelTerm X Y PathTerm RelTerm term relation layer)) ⊎ LayerSomeR part part_r layer
+  LayerHasR R layer = R (roll-RelTerm (map-RelTerm X Y PathTerm RelTerm term relation layer))
+      ⊎ LayerSomeR part part_r layer
 
 -- The path term has P, or some path term at any depth in it has P, or some relation term there has R.
 abbrev pub SomeSubterm : (PathTerm → Type 0) → (RelTerm → Type 0) → PathTerm → Type 0
@@ -105,17 +109,20 @@ LayerIsCountedR _ = ⊥
 -- some counted term in the path term has k places that are reached
 abbrev pub ReachedInside : Scene → ℕ → PathTerm → Type 0
 ReachedInside m k =
-    SomeSubterm (λ t. LayerIsCounted (out-PathTerm t) × Reached m t k) (λ r. LayerIsCountedR (out-RelTerm r) × ReachedR m r k)
+    SomeSubterm (λ t. LayerIsCounted (out-PathTerm t) × Reached m t k) (λ r.
+    LayerIsCountedR (out-RelTerm r) × ReachedR m r k)
 
 -- some counted term in the relation term has k places that are reached
 abbrev pub ReachedInsideR : Scene → ℕ → RelTerm → Type 0
 ReachedInsideR m k =
-    SomeSubtermR (λ t. LayerIsCounted (out-PathTerm t) × Reached m t k) (λ r. LayerIsCountedR (out-RelTerm r) × ReachedR m r k)
+    SomeSubtermR (λ t. LayerIsCounted (out-PathTerm t) × Reached m t k) (λ r.
+    LayerIsCountedR (out-RelTerm r) × ReachedR m r k)
 
 -- two words can be continued by some word of path symbols so that just one of them comes to lie in the term
 abbrev pub ToldByContinuing : Scene → PathTerm → List ℕ → List ℕ → Type 0
 ToldByContinuing m x w w' =
-    (z : List ℕ) × IsPathWord m.setting.path_symbols z × JustOne (In m.setting x (w ++ z)) (In m.setting x (w' ++ z))
+    (z : List ℕ) × IsPathWord m.setting.path_symbols z
+    × JustOne (In m.setting x (w ++ z)) (In m.setting x (w' ++ z))
 
 -- k words of path symbols, of which each two are told apart by continuing them
 pub record AreTold (m : Scene) (x : PathTerm) (k : ℕ) : Type 0 where
@@ -141,7 +148,8 @@ ForcedInsideR m k = SomeSubtermR (λ t. LayerIsForced m k (out-PathTerm t)) (λ 
 -- reached places than the limit, or more words than the limit are told apart by the places of the images.
 abbrev pub Licensed : Scene → Option (List ℕ) → PathTerm → PathTerm → ℕ → Type 0
 Licensed m last before after limit =
-    ReachedInside m (limit + 1) before ⊎ (ReachedInside m (limit + 1) after ⊎ ReachedPair m last before after (limit + 1))
+    ReachedInside m (limit + 1) before ⊎ (ReachedInside m (limit + 1) after
+    ⊎ ReachedPair m last before after (limit + 1))
 
 -- It has to be left open: some complement in the images has a part that tells more words than the limit.
 abbrev pub Forced : Scene → PathTerm → PathTerm → ℕ → Type 0

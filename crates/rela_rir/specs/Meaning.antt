@@ -24,7 +24,8 @@ pub record HasSymbol (path_symbols : ℕ) (set : SymbolSet) (s : ℕ) : Type 0 w
 
 -- the symbol is in the entry k of the class table
 abbrev pub IsInClass : Setting → ℕ → ℕ → Type 0
-IsInClass m k s = (set : SymbolSet) × (slice_get m.classes k ≡ Some set) × HasSymbol m.path_symbols set s
+IsInClass m k s = (set : SymbolSet) × (slice_get m.classes k ≡ Some set)
+    × HasSymbol m.path_symbols set s
 
 -- a word of path symbols
 abbrev pub IsPathWord : ℕ → List ℕ → Type 0

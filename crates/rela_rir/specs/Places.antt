@@ -76,7 +76,8 @@ MeetPlaces x y _ w = ⊥
 
 -- a word of path symbols is known by the places that it reaches in the part
 abbrev pub ComplementPlaces : ℕ → Places → Places
-ComplementPlaces path_symbols x (Seen z) w = IsPathWord path_symbols z × IsPathWord path_symbols w × Agree x w z
+ComplementPlaces path_symbols x (Seen z) w = IsPathWord path_symbols z
+    × IsPathWord path_symbols w × Agree x w z
 ComplementPlaces path_symbols x _ w = ⊥
 
 abbrev pub PathSetPlaces : Arrivals → Places
@@ -119,7 +120,8 @@ ComposePlaces r s (Both p q) u v = Composition (r p) (s q) u v
 ComposePlaces r s _ u v = ⊥
 
 -- One layer of a term, where it is given which terms its parts are, and their places.
-module _ {X Y : Type 0} (m : Scene) (term : X → PathTerm) (relation : Y → RelTerm) (at : X → Places) (pairs : Y → PairPlaces) where
+module _ {X Y : Type 0} (m : Scene) (term : X → PathTerm) (relation : Y → RelTerm) (at : X → Places)
+    (pairs : Y → PairPlaces) where
   abbrev pub LayerAt : PathTerm-F X Y → Places
   LayerAt None = EmptyPlaces
   LayerAt Empty = EmptyPlaces
@@ -196,7 +198,8 @@ abbrev pub NoParts : Tells
 NoParts p q = ⊥
 
 -- One layer of a term, where it is given which terms its parts are, and which of their places are apart.
-module _ {X Y : Type 0} (m : Scene) (term : X → PathTerm) (apart : X → Tells) (apart_r : Y → Tells) where
+module _ {X Y : Type 0} (m : Scene) (term : X → PathTerm) (apart : X → Tells)
+    (apart_r : Y → Tells) where
   abbrev pub LayerApart : PathTerm-F X Y → Tells
   LayerApart None = PartsApart NoParts NoParts
   LayerApart Empty = PartsApart NoParts NoParts

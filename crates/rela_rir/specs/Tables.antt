@@ -43,7 +43,8 @@ pub record IsPlacedR (m : Scene) (r : RelTerm) (reach : ℕ → List ℕ → Lis
   pub is_table : IsTable (OnPairs reach) (OnPairs (AtR m r)) (ApartR m r) table
 
 -- they do so by a table that is exact over n states
-pub record IsPlacedExactly (m : Scene) (x : PathTerm) (n : ℕ) (reach : ℕ → List ℕ → Type 0) : Type 0 where
+pub record IsPlacedExactly (m : Scene) (x : PathTerm) (n : ℕ)
+    (reach : ℕ → List ℕ → Type 0) : Type 0 where
   pub table : Place → Option ℕ
   pub is_table : IsTable reach (At m x) (Apart m x) table
   pub exact : IsExact n reach (At m x) table

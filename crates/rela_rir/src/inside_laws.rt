@@ -87,12 +87,15 @@ pub fn complemented_parts_of_rel_terms()
     ensures product { (x y : PathTerm) →
         complemented_parts_r (RelTerm.Product x y) ≡ complemented_parts x ++ complemented_parts y }
     ensures union { (r s : RelTerm) →
-        complemented_parts_r (RelTerm.Union r s) ≡ complemented_parts_r r ++ complemented_parts_r s }
+        complemented_parts_r (RelTerm.Union r s) ≡ complemented_parts_r r
+        ++ complemented_parts_r s }
     ensures concat { (r s : RelTerm) →
-        complemented_parts_r (RelTerm.Concat r s) ≡ complemented_parts_r r ++ complemented_parts_r s }
+        complemented_parts_r (RelTerm.Concat r s) ≡ complemented_parts_r r
+        ++ complemented_parts_r s }
     ensures star { (r : RelTerm) → complemented_parts_r (RelTerm.Star r) ≡ complemented_parts_r r }
     ensures compose { (r s : RelTerm) →
-        complemented_parts_r (RelTerm.Compose r s) ≡ complemented_parts_r r ++ complemented_parts_r s }
+        complemented_parts_r (RelTerm.Compose r s) ≡ complemented_parts_r r
+        ++ complemented_parts_r s }
 {}
 
 /// An answer is forced where one of the complemented parts tells k words; and a complement of one

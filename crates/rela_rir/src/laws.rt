@@ -17,7 +17,12 @@ pub trait Reading {
 
 // What a caller's proof picks stands in the place of this one.
 impl Reading for Brand {
-    ghost setting = { record { classes = []; path_symbols = 0; pre = λ _. Unit {0}; post = λ _. Unit {0} } };
+    ghost setting = { record {
+      classes = [];
+      path_symbols = 0;
+      pre = λ _. Unit {0};
+      post = λ _. Unit {0};
+    } };
 }
 
 /// The words of a path term, by its form and what its parts mean.
@@ -36,7 +41,8 @@ pub fn path_terms_mean<M: Reading>()
     ensures meet { (x y : PathTerm) (w : List ℕ) →
         In M.setting (PathTerm.Meet x y) w ↔ (In M.setting x w × In M.setting y w) }
     ensures complement { (x : PathTerm) (w : List ℕ) →
-        In M.setting (PathTerm.Complement x) w ↔ (IsPathWord M.setting.path_symbols w × (¬ In M.setting x w)) }
+        In M.setting (PathTerm.Complement x) w ↔ (IsPathWord M.setting.path_symbols w
+        × (¬ In M.setting x w)) }
     ensures before { (w : List ℕ) → In M.setting PathTerm.Pre w ↔ M.setting.pre w }
     ensures after { (w : List ℕ) → In M.setting PathTerm.Post w ↔ M.setting.post w }
     ensures image { (x : PathTerm) (r : RelTerm) (v : List ℕ) →
@@ -52,11 +58,13 @@ pub fn rel_terms_mean<M: Reading>()
     ensures union { (r s : RelTerm) (u v : List ℕ) →
         InR M.setting (RelTerm.Union r s) u v ↔ (InR M.setting r u v ⊎ InR M.setting s u v) }
     ensures concat { (r s : RelTerm) (u v : List ℕ) →
-        InR M.setting (RelTerm.Concat r s) u v ↔ PairConcatenation (InR M.setting r) (InR M.setting s) u v }
+        InR M.setting (RelTerm.Concat r s) u v ↔
+        PairConcatenation (InR M.setting r) (InR M.setting s) u v }
     ensures star { (r : RelTerm) (u v : List ℕ) →
         InR M.setting (RelTerm.Star r) u v ↔ PairStar (InR M.setting r) u v }
     ensures compose { (r s : RelTerm) (u v : List ℕ) →
-        InR M.setting (RelTerm.Compose r s) u v ↔ Composition (InR M.setting r) (InR M.setting s) u v }
+        InR M.setting (RelTerm.Compose r s) u v ↔
+        Composition (InR M.setting r) (InR M.setting s) u v }
 {}
 
 /// A word is some words of a set one after another where it is empty, or one of them and then some more.

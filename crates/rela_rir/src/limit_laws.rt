@@ -17,7 +17,12 @@ pub trait Staging {
 // What a caller's proof picks stands in the place of this one.
 impl Staging for Brand {
     ghost scene = { record {
-      setting = record { classes = []; path_symbols = 0; pre = λ _. Unit {0}; post = λ _. Unit {0} };
+      setting = record {
+        classes = [];
+        path_symbols = 0;
+        pre = λ _. Unit {0};
+        post = λ _. Unit {0};
+      };
       markers = 0;
       pre = record { at_node = λ _ _. Unit {0}; at_end = λ _. Unit {0} };
       post = record { at_node = λ _ _. Unit {0}; at_end = λ _. Unit {0} };

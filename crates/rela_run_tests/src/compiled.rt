@@ -83,7 +83,8 @@ fn is_listed(set: &SymbolSet, alphabet: &Alphabet) -> bool
 
 /// Whether those of each set are.
 fn are_listed(sets: &[SymbolSet], alphabet: &Alphabet) -> bool
-    ensures { OnTrue result (All (λ set. All (λ s. s < path_symbols alphabet.now) set.members) sets.now) }
+    ensures { OnTrue result (All (λ set. All (λ s. s < path_symbols alphabet.now)
+        set.members) sets.now) }
 {
     sets.iter().all(|set| is_listed(set, alphabet))
 }

@@ -62,7 +62,8 @@ is_wanted (Some Ipv6) (V6 p) = true
 -- the prefix of a wanted family that a text writes, or the refusal where it writes none
 unfoldable pub IsPrefixOf : Option Family → ℕ → List ℕ → Result Prefix LoadError → Type 0
 IsPrefixOf wanted row text (Ok p) = IsTextOf text p × (is_wanted wanted p ≡ true)
-IsPrefixOf wanted row text (Err e) = (e ≡ BadPrefix row) × ((p : Prefix) → IsTextOf text p → is_wanted wanted p ≡ false)
+IsPrefixOf wanted row text (Err e) = (e ≡ BadPrefix row) × ((p : Prefix) → IsTextOf text p →
+    is_wanted wanted p ≡ false)
 
 -- version 1 holds IPv4 alone
 abbrev pub family_in : Version → Option Family

@@ -26,7 +26,8 @@ listed_names flows = map (λ flow. flow.class.name) flows
 -- the name of the flow after those of these names: its row is their number
 unfoldable pub next_name_of : Version → List (List ℕ) → Data → Result (List ℕ) LoadError
 next_name_of version names d =
-    if nat_lt (length names) 10000 then new_name_of (flow_rules version) names (length names) d else Err (TooMany 10000)
+    if nat_lt (length names) 10000 then new_name_of (flow_rules version) names (length names) d
+    else Err (TooMany 10000)
 
 -- the graph of a flow
 unfoldable pub graph_of : Network → Version → ℕ → Data → Result Listed LoadError
@@ -34,7 +35,8 @@ graph_of network One row d = numbered_of network row d
 graph_of network Two row d = named_of network row d
 
 -- the flow of this name and these prefixes
-unfoldable pub flow_of : Network → Version → ℕ → List ℕ → Prefix → Prefix → Data → Result ListedFlow LoadError
+unfoldable pub flow_of : Network → Version → ℕ → List ℕ → Prefix → Prefix → Data →
+    Result ListedFlow LoadError
 flow_of network version row name dst src d = do
   class ← class_of (flow_rules version) row d
   graph ← graph_of network version row d

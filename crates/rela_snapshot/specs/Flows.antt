@@ -26,20 +26,23 @@ IsSrc version row dst d = do
   IsPrefixOf (Some (family_of dst)) row text
 
 -- the flow of a name
-unfoldable pub IsFlowNamed : Network → Version → ℕ → List ℕ → Data → Result ListedFlow LoadError → Type 0
+unfoldable pub IsFlowNamed : Network → Version → ℕ → List ℕ → Data →
+    Result ListedFlow LoadError → Type 0
 IsFlowNamed network version row name d = do
   dst ← IsDst version row d
   src ← IsSrc version row dst d
   Is (flow_of network version row name dst src d)
 
 -- the flow after those of these names: its row is their number
-unfoldable pub IsFlow : Network → Version → List (List ℕ) → Data → Result ListedFlow LoadError → Type 0
+unfoldable pub IsFlow : Network → Version → List (List ℕ) → Data →
+    Result ListedFlow LoadError → Type 0
 IsFlow network version names d = do
   name ← Is (next_name_of version names d)
   IsFlowNamed network version (length names) name d
 
 -- the earlier flows, and then those of these entries
-unfoldable pub AreFlows : Network → Version → List ListedFlow → List Data → Result (List ListedFlow) LoadError → Type 0
+unfoldable pub AreFlows : Network → Version → List ListedFlow → List Data →
+    Result (List ListedFlow) LoadError → Type 0
 AreFlows network version earlier [] = Is (Ok earlier)
 AreFlows network version earlier (d ∷ ds) = do
   flow ← IsFlow network version (listed_names earlier) d

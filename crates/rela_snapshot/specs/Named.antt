@@ -68,7 +68,8 @@ named_places_of ids rule row o = do
   try_map (named_place_of ids rule row) ds
 
 -- a list of ids that may be missing
-unfoldable pub optional_named_places_of : List (List ℕ) → ℕ → ℕ → Option Data → Result (List ℕ) LoadError
+unfoldable pub optional_named_places_of : List (List ℕ) → ℕ → ℕ → Option Data →
+    Result (List ℕ) LoadError
 optional_named_places_of ids rule row None = Ok []
 optional_named_places_of ids rule row (Some d) = named_places_of ids rule row (Some d)
 
@@ -78,7 +79,8 @@ named_list_of name ids rule row d = do
   o ← part_of name 41 row d
   named_places_of ids rule row o
 
-unfoldable pub optional_named_list_of : List ℕ → List (List ℕ) → ℕ → ℕ → Data → Result (List ℕ) LoadError
+unfoldable pub optional_named_list_of : List ℕ → List (List ℕ) → ℕ → ℕ → Data →
+    Result (List ℕ) LoadError
 optional_named_list_of name ids rule row d = do
   o ← part_of name 41 row d
   optional_named_places_of ids rule row o
@@ -104,7 +106,13 @@ named_listing_of named row d = do
   starts ← named_list_of (codes "starts") named.ids 52 row d
   delivered ← optional_named_list_of (codes "delivered") named.ids 53 row d
   dropped ← optional_named_list_of (codes "dropped") named.ids 54 row d
-  Ok (record { nodes = named.nodes; edges = edges; starts = starts; delivered = delivered; dropped = dropped })
+  Ok (record {
+    nodes = named.nodes;
+    edges = edges;
+    starts = starts;
+    delivered = delivered;
+    dropped = dropped;
+  })
 
 -- the graph that is listed
 unfoldable pub named_of : Network → ℕ → Data → Result Listed LoadError

@@ -11,7 +11,11 @@ use Rattle.rela_snapshot.specs.Names.{place_of}
 
 -- the node at the interface of this symbol, in the device and the group in which the interface lies
 unfoldable pub node_in : Network → ℕ → Node
-node_in network symbol = record { interface = symbol; device = location_of Device network symbol; group = location_of Group network symbol }
+node_in network symbol = record {
+  interface = symbol;
+  device = location_of Device network symbol;
+  group = location_of Group network symbol;
+}
 
 -- the node at the interface of this name
 unfoldable pub node_at : Network → ℕ → List ℕ → Result Node LoadError

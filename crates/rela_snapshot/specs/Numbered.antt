@@ -84,4 +84,10 @@ numbered_of network row d = do
   starts ← list_of (codes "starts") (length nodes) 33 row d
   delivered ← optional_list_of (codes "delivered") (length nodes) 34 row d
   dropped ← optional_list_of (codes "dropped") (length nodes) 35 row d
-  Ok (record { nodes = nodes; edges = edges; starts = starts; delivered = delivered; dropped = dropped })
+  Ok (record {
+    nodes = nodes;
+    edges = edges;
+    starts = starts;
+    delivered = delivered;
+    dropped = dropped;
+  })

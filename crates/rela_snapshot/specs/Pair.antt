@@ -23,7 +23,11 @@ graph_or_none (Some flow) = flow.graph
 
 -- a flow of the first snapshot beside one of the second, or beside the graph without nodes
 abbrev pub pair_with : Option Flow → Flow → FlowPair
-pair_with partner flow = record { class = flow.class; before = flow.graph; after = graph_or_none partner }
+pair_with partner flow = record {
+  class = flow.class;
+  before = flow.graph;
+  after = graph_or_none partner;
+}
 
 abbrev pub pair_before : List Flow → Flow → FlowPair
 pair_before after flow = pair_with (flow_named flow.class.name after) flow
@@ -38,7 +42,8 @@ flows_without names flows = filter (λ flow. not (has_name names flow.class.name
 
 -- the flows of the first snapshot in order, and then those that only the second has
 abbrev pub pairs_of : List Flow → List Flow → List FlowPair
-pairs_of before after = map (pair_before after) before ++ map pair_after (flows_without (names_of before) after)
+pairs_of before after = map (pair_before after) before
+    ++ map pair_after (flows_without (names_of before) after)
 
 -- one flow has the prefixes and the class of the other, if there is one
 abbrev pub AgreesWith : Option Flow → Flow → Type 0
@@ -48,7 +53,8 @@ abbrev pub Agrees : List Flow → Flow → Type 0
 Agrees after flow = AgreesWith (flow_named flow.class.name after) flow
 
 -- the flow in this row of the first snapshot is the first that differs from that of its name in the second
-pub record IsFirstDifference (before after : List Flow) (row : ℕ) (first second : FlowClass) : Type 0 where
+pub record IsFirstDifference (before after : List Flow) (row : ℕ)
+    (first second : FlowClass) : Type 0 where
   pub flow : Flow
   pub other : Flow
   pub at : slice_get before row ≡ Some flow
@@ -61,5 +67,6 @@ pub record IsFirstDifference (before after : List Flow) (row : ℕ) (first secon
 -- what pairing answers
 unfoldable pub Pairing : List Flow → List Flow → Result (List FlowPair) PairError → Type 0
 Pairing before after (Ok pairs) = All (Agrees after) before × (pairs ≡ pairs_of before after)
-Pairing before after (Err (FlowDiffers row first second)) = IsFirstDifference before after row first second
+Pairing before after (Err (FlowDiffers row first second)) =
+    IsFirstDifference before after row first second
 Pairing before after (Err Memory) = ⊥

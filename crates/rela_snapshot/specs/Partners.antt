@@ -11,4 +11,5 @@ with_flow found (Some place) flow = set found place (Some flow)
 
 -- a flow differs from its partner
 abbrev pub IsDifference : ℕ → Flow → Option Flow → PairError → Type 0
-IsDifference row flow partner e = (other : Flow) × (partner ≡ Some other) × (flow.class ≢ other.class) × (e ≡ FlowDiffers row flow.class other.class)
+IsDifference row flow partner e = (other : Flow) × (partner ≡ Some other)
+    × (flow.class ≢ other.class) × (e ≡ FlowDiffers row flow.class other.class)

@@ -11,7 +11,8 @@ After Next (Ok x) r = Next x r
 After Next (Err e) r = r ≡ Err e
 
 infixl 10 ◌>>=◌
-abbrev pub ◌>>=◌ : {A B E : Type 0} → (Result A E → Type 0) → (A → Result B E → Type 0) → Result B E → Type 0
+abbrev pub ◌>>=◌ : {A B E : Type 0} → (Result A E → Type 0) → (A → Result B E → Type 0) →
+    Result B E → Type 0
 ◌>>=◌ {A} {B} {E} Step Next r = (x : Result A E) × Step x × After Next x r
 
 -- r is what the steps answer, and nothing else is

@@ -48,8 +48,10 @@ pub(crate) fn read_name<'a>(
     row: u32,
 ) -> Result<Name, LoadError>
     requires few { length names.old < MAX_FLOWS }
-    ensures name { IfOk result (λ name. spec.new_name_of rules names.old row (view value.now) ≡ Ok name) }
-    ensures fault { IfErr result (λ e. e ≢ LoadError.Memory → spec.new_name_of rules names.old row (view value.now) ≡ Err e) }
+    ensures name { IfOk result (λ name. spec.new_name_of rules names.old row (view value.now)
+        ≡ Ok name) }
+    ensures fault { IfErr result (λ e. e ≢ LoadError.Memory →
+        spec.new_name_of rules names.old row (view value.now) ≡ Err e) }
     ensures names { IfOk result (λ name. names.new ≡ names.old ++ name ∷ []) }
     ensures distinct { OnOk result (AreDistinct names.new) }
 {
@@ -106,7 +108,8 @@ fn dst_text(value: &Value, rules: FlowRules, row: u32) -> Result<&[u8], LoadErro
 /// The text of a flow's `src`, or else that of all addresses of the family; or `WrongShape`.
 #[tactic(auto, unfolding(crate::specs::Class::src_text_of))]
 fn src_text(value: &Value, family: Family, rules: FlowRules, row: u32) -> Result<&[u8], LoadError>
-    ensures text { IfOk result (λ text. spec.src_text_of rules row family (view value.now) ≡ Ok text.now) }
+    ensures text { IfOk result (λ text. spec.src_text_of rules row family (view value.now)
+        ≡ Ok text.now) }
     ensures fault { IfErr result (λ e. spec.src_text_of rules row family (view value.now) ≡ Err e) }
 {
     match part(value, "src", rules.flow, row)? {
@@ -189,7 +192,8 @@ pub(crate) fn read_class(
     row: u32,
 ) -> Result<Name, LoadError>
     ensures class { IfOk result (λ name. spec.class_of rules row (view value.now) ≡ Ok name) }
-    ensures fault { IfErr result (λ e. e ≢ LoadError.Memory → spec.class_of rules row (view value.now) ≡ Err e) }
+    ensures fault { IfErr result (λ e. e ≢ LoadError.Memory →
+        spec.class_of rules row (view value.now) ≡ Err e) }
 {
     class_name(alloc, part(value, "class", rules.flow, row)?, rules, row)
 }
@@ -203,8 +207,10 @@ fn class_name(
     rules: FlowRules,
     row: u32,
 ) -> Result<Name, LoadError>
-    ensures class { IfOk result (λ name. spec.class_name_of rules row (option_map (λ v. view v.now) class.entry) ≡ Ok name) }
-    ensures fault { IfErr result (λ e. e ≢ LoadError.Memory → spec.class_name_of rules row (option_map (λ v. view v.now) class.entry) ≡ Err e) }
+    ensures class { IfOk result (λ name.
+        spec.class_name_of rules row (option_map (λ v. view v.now) class.entry) ≡ Ok name) }
+    ensures fault { IfErr result (λ e. e ≢ LoadError.Memory →
+        spec.class_name_of rules row (option_map (λ v. view v.now) class.entry) ≡ Err e) }
 {
     match class {
         Some(class) => name_of(alloc, string(Some(class), rules.class, row)?, row),

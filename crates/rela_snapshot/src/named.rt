@@ -30,8 +30,10 @@ pub(crate) fn read_named(
     value: &Value,
     row: u32,
 ) -> Result<Listing, LoadError>
-    ensures listed { IfOk result (λ listing. spec.named_of locations.now row (view value.now) ≡ Ok listing) }
-    ensures fault { IfErr result (λ e. e ≢ LoadError.Memory → spec.named_of locations.now row (view value.now) ≡ Err e) }
+    ensures listed { IfOk result (λ listing. spec.named_of locations.now row (view value.now)
+        ≡ Ok listing) }
+    ensures fault { IfErr result (λ e. e ≢ LoadError.Memory →
+        spec.named_of locations.now row (view value.now) ≡ Err e) }
     ensures located { IfOk result (λ listing. All (StandsIn locations.now) listing.nodes) }
 {
     let mut ids = NameTable::new(alloc);
@@ -50,8 +52,10 @@ fn read_listing(
 ) -> Result<Listing, LoadError>
     requires few { vec_len nodes ≤ MAX_NODES }
     requires one_each { length ids.now ≡ vec_len nodes }
-    ensures listed { IfOk result (λ listing. spec.named_listing_of (nodes_of ids.now nodes.items) row (view value.now) ≡ Ok listing) }
-    ensures fault { IfErr result (λ e. e ≢ LoadError.Memory → spec.named_listing_of (nodes_of ids.now nodes.items) row (view value.now) ≡ Err e) }
+    ensures listed { IfOk result (λ listing. spec.named_listing_of (nodes_of ids.now nodes.items)
+        row (view value.now) ≡ Ok listing) }
+    ensures fault { IfErr result (λ e. e ≢ LoadError.Memory →
+        spec.named_listing_of (nodes_of ids.now nodes.items) row (view value.now) ≡ Err e) }
     ensures nodes { IfOk result (λ listing. listing.nodes ≡ nodes.items) }
 {
     let edges = read_edges(alloc, ids, value, row)?;
@@ -82,8 +86,10 @@ fn read_nodes<'a>(
     row: u32,
 ) -> Result<Vec<Node>, LoadError>
     requires none { ids.old ≡ [] }
-    ensures nodes { IfOk result (λ nodes. spec.named_nodes_of locations.now row (view value.now) ≡ Ok (nodes_of ids.new nodes.items)) }
-    ensures fault { IfErr result (λ e. e ≢ LoadError.Memory → spec.named_nodes_of locations.now row (view value.now) ≡ Err e) }
+    ensures nodes { IfOk result (λ nodes. spec.named_nodes_of locations.now row (view value.now)
+        ≡ Ok (nodes_of ids.new nodes.items)) }
+    ensures fault { IfErr result (λ e. e ≢ LoadError.Memory →
+        spec.named_nodes_of locations.now row (view value.now) ≡ Err e) }
     ensures located { IfOk result (λ nodes. All (StandsIn locations.now) nodes.items) }
     ensures few { IfOk result (λ nodes. vec_len nodes ≤ MAX_NODES) }
     ensures one_each { IfOk result (λ nodes. length ids.new ≡ vec_len nodes) }
@@ -102,8 +108,10 @@ fn nodes_of<'a>(
 ) -> Result<Vec<Node>, LoadError>
     requires none { ids.old ≡ [] }
     requires few { length values.now ≤ MAX_NODES }
-    ensures nodes { IfOk result (λ nodes. try_fold (spec.add_node locations.now row) (nodes_of [] []) (map view values.now) ≡ Ok (nodes_of ids.new nodes.items)) }
-    ensures fault { IfErr result (λ e. e ≢ LoadError.Memory → try_fold (spec.add_node locations.now row) (nodes_of [] []) (map view values.now) ≡ Err e) }
+    ensures nodes { IfOk result (λ nodes. try_fold (spec.add_node locations.now row)
+        (nodes_of [] []) (map view values.now) ≡ Ok (nodes_of ids.new nodes.items)) }
+    ensures fault { IfErr result (λ e. e ≢ LoadError.Memory →
+        try_fold (spec.add_node locations.now row) (nodes_of [] []) (map view values.now) ≡ Err e) }
     ensures located { IfOk result (λ nodes. All (StandsIn locations.now) nodes.items) }
     ensures len { IfOk result (λ nodes. vec_len nodes ≡ length values.now) }
     ensures ids { IfOk result (λ nodes. length ids.new ≡ vec_len nodes) }
@@ -127,8 +135,11 @@ fn add_node<'a>(
     requires few { length ids.old < MAX_NODES }
     requires one_each { length ids.old ≡ vec_len nodes.old }
     requires located { All (StandsIn locations.now) nodes.old.items }
-    ensures nodes { OnOk result (spec.add_node locations.now row (nodes_of ids.old nodes.old.items) (view value.now) ≡ Ok (nodes_of ids.new nodes.new.items)) }
-    ensures fault { IfErr result (λ e. e ≢ LoadError.Memory → spec.add_node locations.now row (nodes_of ids.old nodes.old.items) (view value.now) ≡ Err e) }
+    ensures nodes { OnOk result (spec.add_node locations.now row (nodes_of ids.old nodes.old.items)
+        (view value.now) ≡ Ok (nodes_of ids.new nodes.new.items)) }
+    ensures fault { IfErr result (λ e. e ≢ LoadError.Memory →
+        spec.add_node locations.now row (nodes_of ids.old nodes.old.items) (view value.now)
+        ≡ Err e) }
     ensures one_each { OnOk result (length ids.new ≡ vec_len nodes.new) }
     ensures one_more { OnOk result (vec_len nodes.new ≡ vec_len nodes.old + 1) }
     ensures located { OnOk result (All (StandsIn locations.now) nodes.new.items) }
@@ -148,8 +159,10 @@ fn add_node<'a>(
 #[tactic(auto, unfolding(crate::specs::Named::id_of, crate::specs::Class::name_of))]
 fn add_id<'a>(ids: &mut NameTable<'a>, value: &'a Value, row: u32) -> Result<(), LoadError>
     requires few { length ids.old < MAX_NODES }
-    ensures id { OnOk result (IsOkAnd (spec.id_of ids.old row (view value.now)) (λ id. ids.new ≡ ids.old ++ id ∷ [])) }
-    ensures fault { IfErr result (λ e. e ≢ LoadError.Memory → spec.id_of ids.old row (view value.now) ≡ Err e) }
+    ensures id { OnOk result (IsOkAnd (spec.id_of ids.old row (view value.now)) (λ id. ids.new
+        ≡ ids.old ++ id ∷ [])) }
+    ensures fault { IfErr result (λ e. e ≢ LoadError.Memory →
+        spec.id_of ids.old row (view value.now) ≡ Err e) }
 {
     let id = string(part(value, "id", 47, row)?, 48, row)?;
     if !is_name(id) {
@@ -190,8 +203,10 @@ fn read_edges(
     value: &Value,
     row: u32,
 ) -> Result<Vec<Link>, LoadError>
-    ensures edges { IfOk result (λ edges. spec.named_edges_of ids.now row (view value.now) ≡ Ok edges.items) }
-    ensures fault { IfErr result (λ e. e ≢ LoadError.Memory → spec.named_edges_of ids.now row (view value.now) ≡ Err e) }
+    ensures edges { IfOk result (λ edges. spec.named_edges_of ids.now row (view value.now)
+        ≡ Ok edges.items) }
+    ensures fault { IfErr result (λ e. e ≢ LoadError.Memory →
+        spec.named_edges_of ids.now row (view value.now) ≡ Err e) }
     ensures few { IfOk result (λ edges. vec_len edges ≤ MAX_EDGES) }
     ensures join { IfOk result (λ edges. All (JoinsNodes (length ids.now)) edges.items) }
 {
@@ -206,8 +221,10 @@ fn edges_of(
     values: &[Value],
     row: u32,
 ) -> Result<Vec<Link>, LoadError>
-    ensures edges { IfOk result (λ edges. try_map (spec.named_edge_of ids.now row) (map view values.now) ≡ Ok edges.items) }
-    ensures fault { IfErr result (λ e. e ≢ LoadError.Memory → try_map (spec.named_edge_of ids.now row) (map view values.now) ≡ Err e) }
+    ensures edges { IfOk result (λ edges. try_map (spec.named_edge_of ids.now row)
+        (map view values.now) ≡ Ok edges.items) }
+    ensures fault { IfErr result (λ e. e ≢ LoadError.Memory →
+        try_map (spec.named_edge_of ids.now row) (map view values.now) ≡ Err e) }
     ensures len { IfOk result (λ edges. vec_len edges ≡ length values.now) }
     ensures join { IfOk result (λ edges. All (JoinsNodes (length ids.now)) edges.items) }
 {
@@ -260,8 +277,10 @@ fn place_of(ids: &NameTable<'_>, id: &[u8], row: u32) -> Result<u32, LoadError>
 /// `WrongShape` where the entry is no string; else `UnknownNode` where it is no node's id.
 #[tactic(auto, unfolding(crate::specs::Named::named_place_of))]
 fn read_place(ids: &NameTable<'_>, value: &Value, rule: u8, row: u32) -> Result<u32, LoadError>
-    ensures place { IfOk result (λ place. spec.named_place_of ids.now rule row (view value.now) ≡ Ok place) }
-    ensures fault { IfErr result (λ e. spec.named_place_of ids.now rule row (view value.now) ≡ Err e) }
+    ensures place { IfOk result (λ place. spec.named_place_of ids.now rule row (view value.now)
+        ≡ Ok place) }
+    ensures fault { IfErr result (λ e. spec.named_place_of ids.now rule row (view value.now)
+        ≡ Err e) }
     ensures within { IfOk result (λ place. place < length ids.now) }
 {
     place_of(ids, string(Some(value), rule, row)?, row)
@@ -275,8 +294,10 @@ fn places_of(
     rule: u8,
     row: u32,
 ) -> Result<Vec<u32>, LoadError>
-    ensures places { IfOk result (λ places. try_map (spec.named_place_of ids.now rule row) (map view values.now) ≡ Ok places.items) }
-    ensures fault { IfErr result (λ e. e ≢ LoadError.Memory → try_map (spec.named_place_of ids.now rule row) (map view values.now) ≡ Err e) }
+    ensures places { IfOk result (λ places. try_map (spec.named_place_of ids.now rule row)
+        (map view values.now) ≡ Ok places.items) }
+    ensures fault { IfErr result (λ e. e ≢ LoadError.Memory →
+        try_map (spec.named_place_of ids.now rule row) (map view values.now) ≡ Err e) }
     ensures within { IfOk result (λ places. All (λ place. place < length ids.now) places.items) }
 {
     let mut places = Vec::with_capacity(alloc, values.len())?;
@@ -296,8 +317,10 @@ fn read_places(
     rule: u8,
     row: u32,
 ) -> Result<Vec<u32>, LoadError>
-    ensures places { IfOk result (λ places. spec.named_places_of ids.now rule row (option_map (λ v. view v.now) value.entry) ≡ Ok places.items) }
-    ensures fault { IfErr result (λ e. e ≢ LoadError.Memory → spec.named_places_of ids.now rule row (option_map (λ v. view v.now) value.entry) ≡ Err e) }
+    ensures places { IfOk result (λ places. spec.named_places_of ids.now rule row (option_map (λ v.
+        view v.now) value.entry) ≡ Ok places.items) }
+    ensures fault { IfErr result (λ e. e ≢ LoadError.Memory →
+        spec.named_places_of ids.now rule row (option_map (λ v. view v.now) value.entry) ≡ Err e) }
     ensures within { IfOk result (λ places. All (λ place. place < length ids.now) places.items) }
 {
     places_of(alloc, ids, entries(value, rule, row)?, rule, row)
@@ -312,8 +335,11 @@ fn read_optional_places(
     rule: u8,
     row: u32,
 ) -> Result<Vec<u32>, LoadError>
-    ensures places { IfOk result (λ places. spec.optional_named_places_of ids.now rule row (option_map (λ v. view v.now) value.entry) ≡ Ok places.items) }
-    ensures fault { IfErr result (λ e. e ≢ LoadError.Memory → spec.optional_named_places_of ids.now rule row (option_map (λ v. view v.now) value.entry) ≡ Err e) }
+    ensures places { IfOk result (λ places. spec.optional_named_places_of ids.now rule row
+        (option_map (λ v. view v.now) value.entry) ≡ Ok places.items) }
+    ensures fault { IfErr result (λ e. e ≢ LoadError.Memory →
+        spec.optional_named_places_of ids.now rule row (option_map (λ v. view v.now) value.entry)
+        ≡ Err e) }
     ensures within { IfOk result (λ places. All (λ place. place < length ids.now) places.items) }
 {
     match value {
@@ -337,8 +363,10 @@ fn read_list(
     rule: u8,
     row: u32,
 ) -> Result<Vec<u32>, LoadError>
-    ensures places { IfOk result (λ places. spec.named_list_of name.now ids.now rule row (view value.now) ≡ Ok places.items) }
-    ensures fault { IfErr result (λ e. e ≢ LoadError.Memory → spec.named_list_of name.now ids.now rule row (view value.now) ≡ Err e) }
+    ensures places { IfOk result (λ places. spec.named_list_of name.now ids.now rule row
+        (view value.now) ≡ Ok places.items) }
+    ensures fault { IfErr result (λ e. e ≢ LoadError.Memory →
+        spec.named_list_of name.now ids.now rule row (view value.now) ≡ Err e) }
     ensures within { IfOk result (λ places. All (λ place. place < length ids.now) places.items) }
 {
     read_places(alloc, ids, part(value, name, 41, row)?, rule, row)
@@ -355,8 +383,10 @@ fn read_optional_list(
     rule: u8,
     row: u32,
 ) -> Result<Vec<u32>, LoadError>
-    ensures places { IfOk result (λ places. spec.optional_named_list_of name.now ids.now rule row (view value.now) ≡ Ok places.items) }
-    ensures fault { IfErr result (λ e. e ≢ LoadError.Memory → spec.optional_named_list_of name.now ids.now rule row (view value.now) ≡ Err e) }
+    ensures places { IfOk result (λ places. spec.optional_named_list_of name.now ids.now rule row
+        (view value.now) ≡ Ok places.items) }
+    ensures fault { IfErr result (λ e. e ≢ LoadError.Memory →
+        spec.optional_named_list_of name.now ids.now rule row (view value.now) ≡ Err e) }
     ensures within { IfOk result (λ places. All (λ place. place < length ids.now) places.items) }
 {
     read_optional_places(alloc, ids, part(value, name, 41, row)?, rule, row)

@@ -29,8 +29,10 @@ pub(crate) fn read_numbered(
     value: &Value,
     row: u32,
 ) -> Result<Listing, LoadError>
-    ensures listed { IfOk result (λ listing. spec.numbered_of locations.now row (view value.now) ≡ Ok listing) }
-    ensures fault { IfErr result (λ e. e ≢ LoadError.Memory → spec.numbered_of locations.now row (view value.now) ≡ Err e) }
+    ensures listed { IfOk result (λ listing. spec.numbered_of locations.now row (view value.now)
+        ≡ Ok listing) }
+    ensures fault { IfErr result (λ e. e ≢ LoadError.Memory →
+        spec.numbered_of locations.now row (view value.now) ≡ Err e) }
     ensures located { IfOk result (λ listing. All (StandsIn locations.now) listing.nodes) }
 {
     let nodes = read_nodes(alloc, locations, value, row)?;
@@ -61,8 +63,10 @@ fn read_nodes(
     value: &Value,
     row: u32,
 ) -> Result<Vec<Node>, LoadError>
-    ensures nodes { IfOk result (λ nodes. spec.numbered_nodes_of locations.now row (view value.now) ≡ Ok nodes.items) }
-    ensures fault { IfErr result (λ e. e ≢ LoadError.Memory → spec.numbered_nodes_of locations.now row (view value.now) ≡ Err e) }
+    ensures nodes { IfOk result (λ nodes. spec.numbered_nodes_of locations.now row (view value.now)
+        ≡ Ok nodes.items) }
+    ensures fault { IfErr result (λ e. e ≢ LoadError.Memory →
+        spec.numbered_nodes_of locations.now row (view value.now) ≡ Err e) }
     ensures located { IfOk result (λ nodes. All (StandsIn locations.now) nodes.items) }
     ensures few { IfOk result (λ nodes. vec_len nodes ≤ MAX_NODES) }
 {
@@ -77,8 +81,10 @@ fn nodes_of(
     values: &[Value],
     row: u32,
 ) -> Result<Vec<Node>, LoadError>
-    ensures nodes { IfOk result (λ nodes. try_map (spec.node_of locations.now row) (map view values.now) ≡ Ok nodes.items) }
-    ensures fault { IfErr result (λ e. e ≢ LoadError.Memory → try_map (spec.node_of locations.now row) (map view values.now) ≡ Err e) }
+    ensures nodes { IfOk result (λ nodes. try_map (spec.node_of locations.now row)
+        (map view values.now) ≡ Ok nodes.items) }
+    ensures fault { IfErr result (λ e. e ≢ LoadError.Memory →
+        try_map (spec.node_of locations.now row) (map view values.now) ≡ Err e) }
     ensures located { IfOk result (λ nodes. All (StandsIn locations.now) nodes.items) }
     ensures len { IfOk result (λ nodes. vec_len nodes ≡ length values.now) }
 {
@@ -113,8 +119,10 @@ fn read_node(locations: &Locations, value: &Value, row: u32) -> Result<Node, Loa
 /// entries; else the first fault of an entry; `Memory`.
 #[tactic(auto, unfolding(crate::specs::Numbered::numbered_edges_of))]
 fn read_edges(alloc: Global, value: &Value, count: u32, row: u32) -> Result<Vec<Link>, LoadError>
-    ensures edges { IfOk result (λ edges. spec.numbered_edges_of count row (view value.now) ≡ Ok edges.items) }
-    ensures fault { IfErr result (λ e. e ≢ LoadError.Memory → spec.numbered_edges_of count row (view value.now) ≡ Err e) }
+    ensures edges { IfOk result (λ edges. spec.numbered_edges_of count row (view value.now)
+        ≡ Ok edges.items) }
+    ensures fault { IfErr result (λ e. e ≢ LoadError.Memory →
+        spec.numbered_edges_of count row (view value.now) ≡ Err e) }
     ensures few { IfOk result (λ edges. vec_len edges ≤ MAX_EDGES) }
     ensures join { IfOk result (λ edges. All (JoinsNodes count) edges.items) }
 {
@@ -124,8 +132,10 @@ fn read_edges(alloc: Global, value: &Value, count: u32, row: u32) -> Result<Vec<
 
 /// The edges of these entries, in order.
 fn edges_of(alloc: Global, values: &[Value], count: u32, row: u32) -> Result<Vec<Link>, LoadError>
-    ensures edges { IfOk result (λ edges. try_map (spec.edge_of count row) (map view values.now) ≡ Ok edges.items) }
-    ensures fault { IfErr result (λ e. e ≢ LoadError.Memory → try_map (spec.edge_of count row) (map view values.now) ≡ Err e) }
+    ensures edges { IfOk result (λ edges. try_map (spec.edge_of count row) (map view values.now)
+        ≡ Ok edges.items) }
+    ensures fault { IfErr result (λ e. e ≢ LoadError.Memory →
+        try_map (spec.edge_of count row) (map view values.now) ≡ Err e) }
     ensures len { IfOk result (λ edges. vec_len edges ≡ length values.now) }
     ensures join { IfOk result (λ edges. All (JoinsNodes count) edges.items) }
 {
@@ -189,8 +199,10 @@ fn read_places(
     rule: u8,
     row: u32,
 ) -> Result<Vec<u32>, LoadError>
-    ensures places { IfOk result (λ places. spec.places_of count rule row (view value.now) ≡ Ok places.items) }
-    ensures fault { IfErr result (λ e. e ≢ LoadError.Memory → spec.places_of count rule row (view value.now) ≡ Err e) }
+    ensures places { IfOk result (λ places. spec.places_of count rule row (view value.now)
+        ≡ Ok places.items) }
+    ensures fault { IfErr result (λ e. e ≢ LoadError.Memory →
+        spec.places_of count rule row (view value.now) ≡ Err e) }
     ensures within { IfOk result (λ places. All (λ place. place < count) places.items) }
 {
     match index_list(alloc, value, count) {
@@ -211,8 +223,10 @@ fn read_optional_places(
     rule: u8,
     row: u32,
 ) -> Result<Vec<u32>, LoadError>
-    ensures places { IfOk result (λ places. spec.optional_places_of count rule row (option_map (λ v. view v.now) value.entry) ≡ Ok places.items) }
-    ensures fault { IfErr result (λ e. e ≢ LoadError.Memory → spec.optional_places_of count rule row (option_map (λ v. view v.now) value.entry) ≡ Err e) }
+    ensures places { IfOk result (λ places. spec.optional_places_of count rule row (option_map (λ v.
+        view v.now) value.entry) ≡ Ok places.items) }
+    ensures fault { IfErr result (λ e. e ≢ LoadError.Memory →
+        spec.optional_places_of count rule row (option_map (λ v. view v.now) value.entry) ≡ Err e) }
     ensures within { IfOk result (λ places. All (λ place. place < count) places.items) }
 {
     match value {
@@ -235,8 +249,10 @@ fn read_list(
     rule: u8,
     row: u32,
 ) -> Result<Vec<u32>, LoadError>
-    ensures places { IfOk result (λ places. spec.list_of name.now count rule row (view value.now) ≡ Ok places.items) }
-    ensures fault { IfErr result (λ e. e ≢ LoadError.Memory → spec.list_of name.now count rule row (view value.now) ≡ Err e) }
+    ensures places { IfOk result (λ places. spec.list_of name.now count rule row (view value.now)
+        ≡ Ok places.items) }
+    ensures fault { IfErr result (λ e. e ≢ LoadError.Memory →
+        spec.list_of name.now count rule row (view value.now) ≡ Err e) }
     ensures within { IfOk result (λ places. All (λ place. place < count) places.items) }
 {
     let list = part(value, name, 24, row)?.ok_or(LoadError::WrongShape { rule, row })?;
@@ -254,8 +270,10 @@ fn read_optional_list(
     rule: u8,
     row: u32,
 ) -> Result<Vec<u32>, LoadError>
-    ensures places { IfOk result (λ places. spec.optional_list_of name.now count rule row (view value.now) ≡ Ok places.items) }
-    ensures fault { IfErr result (λ e. e ≢ LoadError.Memory → spec.optional_list_of name.now count rule row (view value.now) ≡ Err e) }
+    ensures places { IfOk result (λ places. spec.optional_list_of name.now count rule row
+        (view value.now) ≡ Ok places.items) }
+    ensures fault { IfErr result (λ e. e ≢ LoadError.Memory →
+        spec.optional_list_of name.now count rule row (view value.now) ≡ Err e) }
     ensures within { IfOk result (λ places. All (λ place. place < count) places.items) }
 {
     read_optional_places(alloc, part(value, name, 24, row)?, count, rule, row)

@@ -87,8 +87,10 @@ struct Partners {
 /// `Memory` where memory runs out.
 pub fn pair(alloc: Global, before: Snapshot, after: Snapshot) -> Result<Vec<FlowPair>, PairError>
     ensures pairs { IfOk result (λ pairs. IsAnswer (Pairing before after) (Ok pairs.items)) }
-    ensures differs { IfErr result (λ e. e ≢ PairError.Memory → IsAnswer (Pairing before after) (Err e)) }
-    ensures located { (names : List (List ℕ)) (level : Level) → AreLocated names level before → AreLocated names level after →
+    ensures differs { IfErr result (λ e. e ≢ PairError.Memory →
+        IsAnswer (Pairing before after) (Err e)) }
+    ensures located { (names : List (List ℕ)) (level : Level) → AreLocated names level before →
+        AreLocated names level after →
         IfOk result (λ pairs. ArePairsLocated names level pairs.items) }
 {
     let before = before.into_flows();
@@ -108,10 +110,13 @@ fn find_partners(
 ) -> Result<Partners, AllocError>
     requires before { AreSnapshotFlows before.now.items }
     requires after { AreDistinct (snapshot_flows.names_of after.items) }
-    ensures found { IfOk result (λ partners. partners.found.items ≡ map (λ flow. flow_named flow.class.name after.items) before.now.items) }
-    ensures others { IfOk result (λ partners. partners.others.items ≡ flows_without (snapshot_flows.names_of before.now.items) after.items) }
+    ensures found { IfOk result (λ partners. partners.found.items
+        ≡ map (λ flow. flow_named flow.class.name after.items) before.now.items) }
+    ensures others { IfOk result (λ partners. partners.others.items
+        ≡ flows_without (snapshot_flows.names_of before.now.items) after.items) }
     ensures located { (names : List (List ℕ)) (level : Level) → AreLocated names level after.items →
-        IfOk result (λ partners. AreFoundLocated names level partners.found.items × AreLocated names level partners.others.items) }
+        IfOk result (λ partners. AreFoundLocated names level partners.found.items
+        × AreLocated names level partners.others.items) }
 {
     let names = names_of(alloc, before.as_slice())?;
     let mut partners = Partners {
@@ -155,12 +160,16 @@ fn no_flows(alloc: Global, count: usize) -> Result<Vec<Option<Flow>>, AllocError
 /// snapshot's flows.
 fn put(names: &NameTable<'_>, partners: &mut Partners, flow: Flow) -> Result<(), AllocError>
     requires room { length names.now ≤ vec_len partners.old.found }
-    ensures found { OnOk result (partners.new.found.items ≡ with_flow partners.old.found.items (place_of names.now flow.class.name) flow) }
-    ensures others { OnOk result (partners.new.others.items ≡ partners.old.others.items ++ flows_without names.now (flow ∷ [])) }
+    ensures found { OnOk result (partners.new.found.items
+        ≡ with_flow partners.old.found.items (place_of names.now flow.class.name) flow) }
+    ensures others { OnOk result (partners.new.others.items ≡ partners.old.others.items
+        ++ flows_without names.now (flow ∷ [])) }
     ensures len { vec_len partners.new.found ≡ vec_len partners.old.found }
     ensures located { (names : List (List ℕ)) (level : Level) → IsLocated names level flow.graph →
-        AreFoundLocated names level partners.old.found.items → AreLocated names level partners.old.others.items →
-        AreFoundLocated names level partners.new.found.items × AreLocated names level partners.new.others.items }
+        AreFoundLocated names level partners.old.found.items →
+        AreLocated names level partners.old.others.items →
+        AreFoundLocated names level partners.new.found.items
+        × AreLocated names level partners.new.others.items }
 {
     match names.place(flow.class.name.as_bytes()) {
         Some(place) => partners.found[place as usize] = Some(flow),
@@ -177,12 +186,17 @@ fn pair_found(
     mut found: Vec<Option<Flow>>,
 ) -> Result<Vec<FlowPair>, PairError>
     requires few { vec_len before ≤ MAX_FLOWS }
-    ensures pairs { (after : List Flow) → found.items ≡ map (λ flow. flow_named flow.class.name after) before.items →
-        IfOk result (λ pairs. All (Agrees after) before.items × (pairs.items ≡ map (spec.pair_before after) before.items)) }
-    ensures differs { (after : List Flow) → found.items ≡ map (λ flow. flow_named flow.class.name after) before.items →
+    ensures pairs { (after : List Flow) → found.items
+        ≡ map (λ flow. flow_named flow.class.name after) before.items →
+        IfOk result (λ pairs. All (Agrees after) before.items
+        × (pairs.items ≡ map (spec.pair_before after) before.items)) }
+    ensures differs { (after : List Flow) → found.items
+        ≡ map (λ flow. flow_named flow.class.name after) before.items →
         IfErr result (λ e. e ≢ PairError.Memory → Pairing before.items after (Err e)) }
-    ensures located { (names : List (List ℕ)) (level : Level) → AreLocated names level before.items →
-        AreFoundLocated names level found.items → IfOk result (λ pairs. ArePairsLocated names level pairs.items) }
+    ensures located { (names : List (List ℕ)) (level : Level) →
+        AreLocated names level before.items →
+        AreFoundLocated names level found.items →
+        IfOk result (λ pairs. ArePairsLocated names level pairs.items) }
 {
     let mut pairs = Vec::with_capacity(alloc, before.len())?;
     before.reverse();
@@ -211,7 +225,8 @@ fn pair_of(
     ensures agrees { OnOk result (AgreesWith partner before) }
     ensures differs { IfErr result (λ e. e ≢ PairError.Memory → IsDifference row before partner e) }
     ensures located { (names : List (List ℕ)) (level : Level) → IsLocated names level before.graph →
-        IfSome partner (λ flow. IsLocated names level flow.graph) → IfOk result (IsPairLocated names level) }
+        IfSome partner (λ flow. IsLocated names level flow.graph) →
+        IfOk result (IsPairLocated names level) }
 {
     let Some(after) = partner else {
         return Ok(FlowPair {
@@ -240,9 +255,12 @@ fn pair_others(
     pairs: &mut Vec<FlowPair>,
     mut others: Vec<Flow>,
 ) -> Result<(), AllocError>
-    ensures pairs { OnOk result (pairs.new.items ≡ pairs.old.items ++ map spec.pair_after others.items) }
-    ensures located { (names : List (List ℕ)) (level : Level) → AreLocated names level others.items →
-        ArePairsLocated names level pairs.old.items → OnOk result (ArePairsLocated names level pairs.new.items) }
+    ensures pairs { OnOk result (pairs.new.items ≡ pairs.old.items
+        ++ map spec.pair_after others.items) }
+    ensures located { (names : List (List ℕ)) (level : Level) →
+        AreLocated names level others.items →
+        ArePairsLocated names level pairs.old.items →
+        OnOk result (ArePairsLocated names level pairs.new.items) }
 {
     others.reverse();
     while let Some(flow) = others.pop() {

@@ -88,9 +88,12 @@ impl Snapshot {
     /// flow.
     pub fn decode(alloc: Global, bytes: &[u8], locations: &Locations) -> Result<Snapshot, LoadError>
         requires { length bytes.now ≤ 33554432 }
-        ensures load { IfOk result (λ snapshot. (listed : List ListedFlow) × IsAnswer (Load locations.now bytes.now) (Ok listed) × AreFlowsOf listed snapshot) }
-        ensures fault { IfErr result (λ e. e ≢ LoadError.Memory → IsAnswer (Load locations.now bytes.now) (Err e)) }
-        ensures located { IfOk result (λ snapshot. (level : Level) → AreLocated (alphabet_of level locations.now) level snapshot) }
+        ensures load { IfOk result (λ snapshot. (listed : List ListedFlow)
+            × IsAnswer (Load locations.now bytes.now) (Ok listed) × AreFlowsOf listed snapshot) }
+        ensures fault { IfErr result (λ e. e ≢ LoadError.Memory →
+            IsAnswer (Load locations.now bytes.now) (Err e)) }
+        ensures located { IfOk result (λ snapshot. (level : Level) →
+            AreLocated (alphabet_of level locations.now) level snapshot) }
     {
         let root = read(alloc, bytes)?;
         let flows = read_snapshot(alloc, locations, &root)?;

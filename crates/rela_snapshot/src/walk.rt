@@ -36,11 +36,15 @@ pub(crate) fn read_snapshot(
     locations: &Locations,
     root: &Value,
 ) -> Result<Vec<Flow>, LoadError>
-    ensures flows { IfOk result (λ flows. (listed : List ListedFlow) × IsAnswer (IsSnapshot locations.now (view root.now)) (Ok listed) × AreFlowsOf listed flows.items) }
-    ensures fault { IfErr result (λ e. e ≢ LoadError.Memory → IsAnswer (IsSnapshot locations.now (view root.now)) (Err e)) }
+    ensures flows { IfOk result (λ flows. (listed : List ListedFlow)
+        × IsAnswer (IsSnapshot locations.now (view root.now)) (Ok listed)
+        × AreFlowsOf listed flows.items) }
+    ensures fault { IfErr result (λ e. e ≢ LoadError.Memory →
+        IsAnswer (IsSnapshot locations.now (view root.now)) (Err e)) }
     ensures located { IfOk result (λ flows. AreLocatedIn locations.now flows.items) }
     ensures few { IfOk result (λ flows. vec_len flows ≤ MAX_FLOWS) }
-    ensures distinct { IfOk result (λ flows. AreDistinct (map (λ flow. flow.class.name) flows.items)) }
+    ensures distinct { IfOk result (λ flows.
+        AreDistinct (map (λ flow. flow.class.name) flows.items)) }
 {
     let (version, values) = read_contents(root)?;
     read_flows(alloc, locations, version, values)
@@ -49,7 +53,8 @@ pub(crate) fn read_snapshot(
 /// The version of a file, and the entries of its flows.
 #[tactic(auto, unfolding(crate::specs::Contents::contents_of))]
 fn read_contents(root: &Value) -> Result<(Version, &[Value]), LoadError>
-    ensures contents { IfOk result (λ contents. contents_of (view root.now) ≡ Ok (contents.0, map view contents.1.now)) }
+    ensures contents { IfOk result (λ contents. contents_of (view root.now)
+        ≡ Ok (contents.0, map view contents.1.now)) }
     ensures fault { IfErr result (λ e. contents_of (view root.now) ≡ Err e) }
 {
     let version = part(root, "version", 21, 0)?;
@@ -65,11 +70,15 @@ fn read_flows(
     version: Version,
     values: &[Value],
 ) -> Result<Vec<Flow>, LoadError>
-    ensures flows { IfOk result (λ flows. (listed : List ListedFlow) × IsAnswer (AreFlows locations.now version [] (map view values.now)) (Ok listed) × AreFlowsOf listed flows.items) }
-    ensures fault { IfErr result (λ e. e ≢ LoadError.Memory → IsAnswer (AreFlows locations.now version [] (map view values.now)) (Err e)) }
+    ensures flows { IfOk result (λ flows. (listed : List ListedFlow)
+        × IsAnswer (AreFlows locations.now version [] (map view values.now)) (Ok listed)
+        × AreFlowsOf listed flows.items) }
+    ensures fault { IfErr result (λ e. e ≢ LoadError.Memory →
+        IsAnswer (AreFlows locations.now version [] (map view values.now)) (Err e)) }
     ensures located { IfOk result (λ flows. AreLocatedIn locations.now flows.items) }
     ensures few { IfOk result (λ flows. vec_len flows ≤ MAX_FLOWS) }
-    ensures distinct { IfOk result (λ flows. AreDistinct (map (λ flow. flow.class.name) flows.items)) }
+    ensures distinct { IfOk result (λ flows.
+        AreDistinct (map (λ flow. flow.class.name) flows.items)) }
 {
     let mut names = NameTable::new(alloc);
     let mut flows = Vec::new(alloc);
@@ -88,8 +97,11 @@ fn read_flow<'a>(
     names: &mut NameTable<'a>,
     value: &'a Value,
 ) -> Result<Flow, LoadError>
-    ensures flow { IfOk result (λ flow. (listed : ListedFlow) × IsAnswer (IsFlow locations.now version names.old (view value.now)) (Ok listed) × IsFlowOf listed flow) }
-    ensures fault { IfErr result (λ e. e ≢ LoadError.Memory → IsAnswer (IsFlow locations.now version names.old (view value.now)) (Err e)) }
+    ensures flow { IfOk result (λ flow. (listed : ListedFlow)
+        × IsAnswer (IsFlow locations.now version names.old (view value.now)) (Ok listed)
+        × IsFlowOf listed flow) }
+    ensures fault { IfErr result (λ e. e ≢ LoadError.Memory →
+        IsAnswer (IsFlow locations.now version names.old (view value.now)) (Err e)) }
     ensures names { IfOk result (λ flow. names.new ≡ names.old ++ flow.class.name ∷ []) }
     ensures distinct { OnOk result (AreDistinct names.new) }
     ensures few { OnOk result (length names.old < MAX_FLOWS) }
@@ -115,7 +127,8 @@ fn read_next_name<'a>(
 ) -> Result<Name, LoadError>
     requires row { row ≡ length names.old }
     ensures name { IfOk result (λ name. next_name_of version names.old (view value.now) ≡ Ok name) }
-    ensures fault { IfErr result (λ e. e ≢ LoadError.Memory → next_name_of version names.old (view value.now) ≡ Err e) }
+    ensures fault { IfErr result (λ e. e ≢ LoadError.Memory →
+        next_name_of version names.old (view value.now) ≡ Err e) }
     ensures names { IfOk result (λ name. names.new ≡ names.old ++ name ∷ []) }
     ensures distinct { OnOk result (AreDistinct names.new) }
     ensures few { OnOk result (length names.old < MAX_FLOWS) }
@@ -137,8 +150,11 @@ fn read_flow_named(
     value: &Value,
     row: u32,
 ) -> Result<Flow, LoadError>
-    ensures flow { IfOk result (λ flow. (listed : ListedFlow) × IsAnswer (IsFlowNamed locations.now version row name (view value.now)) (Ok listed) × IsFlowOf listed flow) }
-    ensures fault { IfErr result (λ e. e ≢ LoadError.Memory → IsAnswer (IsFlowNamed locations.now version row name (view value.now)) (Err e)) }
+    ensures flow { IfOk result (λ flow. (listed : ListedFlow)
+        × IsAnswer (IsFlowNamed locations.now version row name (view value.now)) (Ok listed)
+        × IsFlowOf listed flow) }
+    ensures fault { IfErr result (λ e. e ≢ LoadError.Memory →
+        IsAnswer (IsFlowNamed locations.now version row name (view value.now)) (Err e)) }
     ensures name { IfOk result (λ flow. flow.class.name ≡ name) }
     ensures located { IfOk result (λ flow. IsLocatedIn locations.now flow.graph) }
 {
@@ -163,8 +179,11 @@ fn read_graph(
     value: &Value,
     row: u32,
 ) -> Result<Graph, LoadError>
-    ensures graph { IfOk result (λ graph. (listed : Listed) × (graph_of locations.now version row (view value.now) ≡ Ok listed) × IsGraphOf listed graph) }
-    ensures fault { IfErr result (λ e. e ≢ LoadError.Memory → graph_of locations.now version row (view value.now) ≡ Err e) }
+    ensures graph { IfOk result (λ graph. (listed : Listed)
+        × (graph_of locations.now version row (view value.now) ≡ Ok listed)
+        × IsGraphOf listed graph) }
+    ensures fault { IfErr result (λ e. e ≢ LoadError.Memory →
+        graph_of locations.now version row (view value.now) ≡ Err e) }
     ensures located { IfOk result (IsLocatedIn locations.now) }
 {
     let listing = read_listing(alloc, locations, version, value, row)?;
@@ -180,8 +199,10 @@ fn read_listing(
     value: &Value,
     row: u32,
 ) -> Result<Listing, LoadError>
-    ensures listed { IfOk result (λ listing. graph_of locations.now version row (view value.now) ≡ Ok listing) }
-    ensures fault { IfErr result (λ e. e ≢ LoadError.Memory → graph_of locations.now version row (view value.now) ≡ Err e) }
+    ensures listed { IfOk result (λ listing. graph_of locations.now version row (view value.now)
+        ≡ Ok listing) }
+    ensures fault { IfErr result (λ e. e ≢ LoadError.Memory →
+        graph_of locations.now version row (view value.now) ≡ Err e) }
     ensures located { IfOk result (λ listing. All (StandsIn locations.now) listing.nodes) }
 {
     match version {

@@ -27,7 +27,8 @@ level_word =
 
 -- the level that a text begins with, or interface
 unfoldable pub level_line : Phrase Level
-level_line = (word (codes "level") >> (level_word >>= λ l. mark 59 >> done l)) or done level.Interface
+level_line = (word (codes "level") >> (level_word >>= λ l. mark 59 >> done l)) or
+    done level.Interface
 
 -- the flows that a check is for: all where it doesn't say
 unfoldable pub condition : ℕ → Phrase Predicate
@@ -96,7 +97,8 @@ one_less (suc n) = Some n
 
 -- how many more brackets may be opened behind a token
 abbrev pub room_after : TokenKind → ℕ → Option ℕ
-room_after kind room = if opens kind then one_less room else (if closes kind then Some (room + 1) else Some room)
+room_after kind room = if opens kind then one_less room
+    else (if closes kind then Some (room + 1) else Some room)
 
 -- how many more brackets may be opened behind the tokens; None where too many are open behind some of them
 unfoldable pub room_behind : ℕ → List Token → Option ℕ
@@ -117,7 +119,8 @@ is_bad_number _ = false
 
 -- where a bad number stands, if the tokens begin with one in its brackets
 unfoldable pub bad_in_front : List Token → Option ℕ
-bad_in_front (a ∷ b ∷ c ∷ ts) = if is_mark_of 123 a.kind && (is_bad_number b.kind && is_mark_of 125 c.kind) then Some b.at else None
+bad_in_front (a ∷ b ∷ c ∷ ts) = if is_mark_of 123 a.kind
+    && (is_bad_number b.kind && is_mark_of 125 c.kind) then Some b.at else None
 bad_in_front _ = None
 
 -- where the first bad number stands: in a text of the grammar a number is a bare word of digits between `{` and `}`, and these are numbers
@@ -149,7 +152,8 @@ pub record IsSyntax (tokens : List Token) (end at : ℕ) : Type 0 where
   pub joined : tokens ≡ before ++ rest
   pub here : at ≡ offset end rest
   pub begins : BeginsText before
-  pub stuck : (others : List Token) (tree : SpecFile) → SameNext rest others → ¬ Grammar (before ++ others) tree
+  pub stuck : (others : List Token) (tree : SpecFile) → SameNext rest others →
+      ¬ Grammar (before ++ others) tree
   pub shallow : IsShallow before
 
 -- the first bracket behind which more than 100 are open, where some text begins with the tokens up to and with it

@@ -45,7 +45,8 @@ times room = bracketed room (mark 123) λ _. number >>= λ n. mark 125 >> done n
 
 -- the empty path, or a path expression, in brackets
 unfoldable pub group : ℕ → Phrase PathExpr → Phrase PathExpr
-group room inside = bracketed room (mark 40) λ _. (mark 41 >> done expr.Empty) or (inside >>= λ e. mark 41 >> done e)
+group room inside = bracketed room (mark 40) λ _. (mark 41 >> done expr.Empty) or (inside >>= λ e.
+    mark 41 >> done e)
 
 unfoldable pub atom : ℕ → Phrase PathExpr → Phrase PathExpr
 atom room inside =
@@ -65,11 +66,13 @@ postfix room e =
     or done e
 
 unfoldable pub negation : ℕ → Phrase PathExpr → Phrase PathExpr
-negation room inside = (mark 33 >> (atom room inside >>= postfix room >>= λ e. done (expr.Not e))) or (atom room inside >>= postfix room)
+negation room inside = (mark 33 >> (atom room inside >>= postfix room >>= λ e. done (expr.Not e)))
+    or (atom room inside >>= postfix room)
 
 -- `|` binds the least, then `&`, then parts in a row, then `!`, and what stands behind a part the most
 unfoldable pub expression : ℕ → Phrase PathExpr → Phrase PathExpr
-expression room inside = chain expr.Alt (mark 124) (chain expr.And (mark 38) (chain expr.Seq (done tt) (negation room inside)))
+expression room inside = chain expr.Alt (mark 124)
+    (chain expr.And (mark 38) (chain expr.Seq (done tt) (negation room inside)))
 
 unfoldable pub path : ℕ → Phrase PathExpr
 path zero = expression zero none

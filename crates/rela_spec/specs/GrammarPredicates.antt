@@ -24,11 +24,13 @@ unfoldable pub single : ℕ → Phrase Predicate → Phrase Predicate
 single room inside = bracketed room (mark 40) (λ _. inside >>= λ p. mark 41 >> done p) or test
 
 unfoldable pub denial : ℕ → Phrase Predicate → Phrase Predicate
-denial room inside = (word (codes "not") >> (single room inside >>= λ p. done (flows.Not p))) or single room inside
+denial room inside = (word (codes "not") >> (single room inside >>= λ p. done (flows.Not p))) or
+    single room inside
 
 -- `or` binds the least, then `and`, then `not`
 unfoldable pub disjunction : ℕ → Phrase Predicate → Phrase Predicate
-disjunction room inside = chain flows.Or (word (codes "or")) (chain flows.And (word (codes "and")) (denial room inside))
+disjunction room inside = chain flows.Or (word (codes "or")) (chain flows.And (word (codes "and"))
+    (denial room inside))
 
 unfoldable pub predicate : ℕ → Phrase Predicate
 predicate zero = disjunction zero none

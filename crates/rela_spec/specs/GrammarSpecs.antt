@@ -49,7 +49,8 @@ single room inside =
 
 -- `else` binds less than `then`
 unfoldable pub alternatives : ℕ → Phrase SpecExpr → Phrase SpecExpr
-alternatives room inside = chain spec.Else (word (codes "else")) (chain spec.Then (word (codes "then")) (single room inside))
+alternatives room inside = chain spec.Else (word (codes "else"))
+    (chain spec.Then (word (codes "then")) (single room inside))
 
 unfoldable pub body : ℕ → Phrase SpecExpr
 body zero = alternatives zero none

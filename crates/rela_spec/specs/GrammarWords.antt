@@ -25,7 +25,8 @@ pub record Named : Type 0 where
 
 -- a quoted word, or a bare word that is no keyword
 abbrev pub name : Phrase Named
-name = token λ t n. (n.at ≡ t.at) × ((t.kind ≡ Quoted n.name) ⊎ ((t.kind ≡ Bare n.name) × (is_keyword n.name ≡ false)))
+name = token λ t n. (n.at ≡ t.at) × ((t.kind ≡ Quoted n.name)
+    ⊎ ((t.kind ≡ Bare n.name) × (is_keyword n.name ≡ false)))
 
 abbrev pub reference : Phrase Named
 reference = token λ t n. (n.at ≡ t.at) × (t.kind ≡ Reference n.name)

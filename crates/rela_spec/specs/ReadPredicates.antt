@@ -12,7 +12,8 @@ use Rattle.rela_spec.specs.declared.parsing.predicates.Joint.TheVariants as join
 
 abbrev pub read_placed : ℕ → (Prefix → Predicate) → (Prefix → Predicate) → Reading Predicate
 read_placed end within overlapping =
-    choose (is_word_of (codes "in")) (read_word end (codes "in") >> (read_prefix end >>= λ p. read_done (within p)))
+    choose (is_word_of (codes "in")) (read_word end (codes "in") >> (read_prefix end >>= λ p.
+    read_done (within p)))
     (read_word end (codes "overlaps") >> (read_prefix end >>= λ p. read_done (overlapping p)))
 
 unfoldable pub read_destination : ℕ → Reading Predicate
@@ -26,26 +27,32 @@ read_test end =
     choose (is_word_of (codes "all")) (read_word end (codes "all") >> read_done flows.All)
     (choose (is_word_of (codes "dst")) (read_word end (codes "dst") >> read_destination end)
     (choose (is_word_of (codes "src")) (read_word end (codes "src") >> read_source end)
-    (choose (is_word_of (codes "flow")) (read_word end (codes "flow") >> (read_name end >>= λ n. read_done (flows.Flow n.name)))
+    (choose (is_word_of (codes "flow")) (read_word end (codes "flow") >> (read_name end >>= λ n.
+    read_done (flows.Flow n.name)))
     (read_word end (codes "class") >> (read_name end >>= λ n. read_done (flows.Class n.name))))))
 
 abbrev pub read_group : ℕ → ℕ → Reading Predicate → Reading Predicate
-read_group end room inside = read_open end 40 room >> (inside >>= λ p. read_mark end 41 >> read_done p)
+read_group end room inside = read_open end 40 room >> (inside >>= λ p.
+    read_mark end 41 >> read_done p)
 
 abbrev pub read_single : ℕ → Reading Predicate → Reading Predicate
 read_single end group = choose (is_mark_of 40) group (read_test end)
 
 abbrev pub read_denial : ℕ → Reading Predicate → Reading Predicate
-read_denial end single = choose (is_word_of (codes "not")) (read_word end (codes "not") >> (single >>= λ p. read_done (flows.Not p))) single
+read_denial end single = choose (is_word_of (codes "not"))
+    (read_word end (codes "not") >> (single >>= λ p. read_done (flows.Not p))) single
 
 abbrev pub read_conjunction : ℕ → Reading Predicate → Reading Predicate
-read_conjunction end denial = read_chain flows.And (is_word_of (codes "and")) (read_word end (codes "and") >> denial) denial
+read_conjunction end denial = read_chain flows.And (is_word_of (codes "and"))
+    (read_word end (codes "and") >> denial) denial
 
 abbrev pub read_disjunction : ℕ → Reading Predicate → Reading Predicate
-read_disjunction end conjunction = read_chain flows.Or (is_word_of (codes "or")) (read_word end (codes "or") >> conjunction) conjunction
+read_disjunction end conjunction = read_chain flows.Or (is_word_of (codes "or"))
+    (read_word end (codes "or") >> conjunction) conjunction
 
 abbrev pub read_over : ℕ → ℕ → Reading Predicate → Reading Predicate
-read_over end room inside = read_disjunction end (read_conjunction end (read_denial end (read_single end (read_group end room inside))))
+read_over end room inside = read_disjunction end
+    (read_conjunction end (read_denial end (read_single end (read_group end room inside))))
 
 unfoldable pub read_predicate : ℕ → ℕ → Reading Predicate
 read_predicate end zero = read_over end zero (λ _. Err Memory)
@@ -93,7 +100,8 @@ chain_at joint.Or end room = disjunction_at end room
 chain_at joint.And end room = conjunction_at end room
 
 unfoldable pub more_at : Joint → ℕ → ℕ → List Predicate → Reading (List Predicate)
-more_at j end room before = read_onto before (read_all (is_word_of (between j)) (next_at j end room))
+more_at j end room before = read_onto before (read_all (is_word_of (between j))
+    (next_at j end room))
 
 -- how much deeper than what is in its brackets a part of a chain may be
 abbrev pub within : Joint → ℕ

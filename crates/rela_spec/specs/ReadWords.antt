@@ -78,7 +78,9 @@ read_prefix end = read_token (λ t. prefix_in t.kind) end
 
 -- whether the mark, or the word, is next; it is passed if it is
 abbrev pub whether_mark : ℕ → ℕ → Reading Bool
-whether_mark end byte = choose (is_mark_of byte) (read_mark end byte >> read_done true) (read_done false)
+whether_mark end byte = choose (is_mark_of byte) (read_mark end byte >> read_done true)
+    (read_done false)
 
 abbrev pub whether_word : ℕ → List ℕ → Reading Bool
-whether_word end bytes = choose (is_word_of bytes) (read_word end bytes >> read_done true) (read_done false)
+whether_word end bytes = choose (is_word_of bytes) (read_word end bytes >> read_done true)
+    (read_done false)

@@ -18,7 +18,8 @@ next_is passes (t ∷ ts) = passes t.kind
 abbrev pub read_done : {A : Type 0} → A → Reading A
 read_done v ts = Ok (v, ts)
 
-abbrev pub and_read : {A B : Type 0} → Result (A × List Token) SpecError → (A → Reading B) → Result (B × List Token) SpecError
+abbrev pub and_read : {A B : Type 0} → Result (A × List Token) SpecError → (A → Reading B) →
+    Result (B × List Token) SpecError
 and_read (Ok found) q = q found.0 found.1
 and_read (Err e) q = Err e
 
@@ -34,7 +35,8 @@ abbrev pub ◌>>◌ : {B : Type 0} → Reading ⊤ → Reading B → Reading B
 abbrev pub choose : {A : Type 0} → (TokenKind → Bool) → Reading A → Reading A → Reading A
 choose passes p q ts = if next_is passes ts then p ts else q ts
 
-abbrev pub token_value : {A : Type 0} → ℕ → List Token → Option A → Result (A × List Token) SpecError
+abbrev pub token_value : {A : Type 0} → ℕ → List Token → Option A →
+    Result (A × List Token) SpecError
 token_value at ts (Some v) = Ok (v, ts)
 token_value at ts None = Err (Syntax at)
 
@@ -50,19 +52,23 @@ opened (suc room) at ts = Ok (tt, ts)
 
 unfoldable pub read_open : ℕ → ℕ → ℕ → Reading ⊤
 read_open end byte room [] = Err (Syntax end)
-read_open end byte room (t ∷ ts) = if is_mark_of byte t.kind then opened room t.at ts else Err (Syntax t.at)
+read_open end byte room (t ∷ ts) = if is_mark_of byte t.kind then opened room t.at ts
+    else Err (Syntax t.at)
 
 -- as long as the next token passes, at most so many times
 abbrev pub read_many : {A : Type 0} → (TokenKind → Bool) → Reading A → ℕ → Reading (List A)
 read_many passes p zero = choose passes (λ _. Err Memory) (read_done [])
-read_many passes p (suc n) = choose passes (p >>= λ v. read_many passes p n >>= λ vs. read_done (v ∷ vs)) (read_done [])
+read_many passes p (suc n) = choose passes (p >>= λ v. read_many passes p n >>= λ vs.
+    read_done (v ∷ vs)) (read_done [])
 
 unfoldable pub read_all : {A : Type 0} → (TokenKind → Bool) → Reading A → Reading (List A)
 read_all passes p ts = read_many passes p (length ts) ts
 
 -- a part, and more of them as long as the next token passes
-abbrev pub read_chain : {A : Type 0} → (List A → A) → (TokenKind → Bool) → Reading A → Reading A → Reading A
-read_chain join passes next part = part >>= λ first. read_all passes next >>= λ others. read_done (joined_parts join first others)
+abbrev pub read_chain : {A : Type 0} → (List A → A) → (TokenKind → Bool) → Reading A →
+    Reading A → Reading A
+read_chain join passes next part = part >>= λ first. read_all passes next >>= λ others.
+    read_done (joined_parts join first others)
 
 -- the values that are read, behind these
 abbrev pub read_onto : {A : Type 0} → List A → Reading (List A) → Reading (List A)

@@ -89,8 +89,10 @@ fn file(alloc: Global, tokens: &[Token], end: u32) -> Result<SpecFile, SpecError
 fn all_items(alloc: Global, cursor: &mut Cursor) -> Result<Vec<Item>, SpecError>
     ensures end { cursor.new.end ≡ cursor.old.end }
     ensures all { OnOk result (cursor.new.rest.now ≡ []) }
-    ensures read { IfOk result (λ items. read_items cursor.old.end 100 cursor.old.rest.now ≡ Ok (items.items, cursor.new.rest.now)) }
-    ensures fault { IfErr result (λ e. e ≢ Memory → read_items cursor.old.end 100 cursor.old.rest.now ≡ Err e) }
+    ensures read { IfOk result (λ items. read_items cursor.old.end 100 cursor.old.rest.now
+        ≡ Ok (items.items, cursor.new.rest.now)) }
+    ensures fault { IfErr result (λ e. e ≢ Memory →
+        read_items cursor.old.end 100 cursor.old.rest.now ≡ Err e) }
     ensures low { IfOk result (λ items. All IsLow items.items) }
 {
     let mut items = Vec::new(alloc);

@@ -15,7 +15,12 @@ pub record Deterministic : Type 0 where
 
 -- the same states and edges
 abbrev pub automaton_of : Deterministic → Automaton
-automaton_of d = record { letters = length d.over; start = d.start; finals = d.finals; edges = d.edges }
+automaton_of d = record {
+  letters = length d.over;
+  start = d.start;
+  finals = d.finals;
+  edges = d.edges;
+}
 
 -- the number of states
 abbrev pub states : Deterministic → ℕ
@@ -31,7 +36,8 @@ takes letter move = option_map_or (λ set. has set letter) move.label false
 
 -- each letter of `over` is in the label of one edge, and no other letter in any
 abbrev pub IsSplit : List Bool → List Move → Type 0
-IsSplit over moves = (letter : ℕ) → count_by (takes letter) moves ≡ (if has over letter then 1 else 0)
+IsSplit over moves = (letter : ℕ) → count_by (takes letter) moves
+    ≡ (if has over letter then 1 else 0)
 
 -- an automaton of which no edge is silent, and each letter of `over` is in the label of one edge of each state
 pub record IsDeterministic (d : Deterministic) : Type 0 where
@@ -79,4 +85,5 @@ IsReachable d = (q : ℕ) → q < states d → (word : List ℕ) × LeadsTo d q 
 
 -- the states are numbered as words first arrive at them, in shortlex order
 abbrev pub IsByArrival : Deterministic → Type 0
-IsByArrival d = (p q : ℕ) (word : List ℕ) → p < q → LeadsTo d q word → (earlier : List ℕ) × LeadsTo d p earlier × IsBefore earlier word
+IsByArrival d = (p q : ℕ) (word : List ℕ) → p < q → LeadsTo d q word → (earlier : List ℕ)
+    × LeadsTo d p earlier × IsBefore earlier word

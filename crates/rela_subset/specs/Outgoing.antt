@@ -20,12 +20,16 @@ moves_from a set = flat_map (moves_of a) set
 
 -- the edge's label is a letter alone, and the edge is among those by one letter
 abbrev pub IsSingle : List LetterEdge → Move → Type 0
-IsSingle singles move = (letter : ℕ) × (set : List Bool) × (move.label ≡ Some set) × IsAlone set letter × HasEnd singles letter move.to
+IsSingle singles move = (letter : ℕ) × (set : List Bool) × (move.label ≡ Some set)
+    × IsAlone set letter × HasEnd singles letter move.to
 
 -- those edges that are not silent, sorted out
-pub record AreSortedOut (moves : List Move) (singles : List LetterEdge) (others : List Move) : Type 0 where
-  pub each : (move : Move) → Contains moves move → (move.label ≡ None) ⊎ IsSingle singles move ⊎ Contains others move
-  pub single : (letter q : ℕ) → HasEnd singles letter q → (set : List Bool) × IsAlone set letter × Contains moves (record { label = Some set; to = q })
+pub record AreSortedOut (moves : List Move) (singles : List LetterEdge)
+    (others : List Move) : Type 0 where
+  pub each : (move : Move) → Contains moves move → (move.label ≡ None) ⊎ IsSingle singles move
+      ⊎ Contains others move
+  pub single : (letter q : ℕ) → HasEnd singles letter q → (set : List Bool) × IsAlone set letter
+      × Contains moves (record { label = Some set; to = q })
   pub other : (move : Move) → Contains others move → Contains moves move
 
 -- an automaton and edges of it: those by one letter, and others

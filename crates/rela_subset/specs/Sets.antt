@@ -38,7 +38,8 @@ HasFinal a set = (q : ℕ) × Contains set q × IsFinal a q
 
 -- no set stands twice
 abbrev pub AreDistinct : List (List ℕ) → Type 0
-AreDistinct sets = (i j : ℕ) → i < j → j < length sets → slice_index_or sets i [] ≢ slice_index_or sets j []
+AreDistinct sets = (i j : ℕ) → i < j → j < length sets → slice_index_or sets i []
+    ≢ slice_index_or sets j []
 
 -- the flags of just the states are set, and no state stands twice
 pub record AreMarked (flags : List Bool) (states : List ℕ) : Type 0 where

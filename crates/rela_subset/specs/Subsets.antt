@@ -17,7 +17,8 @@ AreApart a v w = (q : ℕ) × ((Reach a q v × ¬ Reach a q w) ⊎ (Reach a q w 
 
 -- words over the letters that lead to different states are apart
 abbrev pub KeepsApart : Automaton → List Bool → Deterministic → Type 0
-KeepsApart a over d = (v w : List ℕ) → IsOver over v → IsOver over w → state_after d v ≢ state_after d w → AreApart a v w
+KeepsApart a over d = (v w : List ℕ) → IsOver over v → IsOver over w → state_after d v
+    ≢ state_after d w → AreApart a v w
 
 -- words over the letters reach at least n sets of states: n of these words are apart, each two of them
 pub record ReachSets (a : Automaton) (over : List Bool) (n : ℕ) : Type 0 where
@@ -40,6 +41,8 @@ IsUnwantedWord a wants word = LeadsInto a (λ set. ¬ wants set) word
 
 -- words over the letters reach at least n sets of states, and none of these words comes after a wanted one: each
 -- word over the letters that is before one of them leads to a set that is not wanted
-pub record ReachSetsBefore (a : Automaton) (over : List Bool) (wants : List ℕ → Type 0) (n : ℕ) : Type 0 where
+pub record ReachSetsBefore (a : Automaton) (over : List Bool) (wants : List ℕ → Type 0)
+    (n : ℕ) : Type 0 where
   pub sets : ReachSets a over n
-  pub early : All (λ w. (v : List ℕ) → IsOver over v → IsBefore v w → IsUnwantedWord a wants v) sets.words
+  pub early : All (λ w. (v : List ℕ) → IsOver over v → IsBefore v w →
+      IsUnwantedWord a wants v) sets.words

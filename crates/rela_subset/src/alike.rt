@@ -20,11 +20,14 @@ pub(crate) fn near<L: LabelSet>(
     rest: &L,
     letter: u32,
 ) -> Result<L, AllocError>
-    requires { All (λ edge. ForSome edge.now.label (λ set. length (L.letters set) ≡ length (L.letters rest.now))) edges.now }
+    requires { All (λ edge. ForSome edge.now.label (λ set. length (L.letters set)
+        ≡ length (L.letters rest.now))) edges.now }
     ensures size { IfOk result (λ near. length (L.letters near) ≡ length (L.letters rest.now)) }
-    ensures within { IfOk result (λ near. (k : ℕ) → has (L.letters near) k ≡ true → has (L.letters rest.now) k ≡ true) }
+    ensures within { IfOk result (λ near. (k : ℕ) → has (L.letters near) k ≡ true →
+        has (L.letters rest.now) k ≡ true) }
     ensures alike { IfOk result (λ near. (k : ℕ) → has (L.letters rest.now) k ≡ true
-        → AreTakenAlike (map (λ edge. move_of L.letters edge.now) edges.now) letter k → has (L.letters near) k ≡ true) }
+        → AreTakenAlike (map (λ edge. move_of L.letters edge.now) edges.now) letter k →
+        has (L.letters near) k ≡ true) }
 {
     match label_with(edges, letter) {
         Some(label) => rest.meet(alloc, label),
@@ -34,9 +37,11 @@ pub(crate) fn near<L: LabelSet>(
 
 /// The first label of the edges that has the letter, and `None` where none has.
 fn label_with<'a, L: LabelSet>(edges: &[&'a Edge<L>], letter: u32) -> Option<&'a L>
-    ensures sized { IfSome result (λ label. (n : ℕ) → All (λ edge. ForSome edge.now.label (λ set. length (L.letters set) ≡ n)) edges.now
+    ensures sized { IfSome result (λ label. (n : ℕ) →
+        All (λ edge. ForSome edge.now.label (λ set. length (L.letters set) ≡ n)) edges.now
         → length (L.letters label.now) ≡ n) }
-    ensures taken { IfSome result (λ label. (k : ℕ) → AreTakenAlike (map (λ edge. move_of L.letters edge.now) edges.now) letter k
+    ensures taken { IfSome result (λ label. (k : ℕ) →
+        AreTakenAlike (map (λ edge. move_of L.letters edge.now) edges.now) letter k
         → has (L.letters label.now) k ≡ true) }
 {
     for edge in edges {
@@ -72,10 +77,12 @@ pub(crate) fn narrowed<L: LabelSet>(
     edges: &[&Edge<L>],
     letter: u32,
 ) -> Result<L, AllocError>
-    requires { All (λ edge. ForSome edge.now.label (λ set. length (L.letters set) ≡ length (L.letters block))) edges.now }
+    requires { All (λ edge. ForSome edge.now.label (λ set. length (L.letters set)
+        ≡ length (L.letters block))) edges.now }
     ensures size { IfOk result (λ narrow. length (L.letters narrow) ≡ length (L.letters block)) }
     ensures alike { IfOk result (λ narrow. (k : ℕ) → (has (L.letters narrow) k ≡ true)
-        ↔ ((has (L.letters block) k ≡ true) × AreTakenAlike (map (λ edge. move_of L.letters edge.now) edges.now) letter k)) }
+        ↔ ((has (L.letters block) k ≡ true)
+        × AreTakenAlike (map (λ edge. move_of L.letters edge.now) edges.now) letter k)) }
 {
     let mut narrow = block;
     for edge in edges {
@@ -90,7 +97,8 @@ fn cut<L: LabelSet>(alloc: Global, block: L, edge: &Edge<L>, letter: u32) -> Res
     requires { ForSome edge.now.label (λ set. length (L.letters set) ≡ length (L.letters block)) }
     ensures size { IfOk result (λ part. length (L.letters part) ≡ length (L.letters block)) }
     ensures alike { IfOk result (λ part. (k : ℕ) → (has (L.letters part) k ≡ true)
-        ↔ ((has (L.letters block) k ≡ true) × (takes k (move_of L.letters edge.now) ≡ takes letter (move_of L.letters edge.now)))) }
+        ↔ ((has (L.letters block) k ≡ true) × (takes k (move_of L.letters edge.now)
+        ≡ takes letter (move_of L.letters edge.now)))) }
 {
     match &edge.label {
         None => Ok(block),

@@ -60,8 +60,10 @@ impl<'a, L: LabelSet> Model for Blocks<'a, L> {
       left = letters_left (L.letters blocks.over.now) blocks.coming.now (L.letters blocks.rest);
     } };
 
-    ghost invariant = { λ blocks. AreSplit (L.letters blocks.over.now) blocks.singles.now blocks.coming.now (L.letters blocks.rest) blocks.least
-        × All (λ edge. ForSome edge.now.label (λ set. length (L.letters set) ≡ length (L.letters blocks.over.now))) blocks.others.now };
+    ghost invariant = { λ blocks. AreSplit (L.letters blocks.over.now) blocks.singles.now
+        blocks.coming.now (L.letters blocks.rest) blocks.least
+        × All (λ edge. ForSome edge.now.label (λ set. length (L.letters set)
+        ≡ length (L.letters blocks.over.now))) blocks.others.now };
 }
 
 impl<'a, L: LabelSet> Blocks<'a, L> {
@@ -75,9 +77,11 @@ impl<'a, L: LabelSet> Blocks<'a, L> {
     ) -> Result<Blocks<'a, L>, AllocError>
         requires rising { IsNonDecreasingBy (λ edge. edge.letter) singles.now }
         requires below { All (λ edge. edge.letter < length (L.letters over.now)) singles.now }
-        requires labels { All (λ edge. ForSome edge.now.label (λ set. length (L.letters set) ≡ length (L.letters over.now))) others.now }
+        requires labels { All (λ edge. ForSome edge.now.label (λ set. length (L.letters set)
+            ≡ length (L.letters over.now))) others.now }
         ensures singles { IfOk result (λ blocks. blocks.singles ≡ singles.now) }
-        ensures others { IfOk result (λ blocks. blocks.others ≡ map (λ edge. move_of L.letters edge.now) others.now) }
+        ensures others { IfOk result (λ blocks. blocks.others
+            ≡ map (λ edge. move_of L.letters edge.now) others.now) }
         ensures left { IfOk result (λ blocks. blocks.left ≡ L.letters over.now) }
     {
         let rest = without(alloc, over, singles)?;
@@ -100,14 +104,18 @@ impl<'a, L: LabelSet> Blocks<'a, L> {
         ensures others { self.new.others ≡ self.old.others }
         ensures size { length self.new.left ≡ length self.old.left }
         ensures none { IfOk result (λ block. IfNone block ((k : ℕ) → has self.old.left k ≡ false)) }
-        ensures member { IfOk result (λ block. IfSome block (λ block. has self.old.left block.letter ≡ true)) }
-        ensures least { IfOk result (λ block. IfSome block (λ block. (k : ℕ) → k < block.letter → has self.old.left k ≡ false)) }
-        ensures sized { IfOk result (λ block. IfSome block (λ block. length (L.letters block.letters) ≡ length self.old.left)) }
+        ensures member { IfOk result (λ block.
+            IfSome block (λ block. has self.old.left block.letter ≡ true)) }
+        ensures least { IfOk result (λ block. IfSome block (λ block. (k : ℕ) → k < block.letter →
+            has self.old.left k ≡ false)) }
+        ensures sized { IfOk result (λ block.
+            IfSome block (λ block. length (L.letters block.letters) ≡ length self.old.left)) }
         ensures alike { IfOk result (λ block. IfSome block (λ block. (a : Automaton) (set : List ℕ)
             → AreSortedOut (moves_from a set) self.old.singles self.old.others
             → IsAlike a set self.old.left block.letter (L.letters block.letters))) }
         ensures taken { IfOk result (λ block. IfSome block (λ block. (k : ℕ)
-            → has self.new.left k ≡ (has self.old.left k && not (has (L.letters block.letters) k)))) }
+            → has self.new.left k ≡ (has self.old.left k
+            && not (has (L.letters block.letters) k)))) }
     {
         let Some(letter) = self.next_single() else {
             return self.next_of_rest(alloc);
@@ -123,12 +131,15 @@ impl<'a, L: LabelSet> Blocks<'a, L> {
         ensures others { self.new.others ≡ self.old.others }
         ensures size { length self.new.left ≡ length self.old.left }
         ensures same { IfNone result (self.new.left ≡ self.old.left) }
-        ensures none { IfNone result ((k : ℕ) → has self.new.left k ≡ true → (j : ℕ) × (j ≤ k) × (has self.new.rest j ≡ true)) }
+        ensures none { IfNone result ((k : ℕ) → has self.new.left k ≡ true → (j : ℕ) × (j ≤ k)
+            × (has self.new.rest j ≡ true)) }
         ensures member { IfSome result (λ letter. has self.old.left letter ≡ true) }
-        ensures least { IfSome result (λ letter. (k : ℕ) → k < letter → has self.old.left k ≡ false) }
+        ensures least { IfSome result (λ letter. (k : ℕ) → k < letter →
+            has self.old.left k ≡ false) }
         ensures single { IfSome result (λ letter. (q : ℕ) × HasEnd self.old.singles letter q) }
         ensures taken { IfSome result (λ letter. has self.new.left letter ≡ false) }
-        ensures kept { IfSome result (λ letter. (k : ℕ) → k ≢ letter → has self.new.left k ≡ has self.old.left k) }
+        ensures kept { IfSome result (λ letter. (k : ℕ) → k ≢ letter → has self.new.left k
+            ≡ has self.old.left k) }
     {
         self.coming = from_letter_in(self.coming, self.over);
         let Some(single) = self.coming.first() else {
@@ -145,19 +156,24 @@ impl<'a, L: LabelSet> Blocks<'a, L> {
     /// Takes the block of the least letter that no edge has by itself, before which none is left.
     /// `None` where no letter is left.
     fn next_of_rest(&mut self, alloc: Global) -> Result<Option<Block<L>>, AllocError>
-        requires { (k : ℕ) → has self.old.left k ≡ true → (j : ℕ) × (j ≤ k) × (has self.old.rest j ≡ true) }
+        requires { (k : ℕ) → has self.old.left k ≡ true → (j : ℕ) × (j ≤ k)
+            × (has self.old.rest j ≡ true) }
         ensures singles { self.new.singles ≡ self.old.singles }
         ensures others { self.new.others ≡ self.old.others }
         ensures size { length self.new.left ≡ length self.old.left }
         ensures none { IfOk result (λ block. IfNone block ((k : ℕ) → has self.old.left k ≡ false)) }
-        ensures member { IfOk result (λ block. IfSome block (λ block. has self.old.left block.letter ≡ true)) }
-        ensures least { IfOk result (λ block. IfSome block (λ block. (k : ℕ) → k < block.letter → has self.old.left k ≡ false)) }
-        ensures sized { IfOk result (λ block. IfSome block (λ block. length (L.letters block.letters) ≡ length self.old.left)) }
+        ensures member { IfOk result (λ block.
+            IfSome block (λ block. has self.old.left block.letter ≡ true)) }
+        ensures least { IfOk result (λ block. IfSome block (λ block. (k : ℕ) → k < block.letter →
+            has self.old.left k ≡ false)) }
+        ensures sized { IfOk result (λ block.
+            IfSome block (λ block. length (L.letters block.letters) ≡ length self.old.left)) }
         ensures alike { IfOk result (λ block. IfSome block (λ block. (a : Automaton) (set : List ℕ)
             → AreSortedOut (moves_from a set) self.old.singles self.old.others
             → IsAlike a set self.old.left block.letter (L.letters block.letters))) }
         ensures taken { IfOk result (λ block. IfSome block (λ block. (k : ℕ)
-            → has self.new.left k ≡ (has self.old.left k && not (has (L.letters block.letters) k)))) }
+            → has self.new.left k ≡ (has self.old.left k
+            && not (has (L.letters block.letters) k)))) }
     {
         let Some(letter) = self.least else {
             return Ok(None);

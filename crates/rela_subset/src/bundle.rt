@@ -33,7 +33,8 @@ impl<L: LabelSet> Model for Bundle<L> {
 
     ghost view = { λ bundle. map (move_of L.letters) bundle.edges.items };
 
-    ghost invariant = { λ bundle. ArePlaced (map (move_of L.letters) bundle.edges.items) bundle.places };
+    ghost invariant = { λ bundle. ArePlaced
+        (map (move_of L.letters) bundle.edges.items) bundle.places };
 }
 
 impl<L: LabelSet> Bundle<L> {
@@ -50,7 +51,8 @@ impl<L: LabelSet> Bundle<L> {
     /// Puts an edge with this label to this end among the others: where one leads there, its label
     /// is joined to that one's. Time: constant in expectation, and a set operation.
     pub(crate) fn put(&mut self, alloc: Global, label: L, to: usize) -> Result<(), AllocError>
-        requires { All (λ move. ForSome move.label (λ set. length set ≡ length (L.letters label))) self.old }
+        requires { All (λ move. ForSome move.label (λ set. length set
+            ≡ length (L.letters label))) self.old }
         ensures { IfOk result (λ _. IsPutIn (L.letters label) to self.old self.new) }
     {
         if let Some(place) = self.places.get(&to).copied() {
@@ -87,7 +89,8 @@ impl<L: LabelSet> Bundle<L> {
 fn joined<L: LabelSet>(alloc: Global, edge: &Edge<L>, label: L) -> Result<L, AllocError>
     requires { ForSome edge.now.label (λ set. length (L.letters set) ≡ length (L.letters label)) }
     ensures size { IfOk result (λ both. length (L.letters both) ≡ length (L.letters label)) }
-    ensures either { IfOk result (λ both. (k : ℕ) → has (L.letters both) k ≡ (takes k (move_of L.letters edge.now) || has (L.letters label) k)) }
+    ensures either { IfOk result (λ both. (k : ℕ) → has (L.letters both) k
+        ≡ (takes k (move_of L.letters edge.now) || has (L.letters label) k)) }
 {
     match &edge.label {
         Some(other) => other.join(alloc, &label),

@@ -40,7 +40,8 @@ pub(crate) fn closure<L: LabelSet>(
 pub(crate) fn close<L: LabelSet>(a: &Nfa<L>, visited: &mut Visited) -> Result<(), AllocError>
     requires automaton { IsAutomaton a.now }
     requires count { visited.old.count ≡ states a.now }
-    ensures closed { IfOk result (λ _. (q : ℕ) → Contains visited.new.states q ↔ SilentlyFrom a.now visited.old.states q) }
+    ensures closed { IfOk result (λ _. (q : ℕ) → Contains visited.new.states q ↔
+        SilentlyFrom a.now visited.old.states q) }
     ensures count { visited.new.count ≡ visited.old.count }
 {
     // The states stand in a queue: those before `done` have been followed.
@@ -59,7 +60,8 @@ fn insert_silent_ends<L: LabelSet>(
     edges: &[Edge<L>],
 ) -> Result<(), AllocError>
     requires { All (λ edge. edge.to < visited.old.count) edges.now }
-    ensures adds { IfOk result (λ _. Adds (StepIn (map (move_of L.letters) edges.now) None) visited.old.states visited.new.states) }
+    ensures adds { IfOk result (λ _. Adds (StepIn (map (move_of L.letters) edges.now) None)
+        visited.old.states visited.new.states) }
     ensures count { visited.new.count ≡ visited.old.count }
 {
     for edge in edges {
@@ -76,7 +78,8 @@ pub(crate) fn insert_end<L: LabelSet>(
     letter: Option<u32>,
 ) -> Result<(), AllocError>
     requires { edge.now.to < visited.old.count }
-    ensures adds { IfOk result (λ _. Adds (StepIn (move_of L.letters edge.now ∷ []) letter) visited.old.states visited.new.states) }
+    ensures adds { IfOk result (λ _. Adds (StepIn (move_of L.letters edge.now ∷ []) letter)
+        visited.old.states visited.new.states) }
     ensures count { visited.new.count ≡ visited.old.count }
 {
     if is_taken(edge, letter) {

@@ -43,15 +43,18 @@ pub fn determinise<L: LabelSet>(
     requires limit { 1 ≤ limit }
     ensures over { IfOk result (λ dfa. dfa.over ≡ L.letters over.now) }
     ensures start { IfOk result (λ dfa. dfa.start ≡ 0) }
-    ensures language { IfOk result (λ dfa. (word : List ℕ) → IsAccepted dfa word ↔ (IsOver (L.letters over.now) word × Accepts a.now word)) }
-    ensures sets { IfOk result (λ dfa. (v w : List ℕ) → IsOver (L.letters over.now) v → IsOver (L.letters over.now) w
+    ensures language { IfOk result (λ dfa. (word : List ℕ) → IsAccepted dfa word ↔
+        (IsOver (L.letters over.now) word × Accepts a.now word)) }
+    ensures sets { IfOk result (λ dfa. (v w : List ℕ) → IsOver (L.letters over.now) v →
+        IsOver (L.letters over.now) w
         → (state_after dfa v ≡ state_after dfa w) ↔ ReachSame a.now v w) }
     ensures apart { IfOk result (KeepsApart a.now (L.letters over.now)) }
     ensures reachable { IfOk result IsReachable }
     ensures arrival { IfOk result IsByArrival }
     ensures few { IfOk result (λ dfa. states dfa ≤ limit) }
     ensures told_apart { IfOk result (λ _. ¬ ReachSets a.now (L.letters over.now) (limit + 1)) }
-    ensures limit { IfErr result (λ e. e ≡ BuildError.Limit → ReachSets a.now (L.letters over.now) (limit + 1)) }
+    ensures limit { IfErr result (λ e. e ≡ BuildError.Limit →
+        ReachSets a.now (L.letters over.now) (limit + 1)) }
     ensures bounded { IfErr result (λ e. e ≡ BuildError.Limit → limit < 2 ^ 63) }
 {
     let mut sets = StateSets::new(alloc);
@@ -75,11 +78,14 @@ fn explore_from_start<L: LabelSet>(
     requires limit { 1 ≤ limit }
     requires empty { sets.old ≡ [] }
     ensures automaton { IfOk result (λ _. IsAutomaton a.now) }
-    ensures explored { IfOk result (λ edges. IsExplored a.now (L.letters over.now) sets.new (moves_in L.letters edges.items)) }
-    ensures each { IfOk result (λ edges. length (moves_in L.letters edges.items) ≡ length sets.new) }
+    ensures explored { IfOk result (λ edges. IsExplored a.now (L.letters over.now) sets.new
+        (moves_in L.letters edges.items)) }
+    ensures each { IfOk result (λ edges. length (moves_in L.letters edges.items)
+        ≡ length sets.new) }
     ensures few { IfOk result (λ _. length sets.new ≤ limit) }
     ensures distinct { IfOk result (λ _. AreDistinct sets.new) }
-    ensures limit { IfErr result (λ e. e ≡ BuildError.Limit → ReachSets a.now (L.letters over.now) (limit + 1)) }
+    ensures limit { IfErr result (λ e. e ≡ BuildError.Limit →
+        ReachSets a.now (L.letters over.now) (limit + 1)) }
     ensures bounded { IfErr result (λ e. e ≡ BuildError.Limit → limit < 2 ^ 63) }
 {
     prove!(a.start() < a.states());
@@ -105,11 +111,14 @@ fn explore<L: LabelSet>(
     requires few { length sets.old ≤ limit }
     requires explored { IsExplored a.now (L.letters over.now) sets.old [] }
     requires count { visited.old.count ≡ nfa_states a.now }
-    ensures explored { IfOk result (λ edges. IsExplored a.now (L.letters over.now) sets.new (moves_in L.letters edges.items)) }
-    ensures each { IfOk result (λ edges. length (moves_in L.letters edges.items) ≡ length sets.new) }
+    ensures explored { IfOk result (λ edges. IsExplored a.now (L.letters over.now) sets.new
+        (moves_in L.letters edges.items)) }
+    ensures each { IfOk result (λ edges. length (moves_in L.letters edges.items)
+        ≡ length sets.new) }
     ensures few { IfOk result (λ _. length sets.new ≤ limit) }
     ensures distinct { IfOk result (λ _. AreDistinct sets.new) }
-    ensures limit { IfErr result (λ e. e ≡ BuildError.Limit → ReachSets a.now (L.letters over.now) (limit + 1)) }
+    ensures limit { IfErr result (λ e. e ≡ BuildError.Limit →
+        ReachSets a.now (L.letters over.now) (limit + 1)) }
     ensures bounded { IfErr result (λ e. e ≡ BuildError.Limit → limit < 2 ^ 63) }
 {
     let mut edges = Vec::new(alloc);
@@ -124,7 +133,9 @@ fn explore<L: LabelSet>(
 fn finals<L: LabelSet>(alloc: Global, a: &Nfa<L>, sets: &StateSets) -> Result<Vec<bool>, AllocError>
     requires { All (All (λ q. q < nfa_states a.now)) sets.now }
     ensures len { IfOk result (λ flags. length flags.items ≡ length sets.now) }
-    ensures each { IfOk result (λ flags. (i : ℕ) → i < length sets.now → IsTrue (slice_index_or flags.items i false) ↔ HasFinal a.now (slice_index_or sets.now i [])) }
+    ensures each { IfOk result (λ flags. (i : ℕ) → i < length sets.now →
+        IsTrue (slice_index_or flags.items i false) ↔
+        HasFinal a.now (slice_index_or sets.now i [])) }
 {
     let mut flags = Vec::with_capacity(alloc, sets.len())?;
     for i in 0..sets.len() {

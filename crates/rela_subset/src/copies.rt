@@ -25,7 +25,8 @@ pub(crate) fn copy_edges<L: LabelSet>(
     alloc: Global,
     edges: &[Edge<L>],
 ) -> Result<Vec<Edge<L>>, AllocError>
-    ensures { IfOk result (λ copies. map (move_of L.letters) copies.items ≡ map (move_of L.letters) edges.now) }
+    ensures { IfOk result (λ copies. map (move_of L.letters) copies.items
+        ≡ map (move_of L.letters) edges.now) }
 {
     let mut copies = Vec::with_capacity(alloc, edges.len())?;
     for edge in edges {
@@ -39,7 +40,8 @@ pub(crate) fn copy_all<L: LabelSet>(
     alloc: Global,
     edges: &[Vec<Edge<L>>],
 ) -> Result<Vec<Vec<Edge<L>>>, AllocError>
-    ensures { IfOk result (λ copies. moves_in L.letters copies.items ≡ moves_in L.letters edges.now) }
+    ensures { IfOk result (λ copies. moves_in L.letters copies.items
+        ≡ moves_in L.letters edges.now) }
 {
     let mut copies = Vec::with_capacity(alloc, edges.len())?;
     for each in edges {

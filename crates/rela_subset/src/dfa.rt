@@ -35,15 +35,18 @@ impl<L: LabelSet> Model for Dfa<L> {
 
     ghost use Rattle.rela_subset.specs.Stored.{deterministic};
 
-    ghost view = { λ dfa. deterministic L.letters (L.letters dfa.over) dfa.start dfa.finals.items dfa.edges.items };
+    ghost view = { λ dfa. deterministic L.letters (L.letters dfa.over) dfa.start dfa.finals.items
+        dfa.edges.items };
 
-    ghost invariant = { λ dfa. IsDeterministic (deterministic L.letters (L.letters dfa.over) dfa.start dfa.finals.items dfa.edges.items) };
+    ghost invariant = { λ dfa. IsDeterministic (deterministic L.letters (L.letters dfa.over)
+        dfa.start dfa.finals.items dfa.edges.items) };
 }
 
 impl<L: LabelSet> Dfa<L> {
     /// The automaton of these parts.
     pub(crate) fn new(over: L, start: usize, finals: Vec<bool>, edges: Vec<Vec<Edge<L>>>) -> Dfa<L>
-        requires { IsDeterministic (deterministic L.letters (L.letters over) start finals.items edges.items) }
+        requires { IsDeterministic (deterministic L.letters (L.letters over) start
+            finals.items edges.items) }
         ensures { result ≡ deterministic L.letters (L.letters over) start finals.items edges.items }
     {
         Dfa {
@@ -63,7 +66,8 @@ impl<L: LabelSet> Dfa<L> {
         finals: &[bool],
         edges: Vec<Vec<Edge<L>>>,
     ) -> Result<Dfa<L>, AllocError>
-        requires { IsDeterministic (deterministic L.letters (L.letters over.now) start finals.now edges.items) }
+        requires { IsDeterministic (deterministic L.letters (L.letters over.now) start
+            finals.now edges.items) }
         ensures over { IfOk result (λ dfa. dfa.over ≡ L.letters over.now) }
         ensures start { IfOk result (λ dfa. dfa.start ≡ start) }
         ensures finals { IfOk result (λ dfa. dfa.finals ≡ finals.now) }
@@ -147,8 +151,10 @@ impl<L: LabelSet> Dfa<L> {
     /// states and the edges, whose labels are copied.
     pub fn to_nfa(&self, alloc: Global) -> Result<Nfa<L>, AllocError>
         ensures automaton { IfOk result (λ nfa. nfa ≡ automaton_of self.now) }
-        ensures reach { IfOk result (λ nfa. (q : ℕ) (word : List ℕ) → Reach nfa q word ↔ LeadsTo self.now q word) }
-        ensures language { IfOk result (λ nfa. (word : List ℕ) → Accepts nfa word ↔ IsAccepted self.now word) }
+        ensures reach { IfOk result (λ nfa. (q : ℕ) (word : List ℕ) → Reach nfa q word ↔
+            LeadsTo self.now q word) }
+        ensures language { IfOk result (λ nfa. (word : List ℕ) → Accepts nfa word ↔
+            IsAccepted self.now word) }
     {
         let copy = self.copy(alloc)?;
         copy.into_nfa(alloc)
@@ -158,8 +164,10 @@ impl<L: LabelSet> Dfa<L> {
     /// space: linear in the states and the edges.
     pub fn into_nfa(self, alloc: Global) -> Result<Nfa<L>, AllocError>
         ensures automaton { IfOk result (λ nfa. nfa ≡ automaton_of self) }
-        ensures reach { IfOk result (λ nfa. (q : ℕ) (word : List ℕ) → Reach nfa q word ↔ LeadsTo self q word) }
-        ensures language { IfOk result (λ nfa. (word : List ℕ) → Accepts nfa word ↔ IsAccepted self word) }
+        ensures reach { IfOk result (λ nfa. (q : ℕ) (word : List ℕ) → Reach nfa q word ↔
+            LeadsTo self q word) }
+        ensures language { IfOk result (λ nfa. (word : List ℕ) → Accepts nfa word ↔
+            IsAccepted self word) }
     {
         let letters = self.over.size();
         let Dfa {

@@ -34,10 +34,15 @@ pub(crate) fn expand<L: LabelSet>(
     requires letters { length (L.letters over.now) ≡ a.now.letters }
     requires few { length sets.old ≤ limit }
     requires count { visited.old.count ≡ states a.now }
-    ensures expanded { IfOk result (λ edges. IsExpandedOver a.now (L.letters over.now) (slice_index_or sets.old number []) sets.old sets.new (map (move_of L.letters) edges.items)) }
+    ensures expanded { IfOk result (λ edges. IsExpandedOver a.now (L.letters over.now)
+        (slice_index_or sets.old number []) sets.old sets.new
+        (map (move_of L.letters) edges.items)) }
     ensures few { IfOk result (λ _. length sets.new ≤ limit) }
     ensures count { visited.new.count ≡ visited.old.count }
-    ensures limit { IfErr result (λ e. e ≡ BuildError.Limit → (length sets.new ≡ limit + 1) × AreDistinct sets.new × ((letters : List ℕ) × HasGrown a.now (L.letters over.now) (slice_index_or sets.old number []) sets.old sets.new letters)) }
+    ensures limit { IfErr result (λ e. e ≡ BuildError.Limit → (length sets.new ≡ limit + 1)
+        × AreDistinct sets.new × ((letters : List ℕ)
+        × HasGrown a.now (L.letters over.now) (slice_index_or sets.old number []) sets.old
+        sets.new letters)) }
     ensures bounded { IfErr result (λ e. e ≡ BuildError.Limit → limit < 2 ^ 63) }
 {
     let outgoing = Outgoing::new(alloc, a, sets.get(number))?;

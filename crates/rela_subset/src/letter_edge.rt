@@ -37,7 +37,8 @@ pub(crate) fn letters_of<L: LabelSet>(
     requires fits { L.fits size }
     requires below { All (λ edge. edge.letter < size) edges.now }
     ensures size { IfOk result (λ set. length (L.letters set) ≡ size) }
-    ensures letters { IfOk result (λ set. (k : ℕ) → (has (L.letters set) k ≡ true) ↔ ((q : ℕ) × HasEnd edges.now k q)) }
+    ensures letters { IfOk result (λ set. (k : ℕ) → (has (L.letters set) k ≡ true) ↔
+        ((q : ℕ) × HasEnd edges.now k q)) }
 {
     let mut set = L::none(alloc, size)?;
     for edge in edges {
@@ -59,7 +60,8 @@ pub(crate) fn edges_by(edges: &[LetterEdge], letter: u32) -> &[LetterEdge]
 /// How many of the edges have a lesser letter.
 fn place_of(edges: &[LetterEdge], letter: u32) -> usize
     requires { IsNonDecreasingBy (λ edge. edge.letter) edges.now }
-    ensures parted { IsPartitionPoint (λ edge. edge.letter < letter) (λ edge. letter ≤ edge.letter) edges.now result }
+    ensures parted { IsPartitionPoint (λ edge. edge.letter < letter) (λ edge. letter ≤ edge.letter)
+        edges.now result }
     ensures within { result ≤ length edges.now }
 {
     edges.partition_point(|edge| edge.letter < letter)
@@ -68,7 +70,8 @@ fn place_of(edges: &[LetterEdge], letter: u32) -> usize
 /// How many of the edges have this letter or a lesser one.
 fn place_after(edges: &[LetterEdge], letter: u32) -> usize
     requires { IsNonDecreasingBy (λ edge. edge.letter) edges.now }
-    ensures parted { IsPartitionPoint (λ edge. edge.letter ≤ letter) (λ edge. letter < edge.letter) edges.now result }
+    ensures parted { IsPartitionPoint (λ edge. edge.letter ≤ letter) (λ edge. letter < edge.letter)
+        edges.now result }
     ensures within { result ≤ length edges.now }
 {
     edges.partition_point(|edge| edge.letter <= letter)
@@ -80,8 +83,10 @@ pub(crate) fn from_letter_in<'a, L: LabelSet>(edges: &'a [LetterEdge], set: &L) 
     requires { IsNonDecreasingBy (λ edge. edge.letter) edges.now }
     ensures rising { IsNonDecreasingBy (λ edge. edge.letter) result.now }
     ensures among { (k q : ℕ) → HasEnd result.now k q → HasEnd edges.now k q }
-    ensures first { (edge : LetterEdge) (later : List LetterEdge) → result.now ≡ edge ∷ later → has (L.letters set.now) edge.letter ≡ true }
-    ensures left { (rest : List Bool) → letters_left (L.letters set.now) result.now rest ≡ letters_left (L.letters set.now) edges.now rest }
+    ensures first { (edge : LetterEdge) (later : List LetterEdge) → result.now ≡ edge ∷ later →
+        has (L.letters set.now) edge.letter ≡ true }
+    ensures left { (rest : List Bool) → letters_left (L.letters set.now) result.now rest
+        ≡ letters_left (L.letters set.now) edges.now rest }
 {
     let mut coming = edges;
     while let Some((first, later)) = coming.split_first() {
@@ -100,7 +105,8 @@ pub(crate) fn past_letter(edges: &[LetterEdge], letter: u32) -> &[LetterEdge]
     ensures rising { IsNonDecreasingBy (λ edge. edge.letter) result.now }
     ensures among { (k q : ℕ) → HasEnd result.now k q → HasEnd edges.now k q }
     ensures past { All (λ edge. letter < edge.letter) result.now }
-    ensures left { (over rest : List Bool) (k : ℕ) → k ≢ letter → has (letters_left over result.now rest) k ≡ has (letters_left over edges.now rest) k }
+    ensures left { (over rest : List Bool) (k : ℕ) → k ≢ letter →
+        has (letters_left over result.now rest) k ≡ has (letters_left over edges.now rest) k }
 {
     let mut coming = edges;
     while let Some((first, later)) = coming.split_first() {
@@ -126,9 +132,12 @@ pub(crate) fn alone<L: LabelSet>(alloc: Global, size: u32, letter: u32) -> Resul
 
 /// The letter of the label, if it has just one, and else `None`.
 pub(crate) fn only_letter<L: LabelSet>(alloc: Global, label: &L) -> Result<Option<u32>, AllocError>
-    ensures only { IfOk result (λ only. IfSome only (λ letter. IsAlone (L.letters label.now) letter)) }
-    ensures below { IfOk result (λ only. IfSome only (λ letter. letter < length (L.letters label.now))) }
-    ensures more { IfOk result (λ only. IfNone only ((letter : ℕ) → ¬ IsAlone (L.letters label.now) letter)) }
+    ensures only { IfOk result (λ only. IfSome only (λ letter.
+        IsAlone (L.letters label.now) letter)) }
+    ensures below { IfOk result (λ only. IfSome only (λ letter. letter
+        < length (L.letters label.now))) }
+    ensures more { IfOk result (λ only. IfNone only ((letter : ℕ) →
+        ¬ IsAlone (L.letters label.now) letter)) }
 {
     let Some(least) = label.least() else {
         return Ok(None);

@@ -14,8 +14,10 @@ pub fn complement<L: LabelSet>(alloc: Global, dfa: &Dfa<L>) -> Result<Dfa<L>, Al
     ensures start { IfOk result (λ other. other.start ≡ dfa.now.start) }
     ensures edges { IfOk result (λ other. other.edges ≡ dfa.now.edges) }
     ensures finals { IfOk result (λ other. other.finals ≡ map not dfa.now.finals) }
-    ensures states { IfOk result (λ other. (word : List ℕ) → state_after other word ≡ state_after dfa.now word) }
-    ensures language { IfOk result (λ other. (word : List ℕ) → IsAccepted other word ↔ (IsOver dfa.now.over word × ¬ IsAccepted dfa.now word)) }
+    ensures states { IfOk result (λ other. (word : List ℕ) → state_after other word
+        ≡ state_after dfa.now word) }
+    ensures language { IfOk result (λ other. (word : List ℕ) → IsAccepted other word ↔
+        (IsOver dfa.now.over word × ¬ IsAccepted dfa.now word)) }
 {
     let copy = dfa.copy(alloc)?;
     copy.into_complement(alloc)
@@ -30,8 +32,10 @@ impl<L: LabelSet> Dfa<L> {
         ensures start { IfOk result (λ other. other.start ≡ self.start) }
         ensures edges { IfOk result (λ other. other.edges ≡ self.edges) }
         ensures finals { IfOk result (λ other. other.finals ≡ map not self.finals) }
-        ensures states { IfOk result (λ other. (word : List ℕ) → state_after other word ≡ state_after self word) }
-        ensures language { IfOk result (λ other. (word : List ℕ) → IsAccepted other word ↔ (IsOver self.over word × ¬ IsAccepted self word)) }
+        ensures states { IfOk result (λ other. (word : List ℕ) → state_after other word
+            ≡ state_after self word) }
+        ensures language { IfOk result (λ other. (word : List ℕ) → IsAccepted other word ↔
+            (IsOver self.over word × ¬ IsAccepted self word)) }
     {
         let Dfa {
             over,

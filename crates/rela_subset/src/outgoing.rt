@@ -43,7 +43,8 @@ impl<'a, L: LabelSet> Model for Outgoing<'a, L> {
       others = map (λ edge. move_of L.letters edge.now) out.others.items;
     } };
 
-    ghost invariant = { λ out. AreHeld out.a.now out.singles.items (map (λ edge. move_of L.letters edge.now) out.others.items) };
+    ghost invariant = { λ out. AreHeld out.a.now out.singles.items (map (λ edge.
+        move_of L.letters edge.now) out.others.items) };
 }
 
 impl<'a, L: LabelSet> Outgoing<'a, L> {
@@ -56,7 +57,8 @@ impl<'a, L: LabelSet> Outgoing<'a, L> {
         requires automaton { IsAutomaton a.now }
         requires states { All (λ q. q < states a.now) set.now }
         ensures automaton { IfOk result (λ out. out.automaton ≡ a.now) }
-        ensures sorted { IfOk result (λ out. AreSortedOut (moves_from a.now set.now) out.singles out.others) }
+        ensures sorted { IfOk result (λ out.
+            AreSortedOut (moves_from a.now set.now) out.singles out.others) }
     {
         let mut singles = Vec::new(alloc);
         let mut others = Vec::new(alloc);
@@ -91,7 +93,8 @@ impl<'a, L: LabelSet> Outgoing<'a, L> {
         visited: &mut Visited,
     ) -> Result<Vec<usize>, AllocError>
         requires count { visited.old.count ≡ states self.now.automaton }
-        ensures following { IfOk result (λ next. (set : List ℕ) → AreSortedOut (moves_from self.now.automaton set) self.now.singles self.now.others
+        ensures following { IfOk result (λ next. (set : List ℕ) →
+            AreSortedOut (moves_from self.now.automaton set) self.now.singles self.now.others
             → Lists (NextFrom self.now.automaton set letter) next.items) }
         ensures count { visited.new.count ≡ visited.old.count }
     {
@@ -110,8 +113,11 @@ fn sort_out<'a, L: LabelSet>(
     singles: &mut Vec<LetterEdge>,
     others: &mut Vec<&'a Edge<L>>,
 ) -> Result<(), AllocError>
-    ensures { IfOk result (λ _. (moves : List Move) → AreSortedOut moves singles.old.items (map (λ edge. move_of L.letters edge.now) others.old.items)
-        → AreSortedOut (moves ++ map (move_of L.letters) edges.now) singles.new.items (map (λ edge. move_of L.letters edge.now) others.new.items)) }
+    ensures { IfOk result (λ _. (moves : List Move) →
+        AreSortedOut moves singles.old.items (map (λ edge. move_of L.letters edge.now)
+        others.old.items)
+        → AreSortedOut (moves ++ map (move_of L.letters) edges.now) singles.new.items (map (λ edge.
+        move_of L.letters edge.now) others.new.items)) }
 {
     for edge in edges {
         sort_out_one(alloc, edge, singles, others)?;
@@ -126,8 +132,11 @@ fn sort_out_one<'a, L: LabelSet>(
     singles: &mut Vec<LetterEdge>,
     others: &mut Vec<&'a Edge<L>>,
 ) -> Result<(), AllocError>
-    ensures { IfOk result (λ _. (moves : List Move) → AreSortedOut moves singles.old.items (map (λ edge. move_of L.letters edge.now) others.old.items)
-        → AreSortedOut (moves ++ move_of L.letters edge.now ∷ []) singles.new.items (map (λ edge. move_of L.letters edge.now) others.new.items)) }
+    ensures { IfOk result (λ _. (moves : List Move) →
+        AreSortedOut moves singles.old.items (map (λ edge. move_of L.letters edge.now)
+        others.old.items)
+        → AreSortedOut (moves ++ move_of L.letters edge.now ∷ []) singles.new.items (map (λ edge.
+        move_of L.letters edge.now) others.new.items)) }
 {
     let Some(label) = &edge.label else {
         return Ok(());
@@ -145,7 +154,8 @@ fn sort_out_one<'a, L: LabelSet>(
 /// Puts the ends of the edges behind the other states, unless they are among them.
 fn insert_singles(visited: &mut Visited, edges: &[LetterEdge]) -> Result<(), AllocError>
     requires { All (λ edge. edge.to < visited.old.count) edges.now }
-    ensures adds { IfOk result (λ _. Adds (λ q. (k : ℕ) × HasEnd edges.now k q) visited.old.states visited.new.states) }
+    ensures adds { IfOk result (λ _. Adds (λ q. (k : ℕ) × HasEnd edges.now k q) visited.old.states
+        visited.new.states) }
     ensures count { visited.new.count ≡ visited.old.count }
 {
     for edge in edges {
@@ -162,7 +172,9 @@ fn insert_others<L: LabelSet>(
     letter: u32,
 ) -> Result<(), AllocError>
     requires { All (λ edge. edge.now.to < visited.old.count) edges.now }
-    ensures adds { IfOk result (λ _. Adds (StepIn (map (λ edge. move_of L.letters edge.now) edges.now) (Some letter)) visited.old.states visited.new.states) }
+    ensures adds { IfOk result (λ _. Adds
+        (StepIn (map (λ edge. move_of L.letters edge.now) edges.now) (Some letter))
+        visited.old.states visited.new.states) }
     ensures count { visited.new.count ≡ visited.old.count }
 {
     for edge in edges {

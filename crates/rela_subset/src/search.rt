@@ -37,11 +37,15 @@ pub fn first_word<L: LabelSet, W: Wanted>(
 ) -> Result<Option<Word>, BuildError>
     requires letters { length (L.letters over.now) ≡ a.now.letters }
     requires limit { 1 ≤ limit }
-    ensures first { IfOk result (λ found. IfSome found (First (IsWantedWord a.now (L.letters over.now) (W.wants wanted.now)))) }
-    ensures before { IfOk result (λ found. IfSome found (λ word. (v : List ℕ) → IsOver (L.letters over.now) v → IsBefore v word
+    ensures first { IfOk result (λ found.
+        IfSome found (First (IsWantedWord a.now (L.letters over.now) (W.wants wanted.now)))) }
+    ensures before { IfOk result (λ found. IfSome found (λ word. (v : List ℕ) →
+        IsOver (L.letters over.now) v → IsBefore v word
         → IsUnwantedWord a.now (W.wants wanted.now) v)) }
-    ensures none { IfOk result (λ found. IfNone found ((v : List ℕ) → IsOver (L.letters over.now) v → IsUnwantedWord a.now (W.wants wanted.now) v)) }
-    ensures limit { IfErr result (λ e. e ≡ BuildError.Limit → ReachSetsBefore a.now (L.letters over.now) (W.wants wanted.now) (limit + 1)) }
+    ensures none { IfOk result (λ found. IfNone found ((v : List ℕ) →
+        IsOver (L.letters over.now) v → IsUnwantedWord a.now (W.wants wanted.now) v)) }
+    ensures limit { IfErr result (λ e. e ≡ BuildError.Limit →
+        ReachSetsBefore a.now (L.letters over.now) (W.wants wanted.now) (limit + 1)) }
     ensures bounded { IfErr result (λ e. e ≡ BuildError.Limit → limit < 2 ^ 63) }
 {
     let mut sets = StateSets::new(alloc);
@@ -69,11 +73,14 @@ fn search_from_start<L: LabelSet, W: Wanted>(
     requires limit { 1 ≤ limit }
     requires no_sets { sets.old ≡ [] }
     requires no_arrivals { arrivals.old.items ≡ [] }
-    ensures found { IfOk result (λ found. IfSome found (λ number. IsFirstAt (W.wants wanted.now) sets.new number
-        × ((left : ℕ) × (rest : List Bool) × IsSearched a.now (L.letters over.now) rest sets.new arrivals.new.items left))) }
+    ensures found { IfOk result (λ found.
+        IfSome found (λ number. IsFirstAt (W.wants wanted.now) sets.new number
+        × ((left : ℕ) × (rest : List Bool) × IsSearched a.now (L.letters over.now) rest sets.new
+        arrivals.new.items left))) }
     ensures none { IfOk result (λ found. IfNone found (AreUnwanted (W.wants wanted.now) sets.new
         × IsSearched a.now (L.letters over.now) [] sets.new arrivals.new.items (length sets.new))) }
-    ensures limit { IfErr result (λ e. e ≡ BuildError.Limit → ReachSetsBefore a.now (L.letters over.now) (W.wants wanted.now) (limit + 1)) }
+    ensures limit { IfErr result (λ e. e ≡ BuildError.Limit →
+        ReachSetsBefore a.now (L.letters over.now) (W.wants wanted.now) (limit + 1)) }
     ensures bounded { IfErr result (λ e. e ≡ BuildError.Limit → limit < 2 ^ 63) }
 {
     prove!(a.start() < a.states());
@@ -102,11 +109,14 @@ fn search<L: LabelSet, W: Wanted>(
     requires few { length sets.old ≤ limit }
     requires searched { IsSearched a.now (L.letters over.now) [] sets.old arrivals.old.items 0 }
     requires count { visited.old.count ≡ states a.now }
-    ensures found { IfOk result (λ found. IfSome found (λ number. IsFirstAt (W.wants wanted.now) sets.new number
-        × ((left : ℕ) × (rest : List Bool) × IsSearched a.now (L.letters over.now) rest sets.new arrivals.new.items left))) }
+    ensures found { IfOk result (λ found.
+        IfSome found (λ number. IsFirstAt (W.wants wanted.now) sets.new number
+        × ((left : ℕ) × (rest : List Bool) × IsSearched a.now (L.letters over.now) rest sets.new
+        arrivals.new.items left))) }
     ensures none { IfOk result (λ found. IfNone found (AreUnwanted (W.wants wanted.now) sets.new
         × IsSearched a.now (L.letters over.now) [] sets.new arrivals.new.items (length sets.new))) }
-    ensures limit { IfErr result (λ e. e ≡ BuildError.Limit → ReachSetsBefore a.now (L.letters over.now) (W.wants wanted.now) (limit + 1)) }
+    ensures limit { IfErr result (λ e. e ≡ BuildError.Limit →
+        ReachSetsBefore a.now (L.letters over.now) (W.wants wanted.now) (limit + 1)) }
     ensures bounded { IfErr result (λ e. e ≡ BuildError.Limit → limit < 2 ^ 63) }
     ensures count { visited.new.count ≡ visited.old.count }
 {
@@ -131,10 +141,13 @@ fn search<L: LabelSet, W: Wanted>(
 /// The number of the first wanted set from this number on, and `None` where there is none.
 fn first_wanted<W: Wanted>(wanted: &W, sets: &StateSets, from: usize) -> Option<usize>
     requires { from ≤ length sets.now }
-    ensures none { IfNone result ((i : ℕ) → from ≤ i → i < length sets.now → ¬ W.wants wanted.now (slice_index_or sets.now i [])) }
+    ensures none { IfNone result ((i : ℕ) → from ≤ i → i < length sets.now →
+        ¬ W.wants wanted.now (slice_index_or sets.now i [])) }
     ensures within { IfSome result (λ number. number < length sets.now) }
-    ensures wanted { IfSome result (λ number. W.wants wanted.now (slice_index_or sets.now number [])) }
-    ensures before { IfSome result (λ number. (i : ℕ) → from ≤ i → i < number → ¬ W.wants wanted.now (slice_index_or sets.now i [])) }
+    ensures wanted { IfSome result (λ number.
+        W.wants wanted.now (slice_index_or sets.now number [])) }
+    ensures before { IfSome result (λ number. (i : ℕ) → from ≤ i → i < number →
+        ¬ W.wants wanted.now (slice_index_or sets.now i [])) }
 {
     for number in from..sets.len() {
         if wanted.is_wanted(sets.get(number)) {
@@ -148,8 +161,10 @@ fn first_wanted<W: Wanted>(wanted: &W, sets: &StateSets, from: usize) -> Option<
 /// Time: linear in the word.
 fn word_of(alloc: Global, arrivals: &[Arrival], number: usize) -> Result<Word, AllocError>
     requires number { number ≤ length arrivals.now }
-    requires earlier { (i : ℕ) (e : Arrival) → i < length arrivals.now → (slice_index_or arrivals.now i e).from ≤ i }
-    ensures { IfOk result (λ word. (words : List (List ℕ)) → AreTraced words arrivals.now → word ≡ slice_index_or words number []) }
+    requires earlier { (i : ℕ) (e : Arrival) → i < length arrivals.now →
+        (slice_index_or arrivals.now i e).from ≤ i }
+    ensures { IfOk result (λ word. (words : List (List ℕ)) → AreTraced words arrivals.now →
+        word ≡ slice_index_or words number []) }
 {
     let mut letters = Vec::new(alloc);
     let mut at = number;

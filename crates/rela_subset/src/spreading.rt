@@ -31,8 +31,10 @@ pub(crate) fn spread<L: LabelSet>(
     requires states { All (λ q. q < states a.now) (slice_index_or sets.old number []) }
     requires letters { length (L.letters over.now) ≡ a.now.letters }
     requires count { visited.old.count ≡ states a.now }
-    ensures spread { IfOk result (λ _. (letters : List ℕ) × (arrivals.new.items ≡ arrivals.old.items ++ arrivals_from number letters)
-        × IsSpreadUpTo limit a.now (L.letters over.now) (slice_index_or sets.old number []) sets.old sets.new letters) }
+    ensures spread { IfOk result (λ _. (letters : List ℕ)
+        × (arrivals.new.items ≡ arrivals.old.items ++ arrivals_from number letters)
+        × IsSpreadUpTo limit a.now (L.letters over.now) (slice_index_or sets.old number []) sets.old
+        sets.new letters) }
     ensures count { visited.new.count ≡ visited.old.count }
     ensures memory { IfErr result (λ e. e ≢ BuildError.Limit) }
 {
@@ -60,7 +62,8 @@ fn arrive(
     set: Vec<usize>,
     arrival: Arrival,
 ) -> Result<(), BuildError>
-    ensures arrived { IfOk result (λ _. HasArrived set.items arrival sets.old sets.new arrivals.old.items arrivals.new.items) }
+    ensures arrived { IfOk result (λ _. HasArrived set.items arrival sets.old sets.new
+        arrivals.old.items arrivals.new.items) }
     ensures memory { IfErr result (λ e. e ≢ BuildError.Limit) }
 {
     let known = sets.len();

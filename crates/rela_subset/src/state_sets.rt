@@ -61,8 +61,10 @@ impl StateSets {
         ensures at { IfOk result (λ number. slice_index_or self.new number [] ≡ set.items) }
         ensures within { IfOk result (λ number. number < length self.new) }
         ensures few { IfOk result (λ _. length self.new ≤ limit) }
-        ensures grown { IfOk result (λ number. (self.new ≡ self.old) ⊎ ((self.new ≡ self.old ++ set.items ∷ []) × (number ≡ length self.old))) }
-        ensures limit { IfErr result (λ e. e ≡ BuildError.Limit → (self.new ≡ self.old ++ set.items ∷ []) × (length self.new ≡ limit + 1)) }
+        ensures grown { IfOk result (λ number. (self.new ≡ self.old)
+            ⊎ ((self.new ≡ self.old ++ set.items ∷ []) × (number ≡ length self.old))) }
+        ensures limit { IfErr result (λ e. e ≡ BuildError.Limit →
+            (self.new ≡ self.old ++ set.items ∷ []) × (length self.new ≡ limit + 1)) }
         ensures bounded { IfErr result (λ e. e ≡ BuildError.Limit → limit < 2 ^ 63) }
         ensures distinct { AreDistinct self.new }
     {

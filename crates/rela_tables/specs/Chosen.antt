@@ -9,7 +9,8 @@ use Rattle.rela_tables.specs.declared.route.Route.{Route}
 pub record IsChosen (routes : List Route) (a : ℕ) (route : Route) : Type 0 where
   pub listed : Contains routes route
   pub holds : Holds route.prefix a
-  pub longest : All (λ other. Holds other.prefix a → other.prefix.length ≤ route.prefix.length) routes
+  pub longest : All (λ other. Holds other.prefix a → other.prefix.length
+      ≤ route.prefix.length) routes
 
 -- the route that is chosen among these, or none where no prefix holds the address
 unfoldable pub ChosenOf : List Route → ℕ → Option Route → Type 0

@@ -9,4 +9,5 @@ use Rattle.rela_snapshot.specs.Names.{place_of}
 
 -- the symbol of the location of this name
 unfoldable pub symbol_of : Level → Network → ℕ → List ℕ → Result ℕ LoadError
-symbol_of level network row name = ok_or (UnknownLocation row) (place_of (alphabet_of level network) name)
+symbol_of level network row name = ok_or (UnknownLocation row)
+    (place_of (alphabet_of level network) name)

@@ -11,7 +11,8 @@ pub record Forwarding : Type 0 where
 
 -- the routes of a device: those of its table, or none where it has no table
 abbrev pub routes_of : Forwarding → ℕ → List Route
-routes_of f device = option_map_or (λ table. table.routes) (find (λ table. device == table.device) f.tables) []
+routes_of f device = option_map_or (λ table. table.routes) (find (λ table.
+    device == table.device) f.tables) []
 
 -- how many routes some tables have together
 abbrev pub route_count : List Table → ℕ

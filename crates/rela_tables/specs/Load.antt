@@ -22,7 +22,8 @@ IsTableAfter network earlier count d = do
   Is (Ok (record { device = head.0; routes = routes }))
 
 -- the earlier tables, and then those of these entries
-unfoldable pub AreTablesAfter : Network → List Table → List Data → Result (List Table) LoadError → Type 0
+unfoldable pub AreTablesAfter : Network → List Table → List Data →
+    Result (List Table) LoadError → Type 0
 AreTablesAfter network earlier [] = Is (Ok earlier)
 AreTablesAfter network earlier (d ∷ ds) = do
   table ← IsTableAfter network (devices_of earlier) (route_count earlier) d

@@ -8,7 +8,8 @@ use Rattle.rela_tables.specs.declared.route.Route.{Route}
 use Rattle.rela_tables.specs.declared.table.Table.{Table}
 
 abbrev pub AreInterfaces : Network → List ℕ → Type 0
-AreInterfaces network symbols = All (λ symbol. symbol < length (alphabet_of Interface network)) symbols
+AreInterfaces network symbols = All (λ symbol. symbol
+    < length (alphabet_of Interface network)) symbols
 
 abbrev pub IsRouteIn : Network → Route → Type 0
 IsRouteIn network route = IfSome route.hops (AreInterfaces network)

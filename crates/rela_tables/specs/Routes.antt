@@ -30,7 +30,8 @@ IsRoute network earlier row d = do
   Is (route_of network earlier row prefix d)
 
 -- the earlier routes of the table, and then those of these entries
-unfoldable pub AreRoutes : Network → ℕ → List Route → List Data → Result (List Route) LoadError → Type 0
+unfoldable pub AreRoutes : Network → ℕ → List Route → List Data →
+    Result (List Route) LoadError → Type 0
 AreRoutes network row earlier [] = Is (Ok earlier)
 AreRoutes network row earlier (d ∷ ds) = do
   route ← IsRoute network (keys_of earlier) row d

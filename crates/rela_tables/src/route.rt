@@ -47,8 +47,10 @@ pub(crate) fn read_routes(
     first: u32,
 ) -> Result<Vec<Route>, LoadError>
     requires room { first + length values.now < 2 ^ 32 }
-    ensures routes { IfOk result (λ routes. IsAnswer (spec.AreRoutes locations.now first [] (map view values.now)) (Ok routes.items)) }
-    ensures fault { IfErr result (λ e. e ≢ LoadError.Memory → IsAnswer (spec.AreRoutes locations.now first [] (map view values.now)) (Err e)) }
+    ensures routes { IfOk result (λ routes.
+        IsAnswer (spec.AreRoutes locations.now first [] (map view values.now)) (Ok routes.items)) }
+    ensures fault { IfErr result (λ e. e ≢ LoadError.Memory →
+        IsAnswer (spec.AreRoutes locations.now first [] (map view values.now)) (Err e)) }
     ensures located { IfOk result (λ routes. All (IsRouteIn locations.now) routes.items) }
     ensures distinct { IfOk result (λ routes. IsDistinct is_same_key (keys_of routes.items)) }
     ensures len { IfOk result (λ routes. vec_len routes ≡ length values.now) }
@@ -79,9 +81,12 @@ fn read_route(
     value: &Value,
     row: u32,
 ) -> Result<Route, LoadError>
-    ensures route { IfOk result (λ route. IsAnswer (spec.IsRoute locations.now seen.old.keys row (view value.now)) (Ok route)) }
-    ensures fault { IfErr result (λ e. e ≢ LoadError.Memory → IsAnswer (spec.IsRoute locations.now seen.old.keys row (view value.now)) (Err e)) }
-    ensures seen { IfOk result (λ route. seen.new.keys ≡ seen.old.keys ++ key_of route.prefix ∷ []) }
+    ensures route { IfOk result (λ route.
+        IsAnswer (spec.IsRoute locations.now seen.old.keys row (view value.now)) (Ok route)) }
+    ensures fault { IfErr result (λ e. e ≢ LoadError.Memory →
+        IsAnswer (spec.IsRoute locations.now seen.old.keys row (view value.now)) (Err e)) }
+    ensures seen { IfOk result (λ route. seen.new.keys ≡ seen.old.keys
+        ++ key_of route.prefix ∷ []) }
     ensures unique { OnOk result (IsUnique is_same_key seen.new) }
     ensures located { IfOk result (IsRouteIn locations.now) }
 {
@@ -141,8 +146,10 @@ fn read_hops(
     value: &Value,
     row: u32,
 ) -> Result<Option<List<Symbol>>, LoadError>
-    ensures hops { IfOk result (λ hops. parts.hops_of locations.now row (view value.now) ≡ Ok hops) }
-    ensures fault { IfErr result (λ e. e ≢ LoadError.Memory → parts.hops_of locations.now row (view value.now) ≡ Err e) }
+    ensures hops { IfOk result (λ hops. parts.hops_of locations.now row (view value.now)
+        ≡ Ok hops) }
+    ensures fault { IfErr result (λ e. e ≢ LoadError.Memory →
+        parts.hops_of locations.now row (view value.now) ≡ Err e) }
     ensures located { IfOk result (λ hops. IfSome hops (AreInterfaces locations.now)) }
 {
     listed_hops(alloc, locations, part(value, "hops", 69, row)?, row)
@@ -157,8 +164,10 @@ fn listed_hops(
     hops: Option<&Value>,
     row: u32,
 ) -> Result<Option<List<Symbol>>, LoadError>
-    ensures hops { IfOk result (λ found. parts.listed_hops_of locations.now row (option_map (λ v. view v.now) hops.entry) ≡ Ok found) }
-    ensures fault { IfErr result (λ e. e ≢ LoadError.Memory → parts.listed_hops_of locations.now row (option_map (λ v. view v.now) hops.entry) ≡ Err e) }
+    ensures hops { IfOk result (λ found. parts.listed_hops_of locations.now row (option_map (λ v.
+        view v.now) hops.entry) ≡ Ok found) }
+    ensures fault { IfErr result (λ e. e ≢ LoadError.Memory →
+        parts.listed_hops_of locations.now row (option_map (λ v. view v.now) hops.entry) ≡ Err e) }
     ensures located { IfOk result (λ found. IfSome found (AreInterfaces locations.now)) }
 {
     match hops {
@@ -178,8 +187,10 @@ fn hops_of(
     values: &[Value],
     row: u32,
 ) -> Result<Vec<Symbol>, LoadError>
-    ensures hops { IfOk result (λ hops. try_map (parts.hop_of locations.now row) (map view values.now) ≡ Ok hops.items) }
-    ensures fault { IfErr result (λ e. e ≢ LoadError.Memory → try_map (parts.hop_of locations.now row) (map view values.now) ≡ Err e) }
+    ensures hops { IfOk result (λ hops. try_map (parts.hop_of locations.now row)
+        (map view values.now) ≡ Ok hops.items) }
+    ensures fault { IfErr result (λ e. e ≢ LoadError.Memory →
+        try_map (parts.hop_of locations.now row) (map view values.now) ≡ Err e) }
     ensures located { IfOk result (λ hops. AreInterfaces locations.now hops.items) }
 {
     let mut hops = Vec::with_capacity(alloc, values.len())?;

@@ -23,8 +23,10 @@ pub(crate) fn read_starts(
     locations: &Locations,
     values: &[Value],
 ) -> Result<Vec<Symbol>, LoadError>
-    ensures starts { IfOk result (λ starts. spec.starts_from locations.now 0 (map view values.now) ≡ Ok starts.items) }
-    ensures fault { IfErr result (λ e. e ≢ LoadError.Memory → spec.starts_from locations.now 0 (map view values.now) ≡ Err e) }
+    ensures starts { IfOk result (λ starts. spec.starts_from locations.now 0 (map view values.now)
+        ≡ Ok starts.items) }
+    ensures fault { IfErr result (λ e. e ≢ LoadError.Memory →
+        spec.starts_from locations.now 0 (map view values.now) ≡ Err e) }
     ensures located { IfOk result (λ starts. AreInterfaces locations.now starts.items) }
 {
     let mut starts = Vec::with_capacity(alloc, values.len())?;
@@ -47,7 +49,8 @@ pub(crate) fn read_starts(
 /// name.
 #[tactic(auto, unfolding(crate::specs::Starts::start_of))]
 fn read_start(locations: &Locations, value: &Value, row: u32) -> Result<Symbol, LoadError>
-    ensures start { IfOk result (λ start. spec.start_of locations.now row (view value.now) ≡ Ok start) }
+    ensures start { IfOk result (λ start. spec.start_of locations.now row (view value.now)
+        ≡ Ok start) }
     ensures fault { IfErr result (λ e. spec.start_of locations.now row (view value.now) ≡ Err e) }
     ensures located { IfOk result (λ start. start < length (alphabet_of Interface locations.now)) }
 {

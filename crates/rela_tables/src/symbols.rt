@@ -17,8 +17,10 @@ use rela_names::{Level, Symbol};
 /// `UnknownLocation` where no interface has it.
 #[tactic(auto, unfolding(crate::specs::Entries::symbol_of))]
 pub(crate) fn interface(locations: &Locations, name: &[u8], row: u32) -> Result<Symbol, LoadError>
-    ensures symbol { IfOk result (λ s. spec.symbol_of levels.Interface locations.now row name.now ≡ Ok s) }
-    ensures fault { IfErr result (λ e. spec.symbol_of levels.Interface locations.now row name.now ≡ Err e) }
+    ensures symbol { IfOk result (λ s. spec.symbol_of levels.Interface locations.now row name.now
+        ≡ Ok s) }
+    ensures fault { IfErr result (λ e. spec.symbol_of levels.Interface locations.now row name.now
+        ≡ Err e) }
     ensures located { IfOk result (λ s. s < length (alphabet_of levels.Interface locations.now)) }
 {
     find_interface(locations, name).ok_or(LoadError::UnknownLocation { row })
@@ -39,8 +41,10 @@ fn find_interface(locations: &Locations, name: &[u8]) -> Option<Symbol>
 /// `UnknownLocation` where no device has it.
 #[tactic(auto, unfolding(crate::specs::Entries::symbol_of))]
 pub(crate) fn device(locations: &Locations, name: &[u8], row: u32) -> Result<Symbol, LoadError>
-    ensures symbol { IfOk result (λ s. spec.symbol_of levels.Device locations.now row name.now ≡ Ok s) }
-    ensures fault { IfErr result (λ e. spec.symbol_of levels.Device locations.now row name.now ≡ Err e) }
+    ensures symbol { IfOk result (λ s. spec.symbol_of levels.Device locations.now row name.now
+        ≡ Ok s) }
+    ensures fault { IfErr result (λ e. spec.symbol_of levels.Device locations.now row name.now
+        ≡ Err e) }
     ensures located { IfOk result (λ s. s < length (alphabet_of levels.Device locations.now)) }
 {
     find_device(locations, name).ok_or(LoadError::UnknownLocation { row })

@@ -42,8 +42,10 @@ pub(crate) fn read_tables(
     locations: &Locations,
     values: &[Value],
 ) -> Result<Vec<Table>, LoadError>
-    ensures tables { IfOk result (λ tables. IsAnswer (spec.AreTablesAfter locations.now [] (map view values.now)) (Ok tables.items)) }
-    ensures fault { IfErr result (λ e. e ≢ LoadError.Memory → IsAnswer (spec.AreTablesAfter locations.now [] (map view values.now)) (Err e)) }
+    ensures tables { IfOk result (λ tables.
+        IsAnswer (spec.AreTablesAfter locations.now [] (map view values.now)) (Ok tables.items)) }
+    ensures fault { IfErr result (λ e. e ≢ LoadError.Memory →
+        IsAnswer (spec.AreTablesAfter locations.now [] (map view values.now)) (Err e)) }
     ensures located { IfOk result (λ tables. All (IsTableIn locations.now) tables.items) }
     ensures distinct { IfOk result (λ tables. AreTables tables.items) }
 {
@@ -68,9 +70,14 @@ fn read_table(
     count: u32,
 ) -> Result<Table, LoadError>
     requires count { count ≤ 10000 * length devices.old.keys }
-    ensures table { IfOk result (λ table. IsAnswer (spec.IsTableAfter locations.now devices.old.keys count (view value.now)) (Ok table)) }
-    ensures fault { IfErr result (λ e. e ≢ LoadError.Memory → IsAnswer (spec.IsTableAfter locations.now devices.old.keys count (view value.now)) (Err e)) }
-    ensures devices { IfOk result (λ table. devices.new.keys ≡ devices.old.keys ++ table.device ∷ []) }
+    ensures table { IfOk result (λ table.
+        IsAnswer (spec.IsTableAfter locations.now devices.old.keys count
+        (view value.now)) (Ok table)) }
+    ensures fault { IfErr result (λ e. e ≢ LoadError.Memory →
+        IsAnswer (spec.IsTableAfter locations.now devices.old.keys count
+        (view value.now)) (Err e)) }
+    ensures devices { IfOk result (λ table. devices.new.keys ≡ devices.old.keys
+        ++ table.device ∷ []) }
     ensures unique { OnOk result (IsUnique nat_eq devices.new) }
     ensures few { OnOk result (length devices.old.keys < MAX_TABLES) }
     ensures located { IfOk result (IsTableIn locations.now) }
@@ -97,8 +104,10 @@ fn read_head<'a>(
     devices: &mut IndexSet<Symbol>,
     value: &'a Value,
 ) -> Result<(Symbol, &'a [Value]), LoadError>
-    ensures head { IfOk result (λ head. parts.head_of locations.now devices.old.keys (view value.now) ≡ Ok (head.0, map view head.1.now)) }
-    ensures fault { IfErr result (λ e. e ≢ LoadError.Memory → parts.head_of locations.now devices.old.keys (view value.now) ≡ Err e) }
+    ensures head { IfOk result (λ head. parts.head_of locations.now devices.old.keys
+        (view value.now) ≡ Ok (head.0, map view head.1.now)) }
+    ensures fault { IfErr result (λ e. e ≢ LoadError.Memory →
+        parts.head_of locations.now devices.old.keys (view value.now) ≡ Err e) }
     ensures devices { IfOk result (λ head. devices.new.keys ≡ devices.old.keys ++ head.0 ∷ []) }
     ensures unique { OnOk result (IsUnique nat_eq devices.new) }
     ensures few { OnOk result (length devices.old.keys < MAX_TABLES) }
@@ -130,8 +139,10 @@ fn read_device(
     value: &Value,
     row: u32,
 ) -> Result<Symbol, LoadError>
-    ensures device { IfOk result (λ device. parts.device_of locations.now devices.old.keys row (view value.now) ≡ Ok device) }
-    ensures fault { IfErr result (λ e. e ≢ LoadError.Memory → parts.device_of locations.now devices.old.keys row (view value.now) ≡ Err e) }
+    ensures device { IfOk result (λ device. parts.device_of locations.now devices.old.keys row
+        (view value.now) ≡ Ok device) }
+    ensures fault { IfErr result (λ e. e ≢ LoadError.Memory →
+        parts.device_of locations.now devices.old.keys row (view value.now) ≡ Err e) }
     ensures devices { IfOk result (λ device. devices.new.keys ≡ devices.old.keys ++ device ∷ []) }
     ensures unique { OnOk result (IsUnique nat_eq devices.new) }
     ensures located { IfOk result (λ device. device < length (alphabet_of Device locations.now)) }
@@ -152,7 +163,8 @@ fn read_device(
 /// `WrongShape` where its `routes` are no array; else `TooMany` where there are more than 10,000.
 #[tactic(auto, unfolding(crate::specs::TableParts::route_entries_of))]
 fn route_entries(value: &Value, row: u32) -> Result<&[Value], LoadError>
-    ensures entries { IfOk result (λ values. parts.route_entries_of row (view value.now) ≡ Ok (map view values.now)) }
+    ensures entries { IfOk result (λ values. parts.route_entries_of row (view value.now)
+        ≡ Ok (map view values.now)) }
     ensures fault { IfErr result (λ e. parts.route_entries_of row (view value.now) ≡ Err e) }
     ensures few { IfOk result (λ values. length values.now ≤ MAX_ROUTES) }
 {

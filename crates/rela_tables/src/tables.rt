@@ -67,8 +67,10 @@ impl Tables {
     /// that of the routes.
     pub fn decode(alloc: Global, bytes: &[u8], locations: &Locations) -> Result<Tables, LoadError>
         requires { length bytes.now ≤ 33554432 }
-        ensures tables { IfOk result (λ tables. IsAnswer (spec.LoadTables locations.now bytes.now) (Ok tables)) }
-        ensures fault { IfErr result (λ e. e ≢ LoadError.Memory → IsAnswer (spec.LoadTables locations.now bytes.now) (Err e)) }
+        ensures tables { IfOk result (λ tables.
+            IsAnswer (spec.LoadTables locations.now bytes.now) (Ok tables)) }
+        ensures fault { IfErr result (λ e. e ≢ LoadError.Memory →
+            IsAnswer (spec.LoadTables locations.now bytes.now) (Err e)) }
         ensures located { IfOk result (IsForwardingIn locations.now) }
     {
         let root = read(alloc, bytes)?;
@@ -94,8 +96,10 @@ impl Tables {
 
 /// The tables of a file, from the JSON value that it is.
 fn read_file(alloc: Global, locations: &Locations, root: &Value) -> Result<Tables, LoadError>
-    ensures tables { IfOk result (λ tables. IsAnswer (spec.IsForwarding locations.now (view root.now)) (Ok tables)) }
-    ensures fault { IfErr result (λ e. e ≢ LoadError.Memory → IsAnswer (spec.IsForwarding locations.now (view root.now)) (Err e)) }
+    ensures tables { IfOk result (λ tables.
+        IsAnswer (spec.IsForwarding locations.now (view root.now)) (Ok tables)) }
+    ensures fault { IfErr result (λ e. e ≢ LoadError.Memory →
+        IsAnswer (spec.IsForwarding locations.now (view root.now)) (Err e)) }
     ensures located { IfOk result (IsForwardingIn locations.now) }
 {
     let (starts, values) = read_contents(alloc, locations, root)?;
@@ -119,8 +123,10 @@ fn read_contents<'a>(
     locations: &Locations,
     root: &'a Value,
 ) -> Result<(Vec<Symbol>, &'a [Value]), LoadError>
-    ensures contents { IfOk result (λ contents. parts.contents_of locations.now (view root.now) ≡ Ok (contents.0.items, map view contents.1.now)) }
-    ensures fault { IfErr result (λ e. e ≢ LoadError.Memory → parts.contents_of locations.now (view root.now) ≡ Err e) }
+    ensures contents { IfOk result (λ contents. parts.contents_of locations.now (view root.now)
+        ≡ Ok (contents.0.items, map view contents.1.now)) }
+    ensures fault { IfErr result (λ e. e ≢ LoadError.Memory →
+        parts.contents_of locations.now (view root.now) ≡ Err e) }
     ensures located { IfOk result (λ contents. AreInterfaces locations.now contents.0.items) }
 {
     let version = whole_number(part(root, "version", 61, 0)?, 62, 0)?;

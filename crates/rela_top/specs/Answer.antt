@@ -19,4 +19,5 @@ IsOutcomeStatus status = (status < 5) × (status ≢ 2)
 -- The whole text was taken and the status is the answer's, or a write failed after a proper prefix of it.
 abbrev pub Delivers : Option (List ℕ) → Option (List ℕ) → Answer → ℕ → Type 0
 Delivers old new answer status =
-    ((status ≡ answer.status) × (new ≡ after_told old answer.text)) ⊎ ((status ≡ 6) × GrewByPart old new answer.text)
+    ((status ≡ answer.status) × (new ≡ after_told old answer.text))
+    ⊎ ((status ≡ 6) × GrewByPart old new answer.text)

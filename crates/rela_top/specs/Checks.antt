@@ -17,19 +17,22 @@ use Rattle.rela_top.specs.declared.refusal.Input.TheVariants.{Locations, Spec}
 use Rattle.rela_top.specs.declared.refusal.Refusal.{Refusal}
 
 -- the report of the rows of the flows under the checks, with the names of the locations, and the status of the rows
-unfoldable pub Reports : List (List ℕ) → ℕ → List Check → List FlowPair → Result Answer Refusal → Type 0
+unfoldable pub Reports : List (List ℕ) → ℕ → List Check → List FlowPair →
+    Result Answer Refusal → Type 0
 Reports names states checks pairs r =
     (rows : List ReportRow) × AreRowsOf names states checks pairs rows
     × (r ≡ Ok (record { text = report_text names rows; status = status_of rows }))
 
 -- over a network, under this state limit
-unfoldable pub ChecksOver : Option FilesByName → Network → (before after spec : List ℕ) → ℕ → Result Answer Refusal → Type 0
+unfoldable pub ChecksOver : Option FilesByName → Network → (before after spec : List ℕ) → ℕ →
+    Result Answer Refusal → Type 0
 ChecksOver holds network before after spec states = do
   pairs ← GivesPairs holds network before after
   specified ← Gives holds spec Spec (ReadsChecks network)
   Reports (alphabet_of specified.level network) states specified.checks pairs
 
-unfoldable pub Checks : Option FilesByName → (before after locations spec : List ℕ) → ℕ → Result Answer Refusal → Type 0
+unfoldable pub Checks : Option FilesByName → (before after locations spec : List ℕ) → ℕ →
+    Result Answer Refusal → Type 0
 Checks holds before after locations spec states = do
   network ← Gives holds locations Locations ReadsNetwork
   ChecksOver holds network before after spec states

@@ -21,7 +21,8 @@ IsDrawnAs network tables other (Ok text) =
     IsSnapshotOf network tables other text × LoadsAs network tables other text
     × (¬ IsTooMany network tables other) × (¬ IsTooLong network tables other)
 IsDrawnAs network tables other (Err fib.TooMany) = IsTooMany network tables other
-IsDrawnAs network tables other (Err fib.TooLong) = IsTooLong network tables other × (¬ IsTooMany network tables other)
+IsDrawnAs network tables other (Err fib.TooLong) = IsTooLong network tables other
+    × (¬ IsTooMany network tables other)
 IsDrawnAs network tables other (Err fib.Memory) = ⊥
 
 abbrev pub drawing_of : Result (List ℕ) FibError → Result Answer Refusal
@@ -29,16 +30,19 @@ drawing_of (Ok text) = Ok (record { text = text; status = 0 })
 drawing_of (Err e) = Err (Snapshot e)
 
 unfoldable pub IsDrawing : Network → Forwarding → Forwarding → Result Answer Refusal → Type 0
-IsDrawing network tables other r = (x : Result (List ℕ) FibError) × IsDrawnAs network tables other x × (r ≡ drawing_of x)
+IsDrawing network tables other r = (x : Result (List ℕ) FibError) × IsDrawnAs network tables other x
+    × (r ≡ drawing_of x)
 
 -- over a network
-unfoldable pub DrawsOver : Option FilesByName → Network → (tables other : List ℕ) → Result Answer Refusal → Type 0
+unfoldable pub DrawsOver : Option FilesByName → Network → (tables other : List ℕ) →
+    Result Answer Refusal → Type 0
 DrawsOver holds network tables other = do
   first ← Gives holds tables Tables (ReadsTables Tables network)
   second ← Gives holds other Other (ReadsTables Other network)
   IsDrawing network first second
 
-unfoldable pub Draws : Option FilesByName → (tables other locations : List ℕ) → Result Answer Refusal → Type 0
+unfoldable pub Draws : Option FilesByName → (tables other locations : List ℕ) →
+    Result Answer Refusal → Type 0
 Draws holds tables other locations = do
   network ← Gives holds locations Locations ReadsNetwork
   DrawsOver holds network tables other

@@ -23,21 +23,25 @@ IsTold holds name bytes = IfSome holds (λ files. files name ≡ Some bytes)
 -- the file has too many bytes, and the input that it stands for is refused for it
 unfoldable pub IsTooLong : Option FilesByName → List ℕ → Input → Refusal → Type 0
 IsTooLong holds name input refusal =
-    (bytes : List ℕ) × IsTold holds name bytes × (max_file_bytes < length bytes) × (refusal ≡ TooLong input)
+    (bytes : List ℕ) × IsTold holds name bytes × (max_file_bytes < length bytes)
+    × (refusal ≡ TooLong input)
 
 -- the file has these bytes, and they aren't too many
 unfoldable pub HasBytes : Option FilesByName → List ℕ → List ℕ → Type 0
 HasBytes holds name bytes = IsTold holds name bytes × (length bytes ≤ max_file_bytes)
 
 -- r refuses the input as too long
-abbrev pub RefusesAsTooLong : {A : Type 0} → Option FilesByName → List ℕ → Input → Result A Refusal → Type 0
+abbrev pub RefusesAsTooLong : {A : Type 0} → Option FilesByName → List ℕ → Input →
+    Result A Refusal → Type 0
 RefusesAsTooLong holds name input (Ok a) = ⊥
 RefusesAsTooLong holds name input (Err refusal) = IsTooLong holds name input refusal
 
 -- the input that the file of this name stands for is refused as too long, or its bytes give what `Reads` says
-unfoldable pub Gives : {A : Type 0} → Option FilesByName → List ℕ → Input → (List ℕ → Result A Refusal → Type 0) → Result A Refusal → Type 0
+unfoldable pub Gives : {A : Type 0} → Option FilesByName → List ℕ → Input →
+    (List ℕ → Result A Refusal → Type 0) → Result A Refusal → Type 0
 Gives holds name input Reads r =
-    RefusesAsTooLong holds name input r ⊎ ((bytes : List ℕ) × HasBytes holds name bytes × Reads bytes r)
+    RefusesAsTooLong holds name input r ⊎ ((bytes : List ℕ)
+    × HasBytes holds name bytes × Reads bytes r)
 
 -- what a decoder answers of an input
 abbrev pub load_of : {A : Type 0} → Input → Result A LoadError → Result A Refusal
@@ -48,15 +52,18 @@ abbrev pub ReadsNetwork : List ℕ → Result Network Refusal → Type 0
 ReadsNetwork bytes r = r ≡ load_of Locations (locations.Load bytes)
 
 -- the flows that are listed, or the refusal of the input
-abbrev pub AreReadFlows : Input → Result (List ListedFlow) LoadError → Result (List Flow) Refusal → Type 0
+abbrev pub AreReadFlows : Input → Result (List ListedFlow) LoadError →
+    Result (List Flow) Refusal → Type 0
 AreReadFlows input (Ok listed) (Ok flows) = AreFlowsOf listed flows
 AreReadFlows input (Ok listed) (Err refusal) = ⊥
 AreReadFlows input (Err e) (Ok flows) = ⊥
 AreReadFlows input (Err e) (Err refusal) = refusal ≡ Load input e
 
 abbrev pub ReadsFlows : Input → Network → List ℕ → Result (List Flow) Refusal → Type 0
-ReadsFlows input network bytes r = (x : Result (List ListedFlow) LoadError) × snapshot.Load network bytes x × AreReadFlows input x r
+ReadsFlows input network bytes r = (x : Result (List ListedFlow) LoadError)
+    × snapshot.Load network bytes x × AreReadFlows input x r
 
 -- the tables that are listed, or the refusal of the input
 abbrev pub ReadsTables : Input → Network → List ℕ → Result Forwarding Refusal → Type 0
-ReadsTables input network bytes r = (x : Result Forwarding LoadError) × LoadTables network bytes x × (r ≡ load_of input x)
+ReadsTables input network bytes r = (x : Result Forwarding LoadError) × LoadTables network bytes x
+    × (r ≡ load_of input x)

@@ -13,7 +13,8 @@ use Rattle.rela_top.specs.declared.refusal.Refusal.{Refusal}
 
 -- what the files of a command give: its answer, or the first refusal
 abbrev pub Outcome : Option FilesByName → Command → Result Answer Refusal → Type 0
-Outcome holds (Check before after locations spec states) = Checks holds before after locations spec states
+Outcome holds (Check before after locations spec states) =
+    Checks holds before after locations spec states
 Outcome holds (Fmt spec) = Formats holds spec
 Outcome holds (Fib tables other locations) = Draws holds tables other locations
 
@@ -29,7 +30,8 @@ says_too_long (Err refusal) = is_too_long refusal
 
 -- This is the answer to what the files of a command give: as too long exactly where the file opened last gave more bytes
 -- than are allowed.
-pub record GivenBy (holds : Option FilesByName) (command : Command) (given : ℕ) (answer : Answer) : Type 0 where
+pub record GivenBy (holds : Option FilesByName) (command : Command) (given : ℕ)
+    (answer : Answer) : Type 0 where
   pub outcome : Result Answer Refusal
   pub is_outcome : Outcome holds command outcome
   pub too_long : says_too_long outcome ≡ nat_lt max_file_bytes given
@@ -42,8 +44,11 @@ bad_words = record { text = line (codes "rela: bad command line"); status = 2 }
 -- the answer fits what the words ask for, and what the files gave
 abbrev pub Fits : List (List ℕ) → Option FilesByName → ℕ → Answer → Type 0
 Fits words holds given answer =
-    (AskNothing words × (answer ≡ bad_words)) ⊎ ((command : Command) × Ask words command × GivenBy holds command given answer)
+    (AskNothing words × (answer ≡ bad_words)) ⊎ ((command : Command) × Ask words command
+    × GivenBy holds command given answer)
 
 -- what fits was delivered
-abbrev pub Answers : List (List ℕ) → Option FilesByName → ℕ → Option (List ℕ) → Option (List ℕ) → ℕ → Type 0
-Answers words holds given old new status = (answer : Answer) × Fits words holds given answer × Delivers old new answer status
+abbrev pub Answers : List (List ℕ) → Option FilesByName → ℕ → Option (List ℕ) →
+    Option (List ℕ) → ℕ → Type 0
+Answers words holds given old new status = (answer : Answer) × Fits words holds given answer
+    × Delivers old new answer status

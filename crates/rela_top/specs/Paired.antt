@@ -20,10 +20,12 @@ IsPairedAs (Err (pair.FlowDiffers row before after)) r = r ≡ Err (FlowDiffers 
 IsPairedAs (Err pair.Memory) r = ⊥
 
 unfoldable pub ArePaired : List Flow → List Flow → Result (List FlowPair) Refusal → Type 0
-ArePaired before after r = (x : Result (List FlowPair) PairError) × Pairing before after x × IsPairedAs x r
+ArePaired before after r = (x : Result (List FlowPair) PairError)
+    × Pairing before after x × IsPairedAs x r
 
 -- over a network, by the files of these names
-unfoldable pub GivesPairs : Option FilesByName → Network → (before after : List ℕ) → Result (List FlowPair) Refusal → Type 0
+unfoldable pub GivesPairs : Option FilesByName → Network → (before after : List ℕ) →
+    Result (List FlowPair) Refusal → Type 0
 GivesPairs holds network before after = do
   earlier ← Gives holds before Before (ReadsFlows Before network)
   later ← Gives holds after After (ReadsFlows After network)

@@ -36,6 +36,7 @@ is_too_long (Snapshot error) = false
 -- Why reading ended early, without a fault where it is for a refusal, and as too long exactly where the file opened last
 -- gave more bytes than are allowed. `old` and `new` count the faults before and after, `given` is what that file gave.
 abbrev pub HaltsBy : ℕ → ℕ → ℕ → Halt → Type 0
-HaltsBy old new given (Refused refusal) = (new ≡ old) × (is_too_long refusal ≡ nat_lt max_file_bytes given)
+HaltsBy old new given (Refused refusal) = (new ≡ old)
+    × (is_too_long refusal ≡ nat_lt max_file_bytes given)
 HaltsBy old new given ReadFault = Rose old new
 HaltsBy old new given Memory = new ≡ old

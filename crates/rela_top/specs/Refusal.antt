@@ -65,11 +65,13 @@ spec_text spec.Memory = []
 
 -- destination, source and class
 unfoldable pub class_text : FlowClass → List ℕ
-class_text flow = codes " dst " ++ (text_of flow.dst ++ (codes " src " ++ (text_of flow.src ++ (codes " class " ++ flow.class))))
+class_text flow = codes " dst " ++ (text_of flow.dst
+    ++ (codes " src " ++ (text_of flow.src ++ (codes " class " ++ flow.class))))
 
 -- a flow of one name whose two snapshots tell different classes
 unfoldable pub differs_text : FlowClass → FlowClass → List ℕ
-differs_text before after = codes "21 FlowDiffers " ++ (before.name ++ (class_text before ++ class_text after))
+differs_text before after = codes "21 FlowDiffers "
+    ++ (before.name ++ (class_text before ++ class_text after))
 
 -- why tables give no snapshot; want of memory is no refusal
 abbrev pub fib_text : FibError → List ℕ

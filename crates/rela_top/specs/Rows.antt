@@ -17,13 +17,16 @@ use Rattle.rela_translate.specs.Checked.{Checked as Check}
 
 -- the row has the names of this flow and this check, and the verdict of the check on the flow's paths before and after
 -- the change
-pub record IsDecided (names : List (List ℕ)) (states : ℕ) (pair : FlowPair) (check : Check) (flow name : List ℕ) (row : Row) : Type 0 where
+pub record IsDecided (names : List (List ℕ)) (states : ℕ) (pair : FlowPair) (check : Check)
+    (flow name : List ℕ) (row : Row) : Type 0 where
   pub flow_name : flow ≡ pair.class.name
   pub check_name : name ≡ check.name
-  pub verdict : RowOf check (length names) (paths_of check.level names pair.before pair.after) states row
+  pub verdict : RowOf check (length names) (paths_of check.level names pair.before
+      pair.after) states row
 
 abbrev pub IsUnder : List (List ℕ) → ℕ → FlowPair → Check → ReportRow → Type 0
-IsUnder names states pair check (Checked flow name row) = IsDecided names states pair check flow name row
+IsUnder names states pair check (Checked flow name row) =
+    IsDecided names states pair check flow name row
 IsUnder names states pair check (Unselected flow) = ⊥
 
 -- the row is of this flow alone
@@ -32,10 +35,13 @@ IsAlone pair (Unselected flow) = flow ≡ pair.class.name
 IsAlone pair (Checked flow name row) = ⊥
 
 -- the row of the report that a planned row becomes; flows and checks are planned by their places
-abbrev pub IsRowOf : List (List ℕ) → ℕ → List Check → List FlowPair → PlannedRow → ReportRow → Type 0
-IsRowOf names states checks pairs (planned.Unselected flow) row = IsSomeAnd (slice_get pairs flow) (λ pair. IsAlone pair row)
+abbrev pub IsRowOf : List (List ℕ) → ℕ → List Check → List FlowPair → PlannedRow →
+    ReportRow → Type 0
+IsRowOf names states checks pairs (planned.Unselected flow) row =
+    IsSomeAnd (slice_get pairs flow) (λ pair. IsAlone pair row)
 IsRowOf names states checks pairs (planned.Checked flow check) row =
-    IsSomeAnd (slice_get pairs flow) (λ pair. IsSomeAnd (slice_get checks check) (λ by. IsUnder names states pair by row))
+    IsSomeAnd (slice_get pairs flow) (λ pair. IsSomeAnd (slice_get checks check) (λ by.
+    IsUnder names states pair by row))
 
 -- the places of a planned row are below these counts
 abbrev pub IsWithin : ℕ → ℕ → PlannedRow → Type 0
@@ -43,16 +49,19 @@ IsWithin flows checks (planned.Unselected flow) = flow < flows
 IsWithin flows checks (planned.Checked flow check) = (flow < flows) × (check < checks)
 
 -- the rows of these flows under these checks: those that are planned by the flows' classes and the checks' predicates
-pub record AreRowsOf (names : List (List ℕ)) (states : ℕ) (checks : List Check) (pairs : List FlowPair) (rows : List ReportRow) : Type 0 where
+pub record AreRowsOf (names : List (List ℕ)) (states : ℕ) (checks : List Check)
+    (pairs : List FlowPair) (rows : List ReportRow) : Type 0 where
   pub planned : List PlannedRow
   pub plan : Plan (map (λ pair. pair.class) pairs) (map (λ check. check.when) checks) planned
   pub each : AllZip (IsRowOf names states checks pairs) planned rows
 
 -- the classes of the check list path symbols of these locations
 abbrev pub ListsPathSymbols : List (List ℕ) → Check → Type 0
-ListsPathSymbols names check = All (λ set. All (λ s. s < path_symbols names) set.members) check.classes
+ListsPathSymbols names check = All (λ set.
+    All (λ s. s < path_symbols names) set.members) check.classes
 
 -- the classes of each check do so, and at its level each node of the flows stands at one of the locations
-pub record AreChecksAt (names : List (List ℕ)) (pairs : List FlowPair) (checks : List Check) : Type 0 where
+pub record AreChecksAt (names : List (List ℕ)) (pairs : List FlowPair)
+    (checks : List Check) : Type 0 where
   pub listed : All (ListsPathSymbols names) checks
   pub located : All (λ check. ArePairsLocated names check.level pairs) checks

@@ -24,16 +24,20 @@ same_look x y = same_outline x.0 y.0 && same_outline x.1 y.1
 
 -- the flow of this number looks like this
 abbrev pub HasLook : Level → List FlowPair → ℕ → Outline × Outline → Type 0
-HasLook level pairs n look = (n < length pairs) × ((d : FlowPair) → look_of level (slice_index_or pairs n d) ≡ look)
+HasLook level pairs n look = (n < length pairs)
+    × ((d : FlowPair) → look_of level (slice_index_or pairs n d) ≡ look)
 
 -- the number of each look is that of a flow that has it
-abbrev pub AreNumbered : {S : Type 0} → Level → List FlowPair → HashMap (Outline × Outline) ℕ S → Type 0
-AreNumbered level pairs numbers = (look : Outline × Outline) (n : ℕ) → get same_look numbers look ≡ Some n → HasLook level pairs n look
+abbrev pub AreNumbered : {S : Type 0} → Level → List FlowPair →
+    HashMap (Outline × Outline) ℕ S → Type 0
+AreNumbered level pairs numbers = (look : Outline × Outline) (n : ℕ) → get same_look numbers look
+    ≡ Some n → HasLook level pairs n look
 
 -- flow n looks the same as the flow of the other number
 abbrev pub LooksAs : Level → List FlowPair → ℕ → ℕ → Type 0
 LooksAs level pairs n other =
-    (other < length pairs) × ((d : FlowPair) → look_of level (slice_index_or pairs n d) ≡ look_of level (slice_index_or pairs other d))
+    (other < length pairs) × ((d : FlowPair) → look_of level (slice_index_or pairs n d)
+    ≡ look_of level (slice_index_or pairs other d))
 
 -- for each flow the number of one that looks the same
 pub record AreAlike (level : Level) (pairs : List FlowPair) (others : List ℕ) : Type 0 where
@@ -42,26 +46,34 @@ pub record AreAlike (level : Level) (pairs : List FlowPair) (others : List ℕ) 
 
 -- the verdict of a compiled check on a flow, each symbol of which has a text; `names` are the locations of the check's
 -- level
-pub record IsVerdict (names : List (List ℕ)) (by : Compilation) (pair : FlowPair) (row : Row) : Type 0 where
-  pub right : RowOf by.check (length names) (paths_of by.check.level names pair.before pair.after) by.states row
+pub record IsVerdict (names : List (List ℕ)) (by : Compilation) (pair : FlowPair)
+    (row : Row) : Type 0 where
+  pub right : RowOf by.check (length names) (paths_of by.check.level names pair.before
+      pair.after) by.states row
   pub texts : VerdictHasTexts names row
 
 -- the same of the flow and the check of these numbers
 abbrev pub IsVerdictOf : List (List ℕ) → List Compilation → List FlowPair → ℕ → ℕ → Row → Type 0
 IsVerdictOf names compiled pairs flow check row =
-    IsSomeAnd (slice_get pairs flow) (λ pair. IsSomeAnd (slice_get compiled check) (λ by. IsVerdict names by pair row))
+    IsSomeAnd (slice_get pairs flow) (λ pair. IsSomeAnd (slice_get compiled check) (λ by.
+    IsVerdict names by pair row))
 
 -- the row of the report that a planned row becomes under the compiled checks
-abbrev pub IsRowBy : List (List ℕ) → List Compilation → List FlowPair → PlannedRow → ReportRow → Type 0
-IsRowBy names compiled pairs (planned.Unselected flow) row = IsSomeAnd (slice_get pairs flow) (λ pair. IsAlone pair row)
+abbrev pub IsRowBy : List (List ℕ) → List Compilation → List FlowPair → PlannedRow →
+    ReportRow → Type 0
+IsRowBy names compiled pairs (planned.Unselected flow) row =
+    IsSomeAnd (slice_get pairs flow) (λ pair. IsAlone pair row)
 IsRowBy names compiled pairs (planned.Checked flow check) row =
-    IsSomeAnd (slice_get pairs flow) (λ pair. IsSomeAnd (slice_get compiled check) (λ by. IsUnder names by.states pair by.check row))
+    IsSomeAnd (slice_get pairs flow) (λ pair. IsSomeAnd (slice_get compiled check) (λ by.
+    IsUnder names by.states pair by.check row))
 
 -- whether two pairs of numbers are equal
 abbrev pub same_numbers : ℕ × ℕ → ℕ × ℕ → Bool
 same_numbers x y = (x.0 == y.0) && (x.1 == y.1)
 
 -- the verdicts are kept by the numbers of their flows and checks
-abbrev pub AreVerdicts : {S : Type 0} → List (List ℕ) → List Compilation → List FlowPair → HashMap (ℕ × ℕ) Row S → Type 0
+abbrev pub AreVerdicts : {S : Type 0} → List (List ℕ) → List Compilation → List FlowPair →
+    HashMap (ℕ × ℕ) Row S → Type 0
 AreVerdicts names compiled pairs verdicts =
-    (flow check : ℕ) (row : Row) → get same_numbers verdicts (flow, check) ≡ Some row → IsVerdictOf names compiled pairs flow check row
+    (flow check : ℕ) (row : Row) → get same_numbers verdicts (flow, check) ≡ Some row →
+    IsVerdictOf names compiled pairs flow check row

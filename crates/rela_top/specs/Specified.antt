@@ -40,7 +40,8 @@ as_refusal (Err e) = Err (Specification e)
 
 -- the same as an input that is read
 abbrev pub ReadsChecks : Network → List ℕ → Result Specified Refusal → Type 0
-ReadsChecks network bytes r = (x : Result Specified SpecError) × ReadsSpecified network bytes x × (r ≡ as_refusal x)
+ReadsChecks network bytes r = (x : Result Specified SpecError) × ReadsSpecified network bytes x
+    × (r ≡ as_refusal x)
 
 -- what was read, as data
 abbrev pub specified_by : Asked → Specified

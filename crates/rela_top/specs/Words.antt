@@ -51,7 +51,8 @@ pub record Give (words operands : List (List ℕ)) (states : Option ℕ) : Type 
   pub after_dashes : AreAfterDashes tail others
 
 -- the words are this name, and then what gives these operands and a limit, or none, that is one of those taken
-pub record AskBy (words : List (List ℕ)) (name : List ℕ) (operands : List (List ℕ)) (Takes : Option ℕ → Type 0) : Type 0 where
+pub record AskBy (words : List (List ℕ)) (name : List ℕ) (operands : List (List ℕ))
+    (Takes : Option ℕ → Type 0) : Type 0 where
   pub rest : List (List ℕ)
   pub given : Option ℕ
   pub are_words : words ≡ name ∷ rest
@@ -71,7 +72,8 @@ abbrev pub Ask : List (List ℕ) → Command → Type 0
 Ask words (Check before after locations spec states) =
     AskBy words (codes "check") (before ∷ after ∷ locations ∷ spec ∷ []) (IsLimit states)
 Ask words (Fmt spec) = AskBy words (codes "fmt") (spec ∷ []) IsNoLimit
-Ask words (Fib tables other locations) = AskBy words (codes "fib") (tables ∷ other ∷ locations ∷ []) IsNoLimit
+Ask words (Fib tables other locations) =
+    AskBy words (codes "fib") (tables ∷ other ∷ locations ∷ []) IsNoLimit
 
 -- the words ask for this command, or for none
 abbrev pub AskJust : List (List ℕ) → Option Command → Type 0

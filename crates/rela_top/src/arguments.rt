@@ -37,7 +37,8 @@ impl<'a> Arguments<'a> {
 
     /// The next operand, and `None` where there is none, or an option before it can't be read.
     pub(crate) fn operand(&mut self) -> Option<&'a str>
-        ensures { MatchOption result ((n : ℕ) → GiveNone self.old (n + 1)) (λ word. Passes self.old word.now self.new) }
+        ensures { MatchOption result ((n : ℕ) → GiveNone self.old (n + 1)) (λ word.
+            Passes self.old word.now self.new) }
     {
         match self.read() {
             Ok(Some(word)) => Some(word),
@@ -63,7 +64,9 @@ impl<'a> Arguments<'a> {
     ///
     /// `BadWords` where a word before it is no option, or one that can't be taken.
     fn read(&mut self) -> Result<Option<&'a str>, BadWords>
-        ensures { MatchResult result (λ word. MatchOption word (GiveJust self.old [] self.new.states) (λ w. Passes self.old w.now self.new))
+        ensures { MatchResult result (λ word.
+            MatchOption word (GiveJust self.old [] self.new.states) (λ w.
+            Passes self.old w.now self.new))
             (λ _. GiveNothing self.old) }
     {
         while let Some(word) = self.rest.split_off_first() {
@@ -110,7 +113,8 @@ impl<'a> Arguments<'a> {
     ///
     /// `BadWords` where the word is no such option, or no word comes next.
     fn number(&mut self, word: &'a str) -> Result<&'a str, BadWords>
-        ensures number { IfOk result (λ number. HasNumber word.now (map string_bytes self.old.rest.now)
+        ensures number { IfOk result (λ number.
+            HasNumber word.now (map string_bytes self.old.rest.now)
             number.now (map string_bytes self.new.rest.now)) }
         ensures bad { OnErr result ((number : List ℕ) (rest : List (List ℕ)) →
             ¬ HasNumber word.now (map string_bytes self.old.rest.now) number rest) }

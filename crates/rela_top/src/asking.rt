@@ -31,9 +31,12 @@ pub struct Asked {
 /// `UnknownName`, `FinerLevel`, `UnknownLocation`, `TooDeep` or `TooLarge`; `Memory`.
 pub fn read_asked(alloc: Global, text: &[u8], locations: &Locations) -> Result<Asked, SpecError>
     requires { length text.now ≤ 33554432 }
-    ensures asked { IfOk result (λ asked. ReadsSpecified locations.now text.now (Ok (specified_by asked))) }
-    ensures listed { IfOk result (λ asked. All (ListsPathSymbols (alphabet_of asked.level locations.now)) asked.checks.items) }
-    ensures fault { IfErr result (λ e. e ≢ SpecError.Memory → ReadsSpecified locations.now text.now (Err e)) }
+    ensures asked { IfOk result (λ asked.
+        ReadsSpecified locations.now text.now (Ok (specified_by asked))) }
+    ensures listed { IfOk result (λ asked.
+        All (ListsPathSymbols (alphabet_of asked.level locations.now)) asked.checks.items) }
+    ensures fault { IfErr result (λ e. e ≢ SpecError.Memory →
+        ReadsSpecified locations.now text.now (Err e)) }
 {
     let file = read_tree(alloc, text)?;
     let checks = expand(alloc, &file, locations)?;

@@ -21,7 +21,8 @@ pub(crate) fn plan_rows(
     pairs: &[FlowPair],
     checks: &[Check],
 ) -> Result<Vec<PlannedRow>, AllocError>
-    ensures { IfOk result (λ planned. Plan (map (λ pair. pair.class) pairs.now) (map (λ check. check.when) checks.now) planned.items) }
+    ensures { IfOk result (λ planned. Plan (map (λ pair. pair.class) pairs.now) (map (λ check.
+        check.when) checks.now) planned.items) }
 {
     let classes = classes_of(alloc, pairs)?;
     let predicates = predicates_of(alloc, checks)?;
@@ -30,7 +31,8 @@ pub(crate) fn plan_rows(
 
 /// What is said of each flow, lent in their order.
 fn classes_of<'a>(alloc: Global, pairs: &'a [FlowPair]) -> Result<Vec<&'a FlowClass>, AllocError>
-    ensures { IfOk result (λ classes. map (λ c. c.now) classes.items ≡ map (λ pair. pair.class) pairs.now) }
+    ensures { IfOk result (λ classes. map (λ c. c.now) classes.items
+        ≡ map (λ pair. pair.class) pairs.now) }
 {
     let mut classes = Vec::with_capacity(alloc, pairs.len())?;
     for pair in pairs {
@@ -41,7 +43,8 @@ fn classes_of<'a>(alloc: Global, pairs: &'a [FlowPair]) -> Result<Vec<&'a FlowCl
 
 /// The predicate of each check, lent in their order.
 fn predicates_of<'a>(alloc: Global, checks: &'a [Check]) -> Result<Vec<&'a Predicate>, AllocError>
-    ensures predicates { IfOk result (λ predicates. map (λ p. p.now) predicates.items ≡ map (λ check. check.when) checks.now) }
+    ensures predicates { IfOk result (λ predicates. map (λ p. p.now) predicates.items
+        ≡ map (λ check. check.when) checks.now) }
     ensures shallow { IfOk result (λ predicates. All (λ p. depth p.now ≤ 1000) predicates.items) }
 {
     let mut predicates = Vec::with_capacity(alloc, checks.len())?;

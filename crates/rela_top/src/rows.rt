@@ -35,7 +35,8 @@ pub fn rows_of(
 ) -> Result<Vec<ReportRow>, AllocError>
     requires some { 1 ≤ states }
     requires checks { AreChecksAt alphabet.now pairs.now checks.now }
-    ensures rows { IfOk result (λ rows. AreRowsOf alphabet.now states checks.now pairs.now rows.items) }
+    ensures rows { IfOk result (λ rows. AreRowsOf alphabet.now states checks.now
+        pairs.now rows.items) }
     ensures texts { IfOk result (λ rows. All (RowHasTexts alphabet.now) rows.items) }
 {
     let planned = plan_rows(alloc, pairs, checks)?;
@@ -53,7 +54,8 @@ fn compile_all<'a>(
     requires some { 1 ≤ states }
     requires listed { All (ListsPathSymbols alphabet.now) checks.now }
     ensures checks { IfOk result (λ compiled. map (λ c. c.check) compiled.items ≡ checks.now) }
-    ensures locations { IfOk result (λ compiled. All (λ c. c.locations ≡ length alphabet.now) compiled.items) }
+    ensures locations { IfOk result (λ compiled. All (λ c. c.locations ≡ length alphabet.now)
+        compiled.items) }
     ensures states { IfOk result (λ compiled. All (λ c. c.states ≡ states) compiled.items) }
 {
     let mut compiled = Vec::with_capacity(alloc, checks.len())?;
@@ -74,8 +76,10 @@ fn decide_all(
 ) -> Result<Vec<ReportRow>, AllocError>
     requires planned { All (IsWithin (length pairs.now) (length compiled.now)) planned.now }
     requires locations { All (λ c. c.locations ≡ length alphabet.now) compiled.now }
-    requires located { All (λ c. ArePairsLocated alphabet.now c.check.level pairs.now) compiled.now }
-    ensures rows { IfOk result (λ rows. AllZip (IsRowBy alphabet.now compiled.now pairs.now) planned.now rows.items) }
+    requires located { All (λ c. ArePairsLocated alphabet.now c.check.level
+        pairs.now) compiled.now }
+    ensures rows { IfOk result (λ rows. AllZip (IsRowBy alphabet.now compiled.now pairs.now)
+        planned.now rows.items) }
     ensures texts { IfOk result (λ rows. All (RowHasTexts alphabet.now) rows.items) }
 {
     let others = alike(alloc, pairs, compiled)?;
@@ -108,7 +112,8 @@ fn row_of(
 ) -> Result<ReportRow, AllocError>
     requires planned { IsWithin (length pairs.now) (length compiled.now) planned.now }
     requires locations { All (λ c. c.locations ≡ length alphabet.now) compiled.now }
-    requires located { All (λ c. ArePairsLocated alphabet.now c.check.level pairs.now) compiled.now }
+    requires located { All (λ c. ArePairsLocated alphabet.now c.check.level
+        pairs.now) compiled.now }
     requires alike { All (λ c. AreAlike c.check.level pairs.now others.now) compiled.now }
     requires verdicts { AreVerdicts alphabet.now compiled.now pairs.now verdicts.old }
     ensures row { IfOk result (IsRowBy alphabet.now compiled.now pairs.now planned.now) }
@@ -136,7 +141,8 @@ fn row_under(
     check: &Check,
     row: Row,
 ) -> Result<ReportRow, AllocError>
-    ensures { IfOk result (λ made. made ≡ ReportRow.Checked pair.now.class.name check.now.name row) }
+    ensures { IfOk result (λ made. made ≡ ReportRow.Checked pair.now.class.name
+        check.now.name row) }
 {
     let flow = pair.class.name.copy(alloc)?;
     let check = check.name().copy(alloc)?;

@@ -34,7 +34,8 @@ pub(crate) fn alike(
     pairs: &[FlowPair],
     compiled: &[Compiled<'_>],
 ) -> Result<Vec<usize>, AllocError>
-    ensures { IfOk result (λ others. All (λ c. AreAlike c.check.level pairs.now others.items) compiled.now) }
+    ensures { IfOk result (λ others. All (λ c.
+        AreAlike c.check.level pairs.now others.items) compiled.now) }
 {
     match one_level(compiled) {
         Some(level) => alike_at(alloc, pairs, level),
@@ -109,7 +110,8 @@ pub(crate) fn share_verdicts(
     other: &FlowPair,
     alphabet: &Alphabet,
 )
-    ensures { look_of by.now.check.level pair.now ≡ look_of by.now.check.level other.now → (row : Row) →
+    ensures { look_of by.now.check.level pair.now ≡ look_of by.now.check.level other.now →
+        (row : Row) →
         IsVerdict alphabet.now by.now other.now row → IsVerdict alphabet.now by.now pair.now row }
 {
     let level = by.level();
@@ -151,7 +153,8 @@ pub(crate) fn verdict_on(
     requires flow { flow < length pairs.now }
     requires check { check < length compiled.now }
     requires locations { All (λ c. c.locations ≡ length alphabet.now) compiled.now }
-    requires located { All (λ c. ArePairsLocated alphabet.now c.check.level pairs.now) compiled.now }
+    requires located { All (λ c. ArePairsLocated alphabet.now c.check.level
+        pairs.now) compiled.now }
     requires verdicts { AreVerdicts alphabet.now compiled.now pairs.now verdicts.old }
     ensures verdict { IfOk result (IsVerdictOf alphabet.now compiled.now pairs.now flow check) }
     ensures verdicts { OnOk result (AreVerdicts alphabet.now compiled.now pairs.now verdicts.new) }

@@ -26,7 +26,8 @@ pub(crate) fn verdict(
     requires locations { compiled.now.locations ≡ length alphabet.now }
     requires located { IsPairLocated alphabet.now compiled.now.check.level pair.now }
     ensures row { IfOk result (RowOf compiled.now.check (length alphabet.now)
-        (paths_of compiled.now.check.level alphabet.now pair.now.before pair.now.after) compiled.now.states) }
+        (paths_of compiled.now.check.level alphabet.now pair.now.before pair.now.after)
+        compiled.now.states) }
     ensures texts { IfOk result (VerdictHasTexts alphabet.now) }
 {
     // The contract of the body tells that the markers of the check are few.

@@ -19,7 +19,8 @@ Covers read letters = (k : ℕ) → k < letters → (s : ℕ) × (read s ≡ k)
 
 -- by some word in the middle the first reaches the left state from u, and the second the right state with w
 abbrev pub ReachThrough : (ℕ → ℕ) → Machine → Machine → Pair → List ℕ → List ℕ → Type 0
-ReachThrough read a b x u w = (middle : List ℕ) × ReachR read a x.left u middle × ReachR read b x.right middle w
+ReachThrough read a b x u w = (middle : List ℕ) × ReachR read a x.left u middle
+    × ReachR read b x.right middle w
 
 -- one word of letters in the middle leads to both states
 abbrev pub AreReachedThrough : Machine → Machine → Pair → Type 0
@@ -31,7 +32,8 @@ pub record IsComposition (a b : Machine) (pairs : List Pair) (r : Machine) : Typ
   pub distinct : AreDistinct pairs
   pub together : (x : Pair) → Contains pairs x → AreReachedThrough a b x
   pub all : (x : Pair) → AreReachedThrough a b x → Contains pairs x
-  pub reached : (read : ℕ → ℕ) → Covers read a.letters → (k : ℕ) (x : Pair) → slice_get pairs k ≡ Some x → (u w : List ℕ) → ReachR read r k u w ↔ ReachThrough read a b x u w
+  pub reached : (read : ℕ → ℕ) → Covers read a.letters → (k : ℕ) (x : Pair) → slice_get pairs k
+      ≡ Some x → (u w : List ℕ) → ReachR read r k u w ↔ ReachThrough read a b x u w
 
 -- the set, unless it is empty
 abbrev pub unless_empty : List Bool → Option (List Bool)
@@ -93,7 +95,8 @@ moves_with m others = flat_map (λ n. made (both_by_letter m.kind n.kind) (pair_
 -- the moves of the two that leave a pair
 abbrev pub joint_moves : Machine → Machine → Pair → List (JointMove (List Bool))
 joint_moves a b x =
-    first_moves x.right (moves_of a x.left) ++ second_moves x.left (moves_of b x.right) ++ flat_map (λ m. moves_with m (moves_of b x.right)) (moves_of a x.left)
+    first_moves x.right (moves_of a x.left) ++ second_moves x.left (moves_of b x.right)
+    ++ flat_map (λ m. moves_with m (moves_of b x.right)) (moves_of a x.left)
 
 -- the pairs to which they lead
 abbrev pub next_pairs : Machine → Machine → Pair → List Pair
@@ -107,7 +110,8 @@ numbered (j ∷ moves) (t ∷ targets) = record { kind = j.kind; to = t } ∷ nu
 
 -- those of the pair of this number
 abbrev pub product_moves_at : Machine → Machine → Exploration → ℕ → List (Move (List Bool))
-product_moves_at a b explored k = numbered (slice_index_or (map (joint_moves a b) explored.pairs) k []) (slice_index_or explored.targets k [])
+product_moves_at a b explored k = numbered (slice_index_or (map (joint_moves a b) explored.pairs)
+    k []) (slice_index_or explored.targets k [])
 
 -- whether both states are final
 abbrev pub final_both : Machine → Machine → Pair → Bool
@@ -117,5 +121,6 @@ final_both a b x = slice_index_or a.finals x.left false && slice_index_or b.fina
 pub record IsProduct (a b : Machine) (explored : Exploration) (r : Machine) : Type 0 where
   pub letters : r.letters ≡ a.letters
   pub start : r.start ≡ 0
-  pub moves : r.moves ≡ map (product_moves_at a b explored) (range_with_len 0 (length explored.pairs))
+  pub moves : r.moves ≡ map (product_moves_at a b explored)
+      (range_with_len 0 (length explored.pairs))
   pub finals : r.finals ≡ map (final_both a b) explored.pairs

@@ -17,7 +17,8 @@ silent to = record { kind = Silent; to = to }
 -- the moves that leave p, their ends `by` later, and where p is final a silent move to the exit
 abbrev pub leaving : Machine → ℕ → Option ℕ → ℕ → List (Move (List Bool))
 leaving t by exit p =
-    map (shifted by) (moves_of t p) ++ (if slice_index_or t.finals p false then map silent (option_to_list exit) else [])
+    map (shifted by) (moves_of t p) ++ (if slice_index_or t.finals p false
+    then map silent (option_to_list exit) else [])
 
 -- those of each state
 abbrev pub copied : Machine → ℕ → Option ℕ → List (List (Move (List Bool)))

@@ -36,6 +36,7 @@ pub record IsWalked (t : Machine) (old new : List Bool) (path : List ℕ) (end :
   pub passed : IsPassed new end
   pub kept : (p : ℕ) → IsPassed old p → IsPassed new p
   pub only : (p : ℕ) → IsPassed new p → IsPassed old p ⊎ Contains path p
-  pub fresh : (p : ℕ) → Contains path p → (p < machine_states t) × (¬ IsPassed old p) × IsPassed new p
+  pub fresh : (p : ℕ) → Contains path p → (p < machine_states t)
+      × (¬ IsPassed old p) × IsPassed new p
   pub led : (p : ℕ) → Contains path p → Detours t p end
   pub onward : (p r : ℕ) → Contains path p → IsDetour t p r → Detours t r end

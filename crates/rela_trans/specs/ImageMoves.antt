@@ -34,7 +34,9 @@ read_moves m moves = flat_map (λ n. made (read_by m.label n.kind) (pair_of m.to
 
 -- the moves of the two that leave a pair
 abbrev pub image_moves : Automaton → Machine → Pair → List (JointMove (List Bool))
-image_moves a t x = source_moves x.right (edges_of a x.left) ++ second_moves x.left (moves_of t x.right) ++ flat_map (λ m. read_moves m (moves_of t x.right)) (edges_of a x.left)
+image_moves a t x = source_moves x.right (edges_of a x.left)
+    ++ second_moves x.left (moves_of t x.right) ++ flat_map (λ m. read_moves m (moves_of t x.right))
+    (edges_of a x.left)
 
 -- the label by what a move of this kind writes
 abbrev pub written_label : Kind → Label
@@ -55,7 +57,8 @@ read_labels label moves = flat_map (λ n. written_labels (read_by label n.kind))
 
 -- the labels by what the moves write that leave a pair
 abbrev pub image_labels : Automaton → Machine → Pair → List Label
-image_labels a t x = silent_labels (edges_of a x.left) ++ alone_labels (moves_of t x.right) ++ flat_map (λ m. read_labels m.label (moves_of t x.right)) (edges_of a x.left)
+image_labels a t x = silent_labels (edges_of a x.left) ++ alone_labels (moves_of t x.right)
+    ++ flat_map (λ m. read_labels m.label (moves_of t x.right)) (edges_of a x.left)
 
 -- whether both states are final
 abbrev pub final_image : Automaton → Machine → Pair → Bool

@@ -14,11 +14,13 @@ use Rattle.rela_trans.specs.declared.moves.MoveKind.TheVariants.{Silent, In, Out
 
 -- by some source the automaton reaches the left state, and the transducer the right state with v
 abbrev pub ReachFrom : (ℕ → ℕ) → Automaton → Machine → Pair → List ℕ → Type 0
-ReachFrom read a t x v = (source : List ℕ) × Reach a x.left (map read source) × ReachR read t x.right source v
+ReachFrom read a t x v = (source : List ℕ) × Reach a x.left (map read source)
+    × ReachR read t x.right source v
 
 -- one source of letters leads to both states
 abbrev pub AreReachedFrom : Automaton → Machine → Pair → Type 0
-AreReachedFrom a t x = (source : List ℕ) × (v : List ℕ) × Reach a x.left source × ReachR (λ k. k) t x.right source v
+AreReachedFrom a t x = (source : List ℕ) × (v : List ℕ) × Reach a x.left source
+    × ReachR (λ k. k) t x.right source v
 
 -- the states of r are the pairs that one source leads to, each once and each by the words that are written so
 pub record IsImage (a : Automaton) (t : Machine) (pairs : List Pair) (r : Automaton) : Type 0 where
@@ -26,12 +28,14 @@ pub record IsImage (a : Automaton) (t : Machine) (pairs : List Pair) (r : Automa
   pub distinct : AreDistinct pairs
   pub together : (x : Pair) → Contains pairs x → AreReachedFrom a t x
   pub all : (x : Pair) → AreReachedFrom a t x → Contains pairs x
-  pub reached : (read : ℕ → ℕ) → Covers read a.letters → (k : ℕ) (x : Pair) → slice_get pairs k ≡ Some x → (v : List ℕ) → Reach r k (map read v) ↔ ReachFrom read a t x v
+  pub reached : (read : ℕ → ℕ) → Covers read a.letters → (k : ℕ) (x : Pair) → slice_get pairs k
+      ≡ Some x → (v : List ℕ) → Reach r k (map read v) ↔ ReachFrom read a t x v
 
 -- the edge by what a move of this kind writes; none where it reads a letter of an empty set, and so can't be made
 abbrev pub written_by : Kind → ℕ → Option Edge
 written_by Silent to = Some (record { label = None; to = to })
-written_by (In set) to = if list_any (λ b. b) set then Some (record { label = None; to = to }) else None
+written_by (In set) to = if list_any (λ b. b) set
+    then Some (record { label = None; to = to }) else None
 written_by (Out set) to = Some (record { label = Some set; to = to })
 written_by (Same set) to = Some (record { label = Some set; to = to })
 

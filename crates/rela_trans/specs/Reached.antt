@@ -53,7 +53,8 @@ alone_pairs left moves = flat_map (λ n. pair_if (reads_nothing n.kind) (pair_of
 
 -- where the transducer goes by the letter, while the automaton goes to the left state
 abbrev pub letter_pairs : Option ℕ → ℕ → List (Move (List Bool)) → List Pair
-letter_pairs letter left moves = flat_map (λ n. pair_if (may_read letter n.kind) (pair_of left n.to)) moves
+letter_pairs letter left moves = flat_map (λ n.
+    pair_if (may_read letter n.kind) (pair_of left n.to)) moves
 
 -- where both go by an edge of this label to the left state; by a silent one the transducer stays at the right state
 abbrev pub label_pairs : List ℕ → ℕ → List (Move (List Bool)) → Option (List Bool) → ℕ → List Pair
@@ -65,15 +66,18 @@ edge_pairs parents right moves edge = label_pairs parents right moves edge.label
 
 -- the pairs of states to which the two may go from a pair
 abbrev pub reading_pairs : List ℕ → Automaton → Machine → Pair → List Pair
-reading_pairs parents a t x = alone_pairs x.left (moves_of t x.right) ++ flat_map (edge_pairs parents x.right (moves_of t x.right)) (edges_of a x.left)
+reading_pairs parents a t x = alone_pairs x.left (moves_of t x.right)
+    ++ flat_map (edge_pairs parents x.right (moves_of t x.right)) (edges_of a x.left)
 
 -- the transducer may come to the state while it reads a word of the automaton
 abbrev pub MayReach : List ℕ → Automaton → Machine → ℕ → Type 0
-MayReach parents a t q = (p : ℕ) × Reachable (reading_pairs parents a t) (pair_of a.start t.start) (pair_of p q)
+MayReach parents a t q = (p : ℕ) × Reachable (reading_pairs parents a t)
+    (pair_of a.start t.start) (pair_of p q)
 
 -- the state's moves over the finer letters, if it is kept
 abbrev pub kept_moves : List ℕ → List Bool → Machine → ℕ → List (Move (List Bool))
-kept_moves parents kept t q = if slice_index_or kept q false then map (relabelled_move parents) (moves_of t q) else []
+kept_moves parents kept t q = if slice_index_or kept q false
+    then map (relabelled_move parents) (moves_of t q) else []
 
 -- the same transducer over the finer letters, where only the states that are kept have moves
 pub record IsKept (parents : List ℕ) (kept : List Bool) (t r : Machine) : Type 0 where

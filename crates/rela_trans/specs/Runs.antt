@@ -26,7 +26,8 @@ pub record Step : Type 0 where
 
 -- one of the moves leads to q, reading the first word and writing the second
 abbrev pub StepIn : (ℕ → ℕ) → List (Move (List Bool)) → List ℕ → List ℕ → ℕ → Type 0
-StepIn read moves input output q = (kind : Kind) × Contains moves (record { kind = kind; to = q }) × Does read kind input output
+StepIn read moves input output q = (kind : Kind) × Contains moves (record { kind = kind; to = q })
+    × Does read kind input output
 
 -- a move leads from p to q
 abbrev pub HasStep : (ℕ → ℕ) → Machine → ℕ → List ℕ → List ℕ → ℕ → Type 0
@@ -35,7 +36,8 @@ HasStep read t p input output q = StepIn read (moves_of t p) input output q
 -- moves that follow one another lead from p to q
 abbrev pub Follow : (ℕ → ℕ) → Machine → ℕ → List Step → ℕ → Type 0
 Follow read t p [] q = p ≡ q
-Follow read t p (step ∷ rest) q = HasStep read t p step.input step.output step.to × Follow read t step.to rest q
+Follow read t p (step ∷ rest) q = HasStep read t p step.input step.output step.to
+    × Follow read t step.to rest q
 
 -- all that was read
 abbrev pub inputs : List Step → List ℕ
@@ -49,7 +51,8 @@ outputs (step ∷ rest) = step.output ++ outputs rest
 
 -- some list of moves leads from the start to q, reads u and writes v
 abbrev pub ReachR : (ℕ → ℕ) → Machine → ℕ → List ℕ → List ℕ → Type 0
-ReachR read t q u v = (steps : List Step) × Follow read t t.start steps q × (inputs steps ≡ u) × (outputs steps ≡ v)
+ReachR read t q u v = (steps : List Step) × Follow read t t.start steps q × (inputs steps ≡ u)
+    × (outputs steps ≡ v)
 
 -- the pair leads from the start to some final state
 abbrev pub Relates : (ℕ → ℕ) → Machine → List ℕ → List ℕ → Type 0

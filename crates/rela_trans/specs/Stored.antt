@@ -18,7 +18,8 @@ abbrev pub move_of : {L : Type 0} → (L → List Bool) → Move L → Move (Lis
 move_of letters move = record { kind = kind_of letters move.kind; to = move.to }
 
 -- the moves of each state
-abbrev pub moves_in : {L A : Type 0} → (L → List Bool) → List (Vec (Move L) A) → List (List (Move (List Bool)))
+abbrev pub moves_in : {L A : Type 0} → (L → List Bool) → List (Vec (Move L) A) →
+    List (List (Move (List Bool)))
 moves_in letters moves = map (λ v. map (move_of letters) v.items) moves
 
 -- the items of each

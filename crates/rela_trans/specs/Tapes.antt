@@ -28,7 +28,12 @@ lifted_at tape a q = map (lifted tape) (edges_of a q)
 
 -- the automaton as a transducer: the same states, each edge a move
 abbrev pub lifted_machine : Tape → Automaton → Machine
-lifted_machine tape a = record { letters = a.letters; start = a.start; finals = a.finals; moves = map (lifted_at tape a) (range_with_len 0 (states a)) }
+lifted_machine tape a = record {
+  letters = a.letters;
+  start = a.start;
+  finals = a.finals;
+  moves = map (lifted_at tape a) (range_with_len 0 (states a));
+}
 
 -- a word with P stands on the tape: it is read, or written, or both, and nothing else is
 abbrev pub OnTape : Tape → (List ℕ → Type 0) → List ℕ → List ℕ → Type 0

@@ -26,8 +26,10 @@ fn joint_moves<L: LabelSet>(
     requires letters { first.now.letters ≡ second.now.letters }
     requires left { pair.left < machine_states first.now }
     requires right { pair.right < machine_states second.now }
-    ensures moves { IfOk result (λ joint. map (joint_of L.letters) joint.items ≡ joint_moves first.now second.now pair) }
-    ensures lead { IfOk result (λ _. All (λ x. (x.left < machine_states first.now) × (x.right < machine_states second.now)) (next_pairs first.now second.now pair)) }
+    ensures moves { IfOk result (λ joint. map (joint_of L.letters) joint.items
+        ≡ joint_moves first.now second.now pair) }
+    ensures lead { IfOk result (λ _. All (λ x. (x.left < machine_states first.now)
+        × (x.right < machine_states second.now)) (next_pairs first.now second.now pair)) }
 {
     let left = first.moves(pair.left);
     let right = second.moves(pair.right);
@@ -47,7 +49,8 @@ fn numbered_moves<L: LabelSet>(
     targets: &[usize],
 ) -> Result<Vec<Move<L>>, AllocError>
     requires { vec_len joint ≡ length targets.now }
-    ensures { IfOk result (λ moves. map (move_of L.letters) moves.items ≡ numbered (map (joint_of L.letters) joint.items) targets.now) }
+    ensures { IfOk result (λ moves. map (move_of L.letters) moves.items
+        ≡ numbered (map (joint_of L.letters) joint.items) targets.now) }
 {
     let mut moves = Vec::with_capacity(alloc, joint.len())?;
     while let Some(made) = joint.pop() {
@@ -72,7 +75,8 @@ struct Composing<'a, L: LabelSet> {
 
 impl<'a, L: LabelSet> Successors for Composing<'a, L> {
     ghost is_pair = { λ composing pair. (composing.first.now.letters ≡ composing.second.now.letters)
-        × (pair.left < machine_states composing.first.now) × (pair.right < machine_states composing.second.now) };
+        × (pair.left < machine_states composing.first.now)
+        × (pair.right < machine_states composing.second.now) };
 
     ghost next = { λ composing pair. next_pairs composing.first.now composing.second.now pair };
 
@@ -113,8 +117,10 @@ fn product_finals<L: LabelSet>(
     second: &Transducer<L>,
     pairs: &[Pair],
 ) -> Result<Vec<bool>, AllocError>
-    requires { All (λ x. (x.left < machine_states first.now) × (x.right < machine_states second.now)) pairs.now }
-    ensures { IfOk result (λ finals. finals.items ≡ map (final_both first.now second.now) pairs.now) }
+    requires { All (λ x. (x.left < machine_states first.now)
+        × (x.right < machine_states second.now)) pairs.now }
+    ensures { IfOk result (λ finals. finals.items
+        ≡ map (final_both first.now second.now) pairs.now) }
 {
     let mut finals = Vec::with_capacity(alloc, pairs.len())?;
     for pair in pairs {
@@ -131,10 +137,13 @@ fn product_moves<L: LabelSet>(
     explored: &Explored,
 ) -> Result<Vec<Vec<Move<L>>>, AllocError>
     requires letters { first.now.letters ≡ second.now.letters }
-    requires pairs { All (λ x. (x.left < machine_states first.now) × (x.right < machine_states second.now)) explored.now.pairs }
+    requires pairs { All (λ x. (x.left < machine_states first.now)
+        × (x.right < machine_states second.now)) explored.now.pairs }
     requires one_list_each { length explored.now.targets ≡ length explored.now.pairs }
     requires targets { NumbersNext (next_pairs first.now second.now) explored.now }
-    ensures { IfOk result (λ moves. moves_in L.letters moves.items ≡ map (product_moves_at first.now second.now explored.now) (range_with_len 0 (length explored.now.pairs))) }
+    ensures { IfOk result (λ moves. moves_in L.letters moves.items
+        ≡ map (product_moves_at first.now second.now explored.now)
+        (range_with_len 0 (length explored.now.pairs))) }
 {
     let pairs = explored.pairs();
     let mut moves = Vec::with_capacity(alloc, pairs.len())?;
@@ -168,13 +177,18 @@ impl<L: LabelSet> Transducer<L> {
         requires limit { 1 ≤ limit }
         ensures letters { IfOk result (λ t. t.letters ≡ self.now.letters) }
         ensures few { IfOk result (λ t. machine_states t ≤ limit) }
-        ensures pairs { IfOk result (λ t. (pairs : List Pair) × IsComposition self.now other.now pairs t) }
+        ensures pairs { IfOk result (λ t. (pairs : List Pair)
+            × IsComposition self.now other.now pairs t) }
         ensures relation { IfOk result (λ t. (read : ℕ → ℕ) → Covers read self.now.letters
-            → (u w : List ℕ) → Relates read t u w ↔ ((middle : List ℕ) × Relates read self.now u middle × Relates read other.now middle w)) }
+            → (u w : List ℕ) → Relates read t u w ↔
+            ((middle : List ℕ) × Relates read self.now u middle
+            × Relates read other.now middle w)) }
 
         // The limit, exactly.
-        ensures within { IfOk result (λ _. ¬ MoreThan limit (AreReachedThrough self.now other.now)) }
-        ensures limit { IfErr result (λ e. e ≡ BuildError.Limit → MoreThan limit (AreReachedThrough self.now other.now)) }
+        ensures within { IfOk result (λ _.
+            ¬ MoreThan limit (AreReachedThrough self.now other.now)) }
+        ensures limit { IfErr result (λ e. e ≡ BuildError.Limit →
+            MoreThan limit (AreReachedThrough self.now other.now)) }
         ensures greatest { limit ≡ usize.MAX → IfErr result (λ e. e ≢ BuildError.Limit) }
     {
         let composing = Composing {

@@ -17,7 +17,8 @@ fn shifted_moves<L: LabelSet>(
     by: usize,
 ) -> Result<Vec<Move<L>>, AllocError>
     requires { All (λ edge. by + edge.to < 2 ^ 64) moves.now }
-    ensures { IfOk result (λ copies. map (move_of L.letters) copies.items ≡ map (shifted by) (map (move_of L.letters) moves.now)) }
+    ensures { IfOk result (λ copies. map (move_of L.letters) copies.items
+        ≡ map (shifted by) (map (move_of L.letters) moves.now)) }
 {
     let mut copies = Vec::with_capacity(alloc, moves.len())?;
     for edge in moves {
@@ -55,7 +56,8 @@ impl<L: LabelSet> Transducer<L> {
     ) -> Result<Vec<Move<L>>, AllocError>
         requires state { q < machine_states self.now }
         requires room { by + machine_states self.now ≤ 2 ^ 64 }
-        ensures { IfOk result (λ moves. map (move_of L.letters) moves.items ≡ leaving self.now by exit q) }
+        ensures { IfOk result (λ moves. map (move_of L.letters) moves.items
+            ≡ leaving self.now by exit q) }
     {
         let mut moves = shifted_moves(alloc, self.moves(q), by)?;
         if self.is_final(q) {
@@ -79,7 +81,8 @@ impl<L: LabelSet> Transducer<L> {
         exit: Option<usize>,
     ) -> Result<(), AllocError>
         requires { by + machine_states self.now ≤ 2 ^ 64 }
-        ensures { OnOk result (moves_in L.letters moves.new.items ≡ moves_in L.letters moves.old.items ++ copied self.now by exit) }
+        ensures { OnOk result (moves_in L.letters moves.new.items
+            ≡ moves_in L.letters moves.old.items ++ copied self.now by exit) }
     {
         for q in 0..self.states() {
             moves.push(self.leaving(alloc, q, by, exit)?)?;

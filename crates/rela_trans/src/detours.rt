@@ -25,7 +25,8 @@ fn only_silent<L: LabelSet>(moves: &[Move<L>]) -> Option<usize>
 fn next<L: LabelSet>(transducer: &Transducer<L>, q: usize) -> usize
     requires { q < machine_states transducer.now }
     ensures state { result < machine_states transducer.now }
-    ensures next { IsDetour transducer.now q result ⊎ ((result ≡ q) × ((r : ℕ) → ¬ IsDetour transducer.now q r)) }
+    ensures next { IsDetour transducer.now q result
+        ⊎ ((result ≡ q) × ((r : ℕ) → ¬ IsDetour transducer.now q r)) }
 {
     if transducer.is_final(q) {
         return q;
@@ -44,7 +45,8 @@ fn walk<L: LabelSet>(
     requires state { q < machine_states transducer.now }
     requires count { length flags.old ≡ machine_states transducer.now }
     requires empty { path.old.items ≡ [] }
-    ensures walked { IfOk result (λ end. IsWalked transducer.now flags.old flags.new path.new.items end) }
+    ensures walked { IfOk result (λ end. IsWalked transducer.now flags.old flags.new
+        path.new.items end) }
     ensures passed { IfOk result (λ _. IsPassed flags.new q) }
 {
     let mut end = q;
@@ -60,7 +62,8 @@ fn walk<L: LabelSet>(
 fn settle(ends: &mut [usize], path: &[usize], end: usize)
     requires { All (λ p. p < length ends.old) path.now }
     ensures settled { (p : ℕ) → Contains path.now p → slice_index ends.new p ≡ end }
-    ensures kept { (p : ℕ) → Contains path.now p ⊎ (slice_index ends.new p ≡ slice_index ends.old p) }
+    ensures kept { (p : ℕ) → Contains path.now p
+        ⊎ (slice_index ends.new p ≡ slice_index ends.old p) }
 {
     for p in path {
         ends[*p] = end;
@@ -86,8 +89,10 @@ pub(crate) fn detour_ends<L: LabelSet>(
     transducer: &Transducer<L>,
 ) -> Result<Vec<usize>, AllocError>
     ensures count { IfOk result (λ ends. length ends.items ≡ machine_states transducer.now) }
-    ensures led { IfOk result (λ ends. (q : ℕ) → q < machine_states transducer.now → Detours transducer.now q (slice_index ends.items q)) }
-    ensures ended { IfOk result (λ ends. (q : ℕ) → q < machine_states transducer.now → IsEnd transducer.now (slice_index ends.items q)) }
+    ensures led { IfOk result (λ ends. (q : ℕ) → q < machine_states transducer.now →
+        Detours transducer.now q (slice_index ends.items q)) }
+    ensures ended { IfOk result (λ ends. (q : ℕ) → q < machine_states transducer.now →
+        IsEnd transducer.now (slice_index ends.items q)) }
 {
     let mut ends = numbers(alloc, transducer.states())?;
     let mut flags = vec![in alloc; false; transducer.states()]?;

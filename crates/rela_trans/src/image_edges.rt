@@ -38,7 +38,9 @@ fn add_written<L: LabelSet>(
     kind: Option<MoveKind<L>>,
     targets: &[usize],
 ) -> Result<(), AllocError>
-    ensures { OnOk result (map (edge_of L.letters) edges.new.items ≡ extended (map (edge_of L.letters) edges.old.items) (written_labels (option_map (kind_of L.letters) kind)) targets.now) }
+    ensures { OnOk result (map (edge_of L.letters) edges.new.items
+        ≡ extended (map (edge_of L.letters) edges.old.items)
+        (written_labels (option_map (kind_of L.letters) kind)) targets.now) }
 {
     if let Some(kind) = kind {
         add_directed(edges, written_label(kind), targets)?;
@@ -53,7 +55,9 @@ fn add_alone<L: LabelSet>(
     moves: &[Move<L>],
     targets: &[usize],
 ) -> Result<(), AllocError>
-    ensures { OnOk result (map (edge_of L.letters) edges.new.items ≡ extended (map (edge_of L.letters) edges.old.items) (alone_labels (map (move_of L.letters) moves.now)) targets.now) }
+    ensures { OnOk result (map (edge_of L.letters) edges.new.items
+        ≡ extended (map (edge_of L.letters) edges.old.items)
+        (alone_labels (map (move_of L.letters) moves.now)) targets.now) }
 {
     for second in moves {
         let alone = second_alone(alloc, &second.kind)?;
@@ -71,9 +75,12 @@ fn add_if_read<L: LabelSet>(
     second: &Move<L>,
     targets: &[usize],
 ) -> Result<(), AllocError>
-    requires { ForSome source.now.label (λ read. IsSized (length (L.letters read)) (kind_of L.letters second.now.kind)) }
-    ensures { OnOk result (map (edge_of L.letters) edges.new.items ≡ extended (map (edge_of L.letters) edges.old.items)
-        (written_labels (read_by (edge_of L.letters source.now).label (kind_of L.letters second.now.kind))) targets.now) }
+    requires { ForSome source.now.label (λ read.
+        IsSized (length (L.letters read)) (kind_of L.letters second.now.kind)) }
+    ensures { OnOk result (map (edge_of L.letters) edges.new.items
+        ≡ extended (map (edge_of L.letters) edges.old.items)
+        (written_labels (read_by (edge_of L.letters source.now).label
+        (kind_of L.letters second.now.kind))) targets.now) }
 {
     if let Some(read) = &source.label {
         let both = after_same(alloc, read, &second.kind)?;
@@ -91,9 +98,13 @@ fn add_read<L: LabelSet>(
     moves: &[Move<L>],
     targets: &[usize],
 ) -> Result<(), AllocError>
-    requires { ForSome source.now.label (λ read. All (λ second. IsSized (length (L.letters read)) (kind_of L.letters second.kind)) moves.now) }
-    ensures { OnOk result (map (edge_of L.letters) edges.new.items ≡ extended (map (edge_of L.letters) edges.old.items)
-        (read_labels (edge_of L.letters source.now).label (map (move_of L.letters) moves.now)) targets.now) }
+    requires { ForSome source.now.label (λ read.
+        All (λ second. IsSized (length (L.letters read)) (kind_of L.letters second.kind))
+        moves.now) }
+    ensures { OnOk result (map (edge_of L.letters) edges.new.items
+        ≡ extended (map (edge_of L.letters) edges.old.items)
+        (read_labels (edge_of L.letters source.now).label (map (move_of L.letters) moves.now))
+        targets.now) }
 {
     for second in moves {
         add_if_read(alloc, edges, source, second, targets)?;
@@ -115,7 +126,9 @@ fn add_edges_from<L: LabelSet>(
     requires letters { source.now.letters ≡ transducer.now.letters }
     requires left { pair.left < states source.now }
     requires right { pair.right < machine_states transducer.now }
-    ensures { OnOk result (map (edge_of L.letters) edges.new.items ≡ written_edges (numbered (joint_moves (source_of source.now) transducer.now pair) targets.now)) }
+    ensures { OnOk result (map (edge_of L.letters) edges.new.items
+        ≡ written_edges (numbered (joint_moves (source_of source.now) transducer.now
+        pair) targets.now)) }
 {
     let sources = source.edges(pair.left);
     let moves = transducer.moves(pair.right);
@@ -135,10 +148,12 @@ pub(crate) fn image_edges<L: LabelSet>(
     explored: &Explored,
 ) -> Result<EdgeLists<L>, AllocError>
     requires letters { source.now.letters ≡ transducer.now.letters }
-    requires pairs { All (λ x. (x.left < states source.now) × (x.right < machine_states transducer.now)) explored.now.pairs }
+    requires pairs { All (λ x. (x.left < states source.now)
+        × (x.right < machine_states transducer.now)) explored.now.pairs }
     requires one_list_each { length explored.now.targets ≡ length explored.now.pairs }
     ensures { IfOk result (λ edges. edges
-        ≡ map written_edges (map (product_moves_at (source_of source.now) transducer.now explored.now) (range_with_len 0 (length explored.now.pairs)))) }
+        ≡ map written_edges (map (product_moves_at (source_of source.now) transducer.now
+        explored.now) (range_with_len 0 (length explored.now.pairs)))) }
 {
     let pairs = explored.pairs();
     let mut edges = EdgeLists::with_capacity(alloc, pairs.len())?;
@@ -174,8 +189,10 @@ pub(crate) fn image_finals<L: LabelSet>(
     transducer: &Transducer<L>,
     pairs: &[Pair],
 ) -> Result<Vec<bool>, AllocError>
-    requires { All (λ x. (x.left < states source.now) × (x.right < machine_states transducer.now)) pairs.now }
-    ensures { IfOk result (λ finals. finals.items ≡ map (final_image source.now transducer.now) pairs.now) }
+    requires { All (λ x. (x.left < states source.now)
+        × (x.right < machine_states transducer.now)) pairs.now }
+    ensures { IfOk result (λ finals. finals.items
+        ≡ map (final_image source.now transducer.now) pairs.now) }
 {
     let mut finals = Vec::with_capacity(alloc, pairs.len())?;
     for pair in pairs {

@@ -30,9 +30,11 @@ pub(crate) struct ReadingSources<'a, L: LabelSet> {
 
 impl<'a, L: LabelSet> Successors for ReadingSources<'a, L> {
     ghost is_pair = { λ reading pair. (reading.source.now.letters ≡ reading.transducer.now.letters)
-        × (pair.left < states reading.source.now) × (pair.right < machine_states reading.transducer.now) };
+        × (pair.left < states reading.source.now)
+        × (pair.right < machine_states reading.transducer.now) };
 
-    ghost next = { λ reading pair. next_pairs (source_of reading.source.now) reading.transducer.now pair };
+    ghost next = { λ reading pair. next_pairs (source_of reading.source.now)
+        reading.transducer.now pair };
 
     fn shape(&self) -> Shape {
         Shape {
@@ -64,8 +66,11 @@ fn add_followers<L: LabelSet>(
     requires letters { source.now.letters ≡ transducer.now.letters }
     requires left { pair.left < states source.now }
     requires right { pair.right < machine_states transducer.now }
-    ensures next { OnOk result (followers.new.items ≡ followers.old.items ++ next_pairs (source_of source.now) transducer.now pair) }
-    ensures lead { OnOk result (All (λ x. (x.left < states source.now) × (x.right < machine_states transducer.now)) (next_pairs (source_of source.now) transducer.now pair)) }
+    ensures next { OnOk result (followers.new.items ≡ followers.old.items
+        ++ next_pairs (source_of source.now) transducer.now pair) }
+    ensures lead { OnOk result (All (λ x. (x.left < states source.now)
+        × (x.right < machine_states transducer.now)) (next_pairs (source_of source.now)
+        transducer.now pair)) }
 {
     let edges = source.edges(pair.left);
     let moves = transducer.moves(pair.right);
@@ -83,7 +88,8 @@ fn add_if_silent<L: LabelSet>(
     edge: &Edge<L>,
     to: Pair,
 ) -> Result<(), AllocError>
-    ensures { OnOk result (followers.new.items ≡ followers.old.items ++ map (λ j. j.to) (made (source_alone (edge_of L.letters edge.now).label) to)) }
+    ensures { OnOk result (followers.new.items ≡ followers.old.items
+        ++ map (λ j. j.to) (made (source_alone (edge_of L.letters edge.now).label) to)) }
 {
     if edge.label.is_none() {
         followers.push(to)?;
@@ -97,7 +103,8 @@ fn add_silent<L: LabelSet>(
     edges: &[Edge<L>],
     right: usize,
 ) -> Result<(), AllocError>
-    ensures { OnOk result (followers.new.items ≡ followers.old.items ++ map (λ j. j.to) (source_moves right (map (edge_of L.letters) edges.now))) }
+    ensures { OnOk result (followers.new.items ≡ followers.old.items
+        ++ map (λ j. j.to) (source_moves right (map (edge_of L.letters) edges.now))) }
 {
     for edge in edges {
         let to = Pair {
@@ -115,7 +122,8 @@ fn add_made<L: LabelSet>(
     kind: &Option<MoveKind<L>>,
     to: Pair,
 ) -> Result<(), AllocError>
-    ensures { OnOk result (followers.new.items ≡ followers.old.items ++ map (λ j. j.to) (made (option_map (kind_of L.letters) kind.now) to)) }
+    ensures { OnOk result (followers.new.items ≡ followers.old.items
+        ++ map (λ j. j.to) (made (option_map (kind_of L.letters) kind.now) to)) }
 {
     if kind.is_some() {
         followers.push(to)?;
@@ -130,7 +138,8 @@ fn add_alone<L: LabelSet>(
     moves: &[Move<L>],
     left: usize,
 ) -> Result<(), AllocError>
-    ensures { OnOk result (followers.new.items ≡ followers.old.items ++ map (λ j. j.to) (second_moves left (map (move_of L.letters) moves.now))) }
+    ensures { OnOk result (followers.new.items ≡ followers.old.items
+        ++ map (λ j. j.to) (second_moves left (map (move_of L.letters) moves.now))) }
 {
     for second in moves {
         let alone = second_alone(alloc, &second.kind)?;
@@ -150,9 +159,11 @@ fn add_if_read<L: LabelSet>(
     edge: &Edge<L>,
     second: &Move<L>,
 ) -> Result<(), AllocError>
-    requires { ForSome edge.now.label (λ read. IsSized (length (L.letters read)) (kind_of L.letters second.now.kind)) }
+    requires { ForSome edge.now.label (λ read.
+        IsSized (length (L.letters read)) (kind_of L.letters second.now.kind)) }
     ensures { OnOk result (followers.new.items ≡ followers.old.items
-        ++ map (λ j. j.to) (made (read_by (edge_of L.letters edge.now).label (kind_of L.letters second.now.kind)) (pair_of edge.now.to second.now.to))) }
+        ++ map (λ j. j.to) (made (read_by (edge_of L.letters edge.now).label
+        (kind_of L.letters second.now.kind)) (pair_of edge.now.to second.now.to))) }
 {
     if let Some(read) = &edge.label {
         let both = after_same(alloc, read, &second.kind)?;
@@ -172,8 +183,12 @@ fn add_read<L: LabelSet>(
     edge: &Edge<L>,
     moves: &[Move<L>],
 ) -> Result<(), AllocError>
-    requires { ForSome edge.now.label (λ read. All (λ second. IsSized (length (L.letters read)) (kind_of L.letters second.kind)) moves.now) }
-    ensures { OnOk result (followers.new.items ≡ followers.old.items ++ map (λ j. j.to) (read_moves (edge_of L.letters edge.now) (map (move_of L.letters) moves.now))) }
+    requires { ForSome edge.now.label (λ read.
+        All (λ second. IsSized (length (L.letters read)) (kind_of L.letters second.kind))
+        moves.now) }
+    ensures { OnOk result (followers.new.items ≡ followers.old.items
+        ++ map (λ j. j.to) (read_moves (edge_of L.letters edge.now)
+        (map (move_of L.letters) moves.now))) }
 {
     for second in moves {
         add_if_read(alloc, followers, edge, second)?;

@@ -38,13 +38,17 @@ pub fn image<L: LabelSet>(
     requires limit { 1 ≤ limit }
     ensures letters { IfOk result (λ nfa. nfa.letters ≡ a.now.letters) }
     ensures few { IfOk result (λ nfa. states nfa ≤ limit) }
-    ensures pairs { IfOk result (λ nfa. (pairs : List Pair) × IsImage a.now transducer.now pairs nfa) }
+    ensures pairs { IfOk result (λ nfa. (pairs : List Pair)
+        × IsImage a.now transducer.now pairs nfa) }
     ensures language { IfOk result (λ nfa. (read : ℕ → ℕ) → Covers read a.now.letters
-        → (v : List ℕ) → Accepts nfa (map read v) ↔ ((source : List ℕ) × Accepts a.now (map read source) × Relates read transducer.now source v)) }
+        → (v : List ℕ) → Accepts nfa (map read v) ↔
+        ((source : List ℕ) × Accepts a.now (map read source)
+        × Relates read transducer.now source v)) }
 
     // The limit, exactly.
     ensures within { IfOk result (λ _. ¬ MoreThan limit (AreReachedFrom a.now transducer.now)) }
-    ensures limit { IfErr result (λ e. e ≡ BuildError.Limit → MoreThan limit (AreReachedFrom a.now transducer.now)) }
+    ensures limit { IfErr result (λ e. e ≡ BuildError.Limit →
+        MoreThan limit (AreReachedFrom a.now transducer.now)) }
     ensures greatest { limit ≡ usize.MAX → IfErr result (λ e. e ≢ BuildError.Limit) }
 {
     let reading = ReadingSources {

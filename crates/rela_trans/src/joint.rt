@@ -35,7 +35,8 @@ fn common_letters<L: LabelSet>(
     second: &L,
 ) -> Result<Option<L>, AllocError>
     requires { length (L.letters first.now) ≡ length (L.letters second.now) }
-    ensures { IfOk result (λ set. option_map L.letters set ≡ unless_empty (common (L.letters first.now) (L.letters second.now))) }
+    ensures { IfOk result (λ set. option_map L.letters set
+        ≡ unless_empty (common (L.letters first.now) (L.letters second.now))) }
 {
     Ok(unless_empty(first.meet(alloc, second)?))
 }
@@ -46,7 +47,8 @@ fn first_alone<L: LabelSet>(
     alloc: Global,
     kind: &MoveKind<L>,
 ) -> Result<Option<MoveKind<L>>, AllocError>
-    ensures { IfOk result (λ alone. option_map (kind_of L.letters) alone ≡ first_alone (kind_of L.letters kind.now)) }
+    ensures { IfOk result (λ alone. option_map (kind_of L.letters) alone
+        ≡ first_alone (kind_of L.letters kind.now)) }
 {
     match kind {
         MoveKind::Silent => Ok(Some(MoveKind::Silent)),
@@ -62,7 +64,8 @@ pub(crate) fn second_alone<L: LabelSet>(
     alloc: Global,
     kind: &MoveKind<L>,
 ) -> Result<Option<MoveKind<L>>, AllocError>
-    ensures { IfOk result (λ alone. option_map (kind_of L.letters) alone ≡ second_alone (kind_of L.letters kind.now)) }
+    ensures { IfOk result (λ alone. option_map (kind_of L.letters) alone
+        ≡ second_alone (kind_of L.letters kind.now)) }
 {
     match kind {
         MoveKind::Silent => Ok(Some(MoveKind::Silent)),
@@ -80,7 +83,8 @@ fn after_out<L: LabelSet>(
     second: &MoveKind<L>,
 ) -> Result<Option<MoveKind<L>>, AllocError>
     requires { IsSized (length (L.letters written.now)) (kind_of L.letters second.now) }
-    ensures { IfOk result (λ both. option_map (kind_of L.letters) both ≡ after_out (L.letters written.now) (kind_of L.letters second.now)) }
+    ensures { IfOk result (λ both. option_map (kind_of L.letters) both
+        ≡ after_out (L.letters written.now) (kind_of L.letters second.now)) }
 {
     match second {
         MoveKind::Silent => Ok(None),
@@ -98,7 +102,8 @@ pub(crate) fn after_same<L: LabelSet>(
     second: &MoveKind<L>,
 ) -> Result<Option<MoveKind<L>>, AllocError>
     requires { IsSized (length (L.letters written.now)) (kind_of L.letters second.now) }
-    ensures { IfOk result (λ both. option_map (kind_of L.letters) both ≡ after_same (L.letters written.now) (kind_of L.letters second.now)) }
+    ensures { IfOk result (λ both. option_map (kind_of L.letters) both
+        ≡ after_same (L.letters written.now) (kind_of L.letters second.now)) }
 {
     match second {
         MoveKind::Silent => Ok(None),
@@ -115,8 +120,10 @@ fn both_by_letter<L: LabelSet>(
     first: &MoveKind<L>,
     second: &MoveKind<L>,
 ) -> Result<Option<MoveKind<L>>, AllocError>
-    requires { (letters : ℕ) × IsSized letters (kind_of L.letters first.now) × IsSized letters (kind_of L.letters second.now) }
-    ensures { IfOk result (λ both. option_map (kind_of L.letters) both ≡ both_by_letter (kind_of L.letters first.now) (kind_of L.letters second.now)) }
+    requires { (letters : ℕ) × IsSized letters (kind_of L.letters first.now)
+        × IsSized letters (kind_of L.letters second.now) }
+    ensures { IfOk result (λ both. option_map (kind_of L.letters) both
+        ≡ both_by_letter (kind_of L.letters first.now) (kind_of L.letters second.now)) }
 {
     match first {
         MoveKind::Silent => Ok(None),
@@ -132,7 +139,9 @@ fn add_made<L: LabelSet>(
     kind: Option<MoveKind<L>>,
     to: Pair,
 ) -> Result<(), AllocError>
-    ensures { OnOk result (map (joint_of L.letters) joint.new.items ≡ map (joint_of L.letters) joint.old.items ++ made (option_map (kind_of L.letters) kind) to) }
+    ensures { OnOk result (map (joint_of L.letters) joint.new.items
+        ≡ map (joint_of L.letters) joint.old.items
+        ++ made (option_map (kind_of L.letters) kind) to) }
 {
     if let Some(kind) = kind {
         joint.push(JointMove { kind, to })?;
@@ -147,7 +156,9 @@ pub(crate) fn add_first<L: LabelSet>(
     moves: &[Move<L>],
     right: usize,
 ) -> Result<(), AllocError>
-    ensures { OnOk result (map (joint_of L.letters) joint.new.items ≡ map (joint_of L.letters) joint.old.items ++ first_moves right (map (move_of L.letters) moves.now)) }
+    ensures { OnOk result (map (joint_of L.letters) joint.new.items
+        ≡ map (joint_of L.letters) joint.old.items
+        ++ first_moves right (map (move_of L.letters) moves.now)) }
 {
     for first in moves {
         let alone = first_alone(alloc, &first.kind)?;
@@ -167,7 +178,9 @@ pub(crate) fn add_second<L: LabelSet>(
     moves: &[Move<L>],
     left: usize,
 ) -> Result<(), AllocError>
-    ensures { OnOk result (map (joint_of L.letters) joint.new.items ≡ map (joint_of L.letters) joint.old.items ++ second_moves left (map (move_of L.letters) moves.now)) }
+    ensures { OnOk result (map (joint_of L.letters) joint.new.items
+        ≡ map (joint_of L.letters) joint.old.items
+        ++ second_moves left (map (move_of L.letters) moves.now)) }
 {
     for second in moves {
         let alone = second_alone(alloc, &second.kind)?;
@@ -187,8 +200,11 @@ pub(crate) fn add_with<L: LabelSet>(
     first: &Move<L>,
     others: &[Move<L>],
 ) -> Result<(), AllocError>
-    requires { (letters : ℕ) × IsSized letters (kind_of L.letters first.now.kind) × All (λ second. IsSized letters (kind_of L.letters second.kind)) others.now }
-    ensures { OnOk result (map (joint_of L.letters) joint.new.items ≡ map (joint_of L.letters) joint.old.items ++ moves_with (move_of L.letters first.now) (map (move_of L.letters) others.now)) }
+    requires { (letters : ℕ) × IsSized letters (kind_of L.letters first.now.kind)
+        × All (λ second. IsSized letters (kind_of L.letters second.kind)) others.now }
+    ensures { OnOk result (map (joint_of L.letters) joint.new.items
+        ≡ map (joint_of L.letters) joint.old.items ++ moves_with (move_of L.letters first.now)
+        (map (move_of L.letters) others.now)) }
 {
     for second in others {
         let both = both_by_letter(alloc, &first.kind, &second.kind)?;

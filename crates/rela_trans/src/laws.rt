@@ -18,8 +18,12 @@ pub fn symbols_give_letters()
 /// some word of symbols with the letters read, as long as each letter has a symbol. So words that are
 /// written with the same letters are written for the same words of letters.
 pub fn letters_give_symbols()
-    ensures reached { (read : ℕ → ℕ) (t : Machine) → IsMachine t → Covers read t.letters → (q : ℕ) (letters v : List ℕ)
-        → ReachR (λ k. k) t q letters (map read v) → ((u : List ℕ) × (map read u ≡ letters) × ReachR read t q u v) }
-    ensures relation { (read : ℕ → ℕ) (t : Machine) → IsMachine t → Covers read t.letters → (letters v : List ℕ)
-        → Relates (λ k. k) t letters (map read v) → ((u : List ℕ) × (map read u ≡ letters) × Relates read t u v) }
+    ensures reached { (read : ℕ → ℕ) (t : Machine) → IsMachine t → Covers read t.letters →
+        (q : ℕ) (letters v : List ℕ)
+        → ReachR (λ k. k) t q letters (map read v) → ((u : List ℕ) × (map read u ≡ letters)
+        × ReachR read t q u v) }
+    ensures relation { (read : ℕ → ℕ) (t : Machine) → IsMachine t → Covers read t.letters →
+        (letters v : List ℕ)
+        → Relates (λ k. k) t letters (map read v) → ((u : List ℕ) × (map read u ≡ letters)
+        × Relates read t u v) }
 {}

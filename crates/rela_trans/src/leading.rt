@@ -33,7 +33,8 @@ fn put_at_ends<L: LabelSet>(
     requires { All (λ edge. edge.to < length lists.old.items) moves.now }
     ensures each { IfOk result (λ _. length lists.new.items ≡ length lists.old.items) }
     ensures put { IfOk result (λ _. (q r : ℕ) → Contains (list_at (lists_of lists.new.items) q) r
-        ↔ (Contains (list_at (lists_of lists.old.items) q) r ⊎ ((r ≡ p) × Contains (ends_of (map (move_of L.letters) moves.now)) q))) }
+        ↔ (Contains (list_at (lists_of lists.old.items) q) r
+        ⊎ ((r ≡ p) × Contains (ends_of (map (move_of L.letters) moves.now)) q))) }
 {
     for edge in moves {
         lists[edge.to].push(p)?;
@@ -47,7 +48,8 @@ fn predecessors<L: LabelSet>(
     transducer: &Transducer<L>,
 ) -> Result<Vec<Vec<usize>>, AllocError>
     ensures each { IfOk result (λ lists. length lists.items ≡ machine_states transducer.now) }
-    ensures turned { IfOk result (λ lists. (p q : ℕ) → Contains (list_at (lists_of lists.items) q) p ↔ Contains (next_states transducer.now p) q) }
+    ensures turned { IfOk result (λ lists. (p q : ℕ) →
+        Contains (list_at (lists_of lists.items) q) p ↔ Contains (next_states transducer.now p) q) }
 {
     let mut lists = empty_lists(alloc, transducer.states())?;
     for p in 0..transducer.states() {
@@ -92,7 +94,8 @@ fn insert_finals<L: LabelSet>(
     requires flagged { AreFlagged flags.old states.old.items }
     requires count { length flags.old ≡ machine_states transducer.now }
     ensures flagged { IfOk result (λ _. AreFlagged flags.new states.new.items) }
-    ensures added { IfOk result (λ _. Adds (IsFinal transducer.now) states.old.items states.new.items) }
+    ensures added { IfOk result (λ _. Adds (IsFinal transducer.now) states.old.items
+        states.new.items) }
 {
     for q in 0..transducer.states() {
         if transducer.is_final(q) {
@@ -131,7 +134,8 @@ pub(crate) fn leading_on<L: LabelSet>(
     transducer: &Transducer<L>,
 ) -> Result<Vec<bool>, AllocError>
     ensures len { IfOk result (λ flags. length flags.items ≡ machine_states transducer.now) }
-    ensures leading { IfOk result (λ flags. (q : ℕ) → IsTrue (slice_index_or flags.items q false) ↔ LeadsOn transducer.now q) }
+    ensures leading { IfOk result (λ flags. (q : ℕ) → IsTrue (slice_index_or flags.items q false) ↔
+        LeadsOn transducer.now q) }
 {
     let lists = predecessors(alloc, transducer)?;
     let mut flags = vec![in alloc; false; transducer.states()]?;

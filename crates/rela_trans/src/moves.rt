@@ -43,7 +43,8 @@ impl<L: LabelSet> MoveKind<L> {
 
     /// The kind that writes what this one reads, and reads what it writes.
     fn turned(&self, alloc: Global) -> Result<MoveKind<L>, AllocError>
-        ensures { IfOk result (λ kind. kind_of L.letters kind ≡ turned (kind_of L.letters self.now)) }
+        ensures { IfOk result (λ kind. kind_of L.letters kind
+            ≡ turned (kind_of L.letters self.now)) }
     {
         match self {
             MoveKind::Silent => Ok(MoveKind::Silent),
@@ -58,7 +59,8 @@ impl<L: LabelSet> Move<L> {
     /// A copy of the move that leads to a state `by` later.
     pub(crate) fn shifted(&self, alloc: Global, by: usize) -> Result<Move<L>, AllocError>
         requires { by + self.now.to < 2 ^ 64 }
-        ensures { IfOk result (λ edge. move_of L.letters edge ≡ shifted by (move_of L.letters self.now)) }
+        ensures { IfOk result (λ edge. move_of L.letters edge
+            ≡ shifted by (move_of L.letters self.now)) }
     {
         Ok(Move {
             kind: self.kind.copy(alloc)?,
@@ -68,7 +70,8 @@ impl<L: LabelSet> Move<L> {
 
     /// The move that writes what this one reads, and reads what it writes.
     pub(crate) fn turned(&self, alloc: Global) -> Result<Move<L>, AllocError>
-        ensures { IfOk result (λ edge. move_of L.letters edge ≡ turned_move (move_of L.letters self.now)) }
+        ensures { IfOk result (λ edge. move_of L.letters edge
+            ≡ turned_move (move_of L.letters self.now)) }
     {
         Ok(Move {
             kind: self.kind.turned(alloc)?,

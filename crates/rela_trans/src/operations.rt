@@ -16,9 +16,12 @@ impl<L: LabelSet> Transducer<L> {
     pub fn union(&self, alloc: Global, other: &Transducer<L>) -> Result<Transducer<L>, AllocError>
         requires letters { self.now.letters ≡ other.now.letters }
         ensures letters { IfOk result (λ t. t.letters ≡ self.now.letters) }
-        ensures states { IfOk result (λ t. machine_states t ≡ 1 + machine_states self.now + machine_states other.now) }
-        ensures start { IfOk result (λ t. (read : ℕ → ℕ) (u v : List ℕ) → ReachR read t 0 u v ↔ ((u ≡ []) × (v ≡ []))) }
-        ensures first { IfOk result (λ t. (read : ℕ → ℕ) (q : ℕ) (u v : List ℕ) → q < machine_states self.now
+        ensures states { IfOk result (λ t. machine_states t ≡ 1 + machine_states self.now
+            + machine_states other.now) }
+        ensures start { IfOk result (λ t. (read : ℕ → ℕ) (u v : List ℕ) → ReachR read t 0 u v ↔
+            ((u ≡ []) × (v ≡ []))) }
+        ensures first { IfOk result (λ t. (read : ℕ → ℕ) (q : ℕ) (u v : List ℕ) →
+            q < machine_states self.now
             → ReachR read t (1 + q) u v ↔ ReachR read self.now q u v) }
         ensures second { IfOk result (λ t. (read : ℕ → ℕ) (q : ℕ) (u v : List ℕ)
             → ReachR read t (1 + machine_states self.now + q) u v ↔ ReachR read other.now q u v) }
@@ -48,11 +51,14 @@ impl<L: LabelSet> Transducer<L> {
     pub fn concat(&self, alloc: Global, other: &Transducer<L>) -> Result<Transducer<L>, AllocError>
         requires letters { self.now.letters ≡ other.now.letters }
         ensures letters { IfOk result (λ t. t.letters ≡ self.now.letters) }
-        ensures states { IfOk result (λ t. machine_states t ≡ machine_states self.now + machine_states other.now) }
-        ensures first { IfOk result (λ t. (read : ℕ → ℕ) (q : ℕ) (u v : List ℕ) → q < machine_states self.now
+        ensures states { IfOk result (λ t. machine_states t ≡ machine_states self.now
+            + machine_states other.now) }
+        ensures first { IfOk result (λ t. (read : ℕ → ℕ) (q : ℕ) (u v : List ℕ) →
+            q < machine_states self.now
             → ReachR read t q u v ↔ ReachR read self.now q u v) }
         ensures second { IfOk result (λ t. (read : ℕ → ℕ) (q : ℕ) (u v : List ℕ)
-            → ReachR read t (machine_states self.now + q) u v ↔ PairJoins (Relates read self.now) (ReachR read other.now q) u v) }
+            → ReachR read t (machine_states self.now + q) u v ↔
+            PairJoins (Relates read self.now) (ReachR read other.now q) u v) }
         ensures relation { IfOk result (λ t. (read : ℕ → ℕ) (u v : List ℕ)
             → Relates read t u v ↔ PairJoins (Relates read self.now) (Relates read other.now) u v) }
     {
@@ -76,9 +82,11 @@ impl<L: LabelSet> Transducer<L> {
     pub fn star(&self, alloc: Global) -> Result<Transducer<L>, AllocError>
         ensures letters { IfOk result (λ t. t.letters ≡ self.now.letters) }
         ensures states { IfOk result (λ t. machine_states t ≡ 1 + machine_states self.now) }
-        ensures start { IfOk result (λ t. (read : ℕ → ℕ) (u v : List ℕ) → ReachR read t 0 u v ↔ ((u ≡ []) × (v ≡ []))) }
+        ensures start { IfOk result (λ t. (read : ℕ → ℕ) (u v : List ℕ) → ReachR read t 0 u v ↔
+            ((u ≡ []) × (v ≡ []))) }
         ensures copies { IfOk result (λ t. (read : ℕ → ℕ) (q : ℕ) (u v : List ℕ)
-            → ReachR read t (1 + q) u v ↔ PairJoins (PairRepeats (Relates read self.now)) (ReachR read self.now q) u v) }
+            → ReachR read t (1 + q) u v ↔
+            PairJoins (PairRepeats (Relates read self.now)) (ReachR read self.now q) u v) }
         ensures relation { IfOk result (λ t. (read : ℕ → ℕ) (u v : List ℕ)
             → Relates read t u v ↔ PairRepeats (Relates read self.now) u v) }
     {

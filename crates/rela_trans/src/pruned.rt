@@ -21,14 +21,16 @@ fn is_set(flags: &[bool], q: usize) -> bool
 
 /// Keeps only the moves that lead to a state whose flag is set.
 fn keep<L: LabelSet>(moves: &mut Vec<Move<L>>, flags: &[bool])
-    ensures { map (move_of L.letters) moves.new.items ≡ kept_by flags.now (map (move_of L.letters) moves.old.items) }
+    ensures { map (move_of L.letters) moves.new.items
+        ≡ kept_by flags.now (map (move_of L.letters) moves.old.items) }
 {
     moves.retain(|edge| is_set(flags, edge.to));
 }
 
 /// Keeps only the moves of each state that lead to a state whose flag is set.
 fn keep_each<L: LabelSet>(lists: &mut [Vec<Move<L>>], flags: &[bool])
-    ensures { moves_in L.letters lists.new ≡ map (kept_by flags.now) (moves_in L.letters lists.old) }
+    ensures { moves_in L.letters lists.new
+        ≡ map (kept_by flags.now) (moves_in L.letters lists.old) }
 {
     for moves in lists.iter_mut() {
         keep(moves, flags);
@@ -44,9 +46,12 @@ impl<L: LabelSet> Transducer<L> {
     pub fn pruned(self, alloc: Global) -> Result<Transducer<L>, AllocError>
         ensures letters { IfOk result (λ t. t.letters ≡ self.letters) }
         ensures states { IfOk result (λ t. machine_states t ≡ machine_states self) }
-        ensures useful { IfOk result (λ t. (p q : ℕ) → Contains (next_states t p) q → LeadsOn self q) }
-        ensures reached { IfOk result (λ t. (read : ℕ → ℕ) (q : ℕ) (u v : List ℕ) → ReachR read t q u v → ReachR read self q u v) }
-        ensures relation { IfOk result (λ t. (read : ℕ → ℕ) (u v : List ℕ) → Relates read t u v ↔ Relates read self u v) }
+        ensures useful { IfOk result (λ t. (p q : ℕ) → Contains (next_states t p) q →
+            LeadsOn self q) }
+        ensures reached { IfOk result (λ t. (read : ℕ → ℕ) (q : ℕ) (u v : List ℕ) →
+            ReachR read t q u v → ReachR read self q u v) }
+        ensures relation { IfOk result (λ t. (read : ℕ → ℕ) (u v : List ℕ) → Relates read t u v ↔
+            Relates read self u v) }
     {
         let flags = leading_on(alloc, &self)?;
         let Transducer {

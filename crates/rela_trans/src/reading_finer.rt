@@ -31,9 +31,11 @@ pub(crate) struct ReadingFiner<'a, L: LabelSet, M: LabelSet> {
 
 impl<'a, L: LabelSet, M: LabelSet> Successors for ReadingFiner<'a, L, M> {
     ghost is_pair = { λ reading pair. (reading.sources.now.letters ≡ length reading.parents.now)
-        × (pair.left < states reading.sources.now) × (pair.right < machine_states reading.transducer.now) };
+        × (pair.left < states reading.sources.now)
+        × (pair.right < machine_states reading.transducer.now) };
 
-    ghost next = { λ reading pair. reading_pairs reading.parents.now reading.sources.now reading.transducer.now pair };
+    ghost next = { λ reading pair. reading_pairs reading.parents.now reading.sources.now
+        reading.transducer.now pair };
 
     fn shape(&self) -> Shape {
         Shape {
@@ -71,8 +73,11 @@ fn add_followers<L: LabelSet, M: LabelSet>(
     requires letters { sources.now.letters ≡ length parents.now }
     requires left { pair.left < states sources.now }
     requires right { pair.right < machine_states transducer.now }
-    ensures next { OnOk result (followers.new.items ≡ followers.old.items ++ reading_pairs parents.now sources.now transducer.now pair) }
-    ensures lead { OnOk result (All (λ x. (x.left < states sources.now) × (x.right < machine_states transducer.now)) (reading_pairs parents.now sources.now transducer.now pair)) }
+    ensures next { OnOk result (followers.new.items ≡ followers.old.items
+        ++ reading_pairs parents.now sources.now transducer.now pair) }
+    ensures lead { OnOk result (All (λ x. (x.left < states sources.now)
+        × (x.right < machine_states transducer.now)) (reading_pairs parents.now sources.now
+        transducer.now pair)) }
 {
     let edges = sources.edges(pair.left);
     let moves = transducer.moves(pair.right);
@@ -129,7 +134,8 @@ fn add_alone<L: LabelSet>(
     moves: &[Move<L>],
     left: usize,
 ) -> Result<(), AllocError>
-    ensures { OnOk result (followers.new.items ≡ followers.old.items ++ alone_pairs left (map (move_of L.letters) moves.now)) }
+    ensures { OnOk result (followers.new.items ≡ followers.old.items
+        ++ alone_pairs left (map (move_of L.letters) moves.now)) }
 {
     for step in moves {
         let to = Pair {
@@ -149,7 +155,8 @@ fn add_by_letter<L: LabelSet>(
     left: usize,
     moves: &[Move<L>],
 ) -> Result<(), AllocError>
-    ensures { OnOk result (followers.new.items ≡ followers.old.items ++ letter_pairs letter left (map (move_of L.letters) moves.now)) }
+    ensures { OnOk result (followers.new.items ≡ followers.old.items
+        ++ letter_pairs letter left (map (move_of L.letters) moves.now)) }
 {
     for step in moves {
         let to = Pair {
@@ -171,7 +178,8 @@ fn add_by_edge<L: LabelSet, M: LabelSet>(
     right: usize,
 ) -> Result<(), AllocError>
     requires { ForSome edge.now.label (λ set. length (M.letters set) ≡ length parents.now) }
-    ensures { OnOk result (followers.new.items ≡ followers.old.items ++ edge_pairs parents.now right (map (move_of L.letters) moves.now) (edge_of M.letters edge.now)) }
+    ensures { OnOk result (followers.new.items ≡ followers.old.items ++ edge_pairs parents.now right
+        (map (move_of L.letters) moves.now) (edge_of M.letters edge.now)) }
 {
     match &edge.label {
         Some(set) => {

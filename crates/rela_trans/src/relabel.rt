@@ -22,7 +22,8 @@ fn relabelled_kind<L: LabelSet, M: LabelSet>(
 ) -> Result<MoveKind<M>, AllocError>
     requires few { length parents.now < 2 ^ 32 }
     requires fits { M.fits (length parents.now) }
-    ensures { IfOk result (λ new. kind_of M.letters new ≡ relabelled_kind parents.now (kind_of L.letters kind.now)) }
+    ensures { IfOk result (λ new. kind_of M.letters new
+        ≡ relabelled_kind parents.now (kind_of L.letters kind.now)) }
 {
     match kind {
         MoveKind::Silent => Ok(MoveKind::Silent),
@@ -40,7 +41,8 @@ pub(crate) fn relabelled_moves<L: LabelSet, M: LabelSet>(
 ) -> Result<Vec<Move<M>>, AllocError>
     requires few { length parents.now < 2 ^ 32 }
     requires fits { M.fits (length parents.now) }
-    ensures { IfOk result (λ new. map (move_of M.letters) new.items ≡ map (relabelled_move parents.now) (map (move_of L.letters) moves.now)) }
+    ensures { IfOk result (λ new. map (move_of M.letters) new.items
+        ≡ map (relabelled_move parents.now) (map (move_of L.letters) moves.now)) }
 {
     let mut new = Vec::with_capacity(alloc, moves.len())?;
     for edge in moves {
@@ -58,7 +60,8 @@ fn relabelled_lists<L: LabelSet, M: LabelSet>(
 ) -> Result<Vec<Vec<Move<M>>>, AllocError>
     requires few { length parents.now < 2 ^ 32 }
     requires fits { M.fits (length parents.now) }
-    ensures { IfOk result (λ new. moves_in M.letters new.items ≡ map (map (relabelled_move parents.now)) (moves_in L.letters lists.now)) }
+    ensures { IfOk result (λ new. moves_in M.letters new.items
+        ≡ map (map (relabelled_move parents.now)) (moves_in L.letters lists.now)) }
 {
     let mut new = Vec::with_capacity(alloc, lists.len())?;
     for moves in lists {
@@ -84,9 +87,11 @@ impl<L: LabelSet> Transducer<L> {
         requires fits { M.fits (block_count to.now) }
         ensures letters { IfOk result (λ t. t.letters ≡ block_count to.now) }
         ensures states { IfOk result (λ t. machine_states t ≡ machine_states self.now) }
-        ensures reached { IfOk result (λ t. (q : ℕ) (u v : List ℕ) → All (λ s. s < length to.now) u → All (λ s. s < length to.now) v
+        ensures reached { IfOk result (λ t. (q : ℕ) (u v : List ℕ) →
+            All (λ s. s < length to.now) u → All (λ s. s < length to.now) v
             → ReachR (block_of to.now) t q u v ↔ ReachR (block_of from.now) self.now q u v) }
-        ensures relation { IfOk result (λ t. (u v : List ℕ) → All (λ s. s < length to.now) u → All (λ s. s < length to.now) v
+        ensures relation { IfOk result (λ t. (u v : List ℕ) → All (λ s. s < length to.now) u →
+            All (λ s. s < length to.now) v
             → Relates (block_of to.now) t u v ↔ Relates (block_of from.now) self.now u v) }
     {
         let letters = to.blocks();

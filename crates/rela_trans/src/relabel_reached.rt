@@ -25,7 +25,9 @@ use std::alloc::{AllocError, Global};
 fn right_states(alloc: Global, states: usize, pairs: &[Pair]) -> Result<Vec<bool>, AllocError>
     requires { All (λ x. x.right < states) pairs.now }
     ensures len { IfOk result (λ are_right. length are_right.items ≡ states) }
-    ensures right { IfOk result (λ are_right. (q : ℕ) → IsTrue (slice_index_or are_right.items q false) ↔ ((p : ℕ) × Contains pairs.now (pair_of p q))) }
+    ensures right { IfOk result (λ are_right. (q : ℕ) →
+        IsTrue (slice_index_or are_right.items q false) ↔
+        ((p : ℕ) × Contains pairs.now (pair_of p q))) }
 {
     let mut are_right = vec![in alloc; false; states]?;
     for pair in pairs {
@@ -44,7 +46,8 @@ fn moves_if<L: LabelSet, M: LabelSet>(
     requires few { length parents.now < 2 ^ 32 }
     requires fits { M.fits (length parents.now) }
     ensures { IfOk result (λ new. map (move_of M.letters) new.items
-        ≡ if is_kept then map (relabelled_move parents.now) (map (move_of L.letters) moves.now) else []) }
+        ≡ if is_kept then map (relabelled_move parents.now) (map (move_of L.letters) moves.now)
+        else []) }
 {
     if is_kept {
         relabelled_moves(alloc, moves, parents)
@@ -63,7 +66,9 @@ impl<L: LabelSet> Transducer<L> {
     ) -> Result<Vec<bool>, AllocError>
         requires { sources.now.letters ≡ length parents.now }
         ensures len { IfOk result (λ kept. length kept.items ≡ machine_states self.now) }
-        ensures reached { IfOk result (λ kept. (q : ℕ) → IsTrue (slice_index_or kept.items q false) ↔ MayReach parents.now sources.now self.now q) }
+        ensures reached { IfOk result (λ kept. (q : ℕ) →
+            IsTrue (slice_index_or kept.items q false) ↔
+            MayReach parents.now sources.now self.now q) }
     {
         let reading = ReadingFiner {
             sources,
@@ -92,7 +97,9 @@ impl<L: LabelSet> Transducer<L> {
         requires each { length kept.now ≡ machine_states self.now }
         requires few { length parents.now < 2 ^ 32 }
         requires fits { M.fits (length parents.now) }
-        ensures { IfOk result (λ new. moves_in M.letters new.items ≡ map (kept_moves parents.now kept.now self.now) (range_with_len 0 (machine_states self.now))) }
+        ensures { IfOk result (λ new. moves_in M.letters new.items
+            ≡ map (kept_moves parents.now kept.now self.now)
+            (range_with_len 0 (machine_states self.now))) }
     {
         let mut new = Vec::with_capacity(alloc, self.states())?;
         for q in 0..self.states() {
@@ -121,10 +128,14 @@ impl<L: LabelSet> Transducer<L> {
         requires sources { sources.now.letters ≡ block_count to.now }
         ensures letters { IfOk result (λ t. t.letters ≡ block_count to.now) }
         ensures states { IfOk result (λ t. machine_states t ≡ machine_states self.now) }
-        ensures reached { IfOk result (λ t. (p q : ℕ) (u v : List ℕ) → All (λ s. s < length to.now) u → All (λ s. s < length to.now) v
-            → Reach sources.now p (blocks_of to.now u) → ReachR (block_of to.now) t q u v ↔ ReachR (block_of from.now) self.now q u v) }
-        ensures relation { IfOk result (λ t. (u v : List ℕ) → All (λ s. s < length to.now) u → All (λ s. s < length to.now) v
-            → Accepts sources.now (blocks_of to.now u) → Relates (block_of to.now) t u v ↔ Relates (block_of from.now) self.now u v) }
+        ensures reached { IfOk result (λ t. (p q : ℕ) (u v : List ℕ) →
+            All (λ s. s < length to.now) u → All (λ s. s < length to.now) v
+            → Reach sources.now p (blocks_of to.now u) → ReachR (block_of to.now) t q u v ↔
+            ReachR (block_of from.now) self.now q u v) }
+        ensures relation { IfOk result (λ t. (u v : List ℕ) → All (λ s. s < length to.now) u →
+            All (λ s. s < length to.now) v
+            → Accepts sources.now (blocks_of to.now u) → Relates (block_of to.now) t u v ↔
+            Relates (block_of from.now) self.now u v) }
     {
         let letters = sources.letters();
         let parents = parents_of(alloc, from, to)?;

@@ -16,7 +16,8 @@ use std::alloc::{AllocError, Global};
 /// Lets each move lead on at once to the end of the detours that it led to.
 fn redirect<L: LabelSet>(moves: &mut [Move<L>], ends: &[usize])
     requires { All (λ edge. edge.to < length ends.now) moves.old }
-    ensures { map (move_of L.letters) moves.new ≡ map (redirected ends.now) (map (move_of L.letters) moves.old) }
+    ensures { map (move_of L.letters) moves.new
+        ≡ map (redirected ends.now) (map (move_of L.letters) moves.old) }
 {
     for edge in moves.iter_mut() {
         edge.to = ends[edge.to];
@@ -26,7 +27,8 @@ fn redirect<L: LabelSet>(moves: &mut [Move<L>], ends: &[usize])
 /// Lets each move of each state lead on at once to the end of the detours that it led to.
 fn redirect_each<L: LabelSet>(lists: &mut [Vec<Move<L>>], ends: &[usize])
     requires { All (All (λ move. move.to < length ends.now)) (moves_in L.letters lists.old) }
-    ensures { moves_in L.letters lists.new ≡ map (map (redirected ends.now)) (moves_in L.letters lists.old) }
+    ensures { moves_in L.letters lists.new
+        ≡ map (map (redirected ends.now)) (moves_in L.letters lists.old) }
 {
     for moves in lists.iter_mut() {
         redirect(moves, ends);
@@ -45,9 +47,12 @@ impl<L: LabelSet> Transducer<L> {
         ensures letters { IfOk result (λ t. t.letters ≡ self.letters) }
         ensures states { IfOk result (λ t. machine_states t ≡ machine_states self) }
         ensures begins { IfOk result (λ t. IsEnd self t.start) }
-        ensures direct { IfOk result (λ t. (p q : ℕ) → Contains (next_states t p) q → IsEnd self q) }
-        ensures reached { IfOk result (λ t. (read : ℕ → ℕ) (q : ℕ) (u v : List ℕ) → ReachR read t q u v → ReachR read self q u v) }
-        ensures relation { IfOk result (λ t. (read : ℕ → ℕ) (u v : List ℕ) → Relates read t u v ↔ Relates read self u v) }
+        ensures direct { IfOk result (λ t. (p q : ℕ) →
+            Contains (next_states t p) q → IsEnd self q) }
+        ensures reached { IfOk result (λ t. (read : ℕ → ℕ) (q : ℕ) (u v : List ℕ) →
+            ReachR read t q u v → ReachR read self q u v) }
+        ensures relation { IfOk result (λ t. (read : ℕ → ℕ) (u v : List ℕ) → Relates read t u v ↔
+            Relates read self u v) }
     {
         let ends = detour_ends(alloc, &self)?;
         let Transducer {

@@ -39,7 +39,8 @@ fn kind_on<L: LabelSet>(tape: Tape, set: L) -> MoveKind<L>
 
 /// The edge as a move, with its letter on the tape. The label is copied.
 fn lifted<L: LabelSet>(alloc: Global, edge: &Edge<L>, tape: Tape) -> Result<Move<L>, AllocError>
-    ensures { IfOk result (λ result. move_of L.letters result ≡ lifted tape (edge_of L.letters edge.now)) }
+    ensures { IfOk result (λ result. move_of L.letters result
+        ≡ lifted tape (edge_of L.letters edge.now)) }
 {
     let to = edge.to;
     match &edge.label {
@@ -60,7 +61,8 @@ fn lifted_edges<L: LabelSet>(
     edges: &[Edge<L>],
     tape: Tape,
 ) -> Result<Vec<Move<L>>, AllocError>
-    ensures { IfOk result (λ moves. map (move_of L.letters) moves.items ≡ map (lifted tape) (map (edge_of L.letters) edges.now)) }
+    ensures { IfOk result (λ moves. map (move_of L.letters) moves.items
+        ≡ map (lifted tape) (map (edge_of L.letters) edges.now)) }
 {
     let mut moves = Vec::with_capacity(alloc, edges.len())?;
     for edge in edges {
@@ -75,7 +77,8 @@ fn lifted_lists<L: LabelSet>(
     a: &Nfa<L>,
     tape: Tape,
 ) -> Result<Vec<Vec<Move<L>>>, AllocError>
-    ensures { IfOk result (λ moves. moves_in L.letters moves.items ≡ map (lifted_at tape a.now) (range_with_len 0 (states a.now))) }
+    ensures { IfOk result (λ moves. moves_in L.letters moves.items
+        ≡ map (lifted_at tape a.now) (range_with_len 0 (states a.now))) }
 {
     let mut moves = Vec::with_capacity(alloc, a.states())?;
     for q in 0..a.states() {
@@ -138,7 +141,8 @@ impl<L: LabelSet> Transducer<L> {
         ensures first { IfOk result (λ t. (read : ℕ → ℕ) (q : ℕ) (u v : List ℕ) → q < states a.now
             → ReachR read t q u v ↔ (Reach a.now q (map read u) × (v ≡ []))) }
         ensures second { IfOk result (λ t. (read : ℕ → ℕ) (q : ℕ) (u v : List ℕ)
-            → ReachR read t (states a.now + q) u v ↔ (Accepts a.now (map read u) × Reach b.now q (map read v))) }
+            → ReachR read t (states a.now + q) u v ↔
+            (Accepts a.now (map read u) × Reach b.now q (map read v))) }
         ensures relation { IfOk result (λ t. (read : ℕ → ℕ) (u v : List ℕ)
             → Relates read t u v ↔ (Accepts a.now (map read u) × Accepts b.now (map read v))) }
     {

@@ -86,7 +86,8 @@ impl<L: LabelSet> Transducer<L> {
         ensures moves { map (move_of L.letters) result.now ≡ moves_of self.now q }
         ensures machine { IsMachine self.now }
         ensures lead { All (λ edge. edge.to < machine_states self.now) result.now }
-        ensures sized { All (λ edge. IsSized self.now.letters (kind_of L.letters edge.kind)) result.now }
+        ensures sized { All (λ edge. IsSized self.now.letters (kind_of L.letters edge.kind))
+            result.now }
     {
         self.moves[q].as_slice()
     }

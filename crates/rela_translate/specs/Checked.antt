@@ -76,6 +76,7 @@ pub record IsCheck (check : Checked) : Type 0 where
   pub entries : All (λ k. k < length check.classes) (entries_of check.body)
   pub numbered : markers_of check.body ≡ range_with_len 1 (length (markers_of check.body))
   pub shallow_predicate : depth check.when ≤ 1000
-  pub few_nodes : (locations : ℕ) → nodes_of_rel (before_of locations check.body) + nodes_of_rel (after_of locations check.body) ≤ 20000
+  pub few_nodes : (locations : ℕ) → nodes_of_rel (before_of locations check.body)
+      + nodes_of_rel (after_of locations check.body) ≤ 20000
   pub shallow_before : (locations : ℕ) → depth_of_rel (before_of locations check.body) ≤ 1000
   pub shallow_after : (locations : ℕ) → depth_of_rel (after_of locations check.body) ≤ 1000

@@ -9,7 +9,8 @@ use Rattle.rela_translate.specs.declared.body.Expr.TheFolds.{rec-Expr}
 
 -- the path symbol is in the entry k of the class table
 abbrev pub IsMember : List SymbolSet → ℕ → ℕ → ℕ → Type 0
-IsMember classes path_symbols k s = (set : SymbolSet) × (slice_get classes k ≡ Some set) × HasSymbol path_symbols set s
+IsMember classes path_symbols k s = (set : SymbolSet) × (slice_get classes k ≡ Some set)
+    × HasSymbol path_symbols set s
 
 -- One layer of an expression, where it is given which words its parts have.
 module _ {X : Type 0} (classes : List SymbolSet) (path_symbols : ℕ) (part : X → WordSet) where
@@ -25,4 +26,5 @@ module _ {X : Type 0} (classes : List SymbolSet) (path_symbols : ℕ) (part : X 
 -- The word is in the expression, by recursion on the expression, under a class table and a number of path
 -- symbols.
 abbrev pub Lang : List SymbolSet → ℕ → Expr → WordSet
-Lang classes path_symbols = rec-Expr WordSet (λ X _ part layer. LayerLang classes path_symbols part layer)
+Lang classes path_symbols = rec-Expr WordSet (λ X _ part layer.
+    LayerLang classes path_symbols part layer)

@@ -56,7 +56,8 @@ unit_terms locations z (Remove p) = record {
 }
 unit_terms locations z (Replace p q) = record {
   zone = P.Union z (path_of q);
-  before = R.Union (R.Identity (without (P.Union z (path_of q)) (P.Meet (path_of p) z))) (R.Product (P.Meet (path_of p) z) (path_of q));
+  before = R.Union (R.Identity (without (P.Union z (path_of q)) (P.Meet (path_of p) z)))
+      (R.Product (P.Meet (path_of p) z) (path_of q));
   after = R.Identity (P.Union z (path_of q));
 }
 unit_terms locations z Drop = record {
@@ -67,7 +68,8 @@ unit_terms locations z Drop = record {
 unit_terms locations z (AnyOf p k) = record {
   zone = P.Union z (path_of p);
   before = R.Product (P.Union z (path_of p)) (P.One (marker_symbol locations k));
-  after = R.Union (R.Product (path_of p) (P.One (marker_symbol locations k))) (R.Identity (without z (path_of p)));
+  after = R.Union (R.Product (path_of p) (P.One (marker_symbol locations k)))
+      (R.Identity (without z (path_of p)));
 }
 unit_terms locations z (Ignore p) = record {
   zone = z;

@@ -82,7 +82,8 @@ module _ (classes : List SymbolSet) (locations : ℕ) where
   }
   unit_meaning Z (Replace p q) = record {
     zone = Either Z (Paths q);
-    before = EitherPair (Same (Without (Either Z (Paths q)) (Common (Paths p) Z))) (Pairs (Common (Paths p) Z) (Paths q));
+    before = EitherPair (Same (Without (Either Z (Paths q)) (Common (Paths p) Z)))
+        (Pairs (Common (Paths p) Z) (Paths q));
     after = Same (Either Z (Paths q));
   }
   unit_meaning Z Drop = record {
@@ -93,7 +94,8 @@ module _ (classes : List SymbolSet) (locations : ℕ) where
   unit_meaning Z (AnyOf p k) = record {
     zone = Either Z (Paths p);
     before = Pairs (Either Z (Paths p)) (Single (marker_symbol locations k));
-    after = EitherPair (Pairs (Paths p) (Single (marker_symbol locations k))) (Same (Without Z (Paths p)));
+    after = EitherPair (Pairs (Paths p) (Single (marker_symbol locations k)))
+        (Same (Without Z (Paths p)));
   }
   unit_meaning Z (Ignore p) = record {
     zone = Z;
@@ -118,7 +120,8 @@ module _ {X : Type 0} (classes : List SymbolSet) (locations : ℕ) (part : X →
 
 -- What a body means, by recursion on the body, under a class table and a number of locations.
 abbrev pub meaning_of : List SymbolSet → ℕ → Core → Meaning
-meaning_of classes locations = rec-Core Meaning (λ X _ part layer. layer_meaning classes locations part layer)
+meaning_of classes locations = rec-Core Meaning (λ X _ part layer.
+    layer_meaning classes locations part layer)
 
 -- the word is in the zone of the body
 abbrev pub Zone : List SymbolSet → ℕ → Core → WordSet

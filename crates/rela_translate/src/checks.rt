@@ -58,8 +58,22 @@ impl Check {
         classes: Vec<SymbolSet>,
         body: Core,
     ) -> Check
-        requires { IsCheck (record { name = name; level = level; when = when; at_most = at_most; classes = classes.items; body = body }) }
-        ensures { result ≡ record { name = name; level = level; when = when; at_most = at_most; classes = classes.items; body = body } }
+        requires { IsCheck (record {
+          name = name;
+          level = level;
+          when = when;
+          at_most = at_most;
+          classes = classes.items;
+          body = body;
+        }) }
+        ensures { result ≡ record {
+          name = name;
+          level = level;
+          when = when;
+          at_most = at_most;
+          classes = classes.items;
+          body = body;
+        } }
     {
         Check {
             name,

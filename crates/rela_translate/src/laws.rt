@@ -15,11 +15,14 @@ use rela_rir::{PathTerm, Reading};
 /// Whatever the paths before and after the change are, the terms of a body have the words of its zone
 /// and the pairs of its two relations.
 pub fn terms_mean_the_body<M: Reading>()
-    ensures zone { (locations : ℕ) (body : Core) → M.setting.path_symbols ≡ path_symbols locations → (w : List ℕ) →
+    ensures zone { (locations : ℕ) (body : Core) → M.setting.path_symbols
+        ≡ path_symbols locations → (w : List ℕ) →
         In M.setting (zone_of locations body) w ↔ Zone M.setting.classes locations body w }
-    ensures before { (locations : ℕ) (body : Core) → M.setting.path_symbols ≡ path_symbols locations → (u v : List ℕ) →
+    ensures before { (locations : ℕ) (body : Core) → M.setting.path_symbols
+        ≡ path_symbols locations → (u v : List ℕ) →
         InR M.setting (before_of locations body) u v ↔ Before M.setting.classes locations body u v }
-    ensures after { (locations : ℕ) (body : Core) → M.setting.path_symbols ≡ path_symbols locations → (u v : List ℕ) →
+    ensures after { (locations : ℕ) (body : Core) → M.setting.path_symbols
+        ≡ path_symbols locations → (u v : List ℕ) →
         InR M.setting (after_of locations body) u v ↔ After M.setting.classes locations body u v }
 {}
 
@@ -34,10 +37,12 @@ pub fn changed_paths_are_in_the_zone()
 /// The images of a body's two relations are those that their terms give of the paths before and after
 /// the change.
 pub fn images_mean_the_body<M: Reading>()
-    ensures before { (locations : ℕ) (body : Core) → M.setting.path_symbols ≡ path_symbols locations → (v : List ℕ) →
+    ensures before { (locations : ℕ) (body : Core) → M.setting.path_symbols
+        ≡ path_symbols locations → (v : List ℕ) →
         In M.setting (PathTerm.Image PathTerm.Pre (before_of locations body)) v
         ↔ ImageOf M.setting.pre (Before M.setting.classes locations body) v }
-    ensures after { (locations : ℕ) (body : Core) → M.setting.path_symbols ≡ path_symbols locations → (v : List ℕ) →
+    ensures after { (locations : ℕ) (body : Core) → M.setting.path_symbols
+        ≡ path_symbols locations → (v : List ℕ) →
         In M.setting (PathTerm.Image PathTerm.Post (after_of locations body)) v
         ↔ ImageOf M.setting.post (After M.setting.classes locations body) v }
 {}

@@ -31,8 +31,10 @@ pub struct Relations {
 ///
 /// Time and space: linear in the nodes of the two terms, of which there are at most 20,000.
 pub fn translate(alloc: Global, check: &Check, alphabet: &Alphabet) -> Result<Relations, AllocError>
-    ensures before_term { IfOk result (λ r. r.before ≡ before_of (length alphabet.now) check.now.body) }
-    ensures after_term { IfOk result (λ r. r.after ≡ after_of (length alphabet.now) check.now.body) }
+    ensures before_term { IfOk result (λ r. r.before
+        ≡ before_of (length alphabet.now) check.now.body) }
+    ensures after_term { IfOk result (λ r. r.after
+        ≡ after_of (length alphabet.now) check.now.body) }
     ensures before { IfOk result (λ r. (u v : List ℕ) →
         InR (bare check.now.classes (length alphabet.now)) r.before u v
         ↔ Before check.now.classes (length alphabet.now) check.now.body u v) }

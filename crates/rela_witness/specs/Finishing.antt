@@ -6,7 +6,8 @@ use Rattle.rela_witness.specs.Numbered.{number_of}
 
 -- the word leads from p to some final state
 abbrev pub AcceptsFrom : Automaton → ℕ → List ℕ → Type 0
-AcceptsFrom a p word = (q : ℕ) × ((steps : List Step) × Follow a p steps q × (spelled steps ≡ word)) × IsFinal a q
+AcceptsFrom a p word = (q : ℕ) × ((steps : List Step) × Follow a p steps q × (spelled steps ≡ word))
+    × IsFinal a q
 
 -- a word of n letters leads from p to some final state
 abbrev pub Finishes : Automaton → ℕ → ℕ → Type 0
@@ -19,8 +20,10 @@ pub record AreDistances (a : Automaton) (numbers : List (Option ℕ)) : Type 0 w
 
 -- an edge leads from p to q by the letter, or silently where there is none, and q has the distance
 abbrev pub LeadsTo : Automaton → List (Option ℕ) → ℕ → Option ℕ → ℕ → ℕ → Type 0
-LeadsTo a distances distance letter p q = HasStep a p letter q × (number_of distances q ≡ Some distance)
+LeadsTo a distances distance letter p q = HasStep a p letter q
+    × (number_of distances q ≡ Some distance)
 
 -- the letter leads from one of the states to one of the distance
 abbrev pub Continues : Automaton → List (Option ℕ) → ℕ → List ℕ → ℕ → Type 0
-Continues a distances distance states letter = (p : ℕ) × Contains states p × ((q : ℕ) × LeadsTo a distances distance (Some letter) p q)
+Continues a distances distance states letter = (p : ℕ) × Contains states p
+    × ((q : ℕ) × LeadsTo a distances distance (Some letter) p q)

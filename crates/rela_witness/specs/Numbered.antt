@@ -17,11 +17,14 @@ abbrev pub IsLayer : ℕ → List (Option ℕ) → List ℕ → Type 0
 IsLayer number numbers layer = (q : ℕ) → Contains layer q ↔ (number_of numbers q ≡ Some number)
 
 -- some states of P that had no number have this one now, each put at the end of the layer once
-pub record Grows (P : ℕ → Type 0) (number : ℕ) (old new : List (Option ℕ)) (before after : List ℕ) : Type 0 where
+pub record Grows (P : ℕ → Type 0) (number : ℕ) (old new : List (Option ℕ))
+    (before after : List ℕ) : Type 0 where
   pub count : length new ≡ length old
   pub kept : (q n : ℕ) → number_of old q ≡ Some n → number_of new q ≡ Some n
-  pub only : (q n : ℕ) → number_of new q ≡ Some n → (number_of old q ≡ Some n) ⊎ ((n ≡ number) × P q × Contains after q)
-  pub longer : (more : List ℕ) × (after ≡ before ++ more) × ((q : ℕ) → Contains more q → number_of new q ≡ Some number)
+  pub only : (q n : ℕ) → number_of new q ≡ Some n → (number_of old q ≡ Some n)
+      ⊎ ((n ≡ number) × P q × Contains after q)
+  pub longer : (more : List ℕ) × (after ≡ before ++ more) × ((q : ℕ) → Contains more q →
+      number_of new q ≡ Some number)
   pub balance : length after + unnumbered new ≡ length before + unnumbered old
 
 -- what Next leads to, step by step, from those of From

@@ -44,7 +44,8 @@ fn enter_finals<L: LabelSet>(
     layer: &mut Vec<usize>,
 ) -> Result<(), AllocError>
     requires { vec_len numbers.old ≡ states a.now }
-    ensures grows { OnOk result (Grows (IsFinal a.now) 0 numbers.old.items numbers.new.items layer.old.items layer.new.items) }
+    ensures grows { OnOk result (Grows (IsFinal a.now) 0 numbers.old.items numbers.new.items
+        layer.old.items layer.new.items) }
     ensures entered { OnOk result ((q : ℕ) → IsFinal a.now q → HasNumber numbers.new.items q) }
 {
     for q in 0..a.states() {
@@ -66,7 +67,8 @@ fn next_layer(
 ) -> Result<Vec<usize>, AllocError>
     requires states { length links.now ≡ vec_len numbers.old }
     requires layer { (q : ℕ) → Contains layer.now q → HasNumber numbers.old.items q }
-    ensures grows { IfOk result (λ next. Grows (After (IsLinked links.now) layer.now) number numbers.old.items numbers.new.items [] next.items) }
+    ensures grows { IfOk result (λ next. Grows (After (IsLinked links.now) layer.now) number
+        numbers.old.items numbers.new.items [] next.items) }
     ensures done { IfOk result (λ _. IsDone (IsLinked links.now) numbers.new.items layer.now) }
 {
     let mut next = Vec::new(alloc);

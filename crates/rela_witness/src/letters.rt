@@ -57,7 +57,8 @@ fn least_of<L: LabelSet>(
     distance: usize,
 ) -> Option<u32>
     requires { edge.now.to < length distances.now }
-    ensures { IsLeast (λ k. (takes (move_of L.letters edge.now).label (Some k) ≡ true) × (number_of distances.now edge.now.to ≡ Some distance)) result }
+    ensures { IsLeast (λ k. (takes (move_of L.letters edge.now).label (Some k) ≡ true)
+        × (number_of distances.now edge.now.to ≡ Some distance)) result }
 {
     if distances[edge.to] != Some(distance) {
         return None;

@@ -42,7 +42,8 @@ impl Links {
         requires from { p < length self.old }
         requires to { q < length self.old }
         ensures count { length self.new ≡ length self.old }
-        ensures added { OnOk result ((m n : ℕ) → IsLinked self.new m n ↔ (IsLinked self.old m n ⊎ ((p ≡ m) × (q ≡ n)))) }
+        ensures added { OnOk result ((m n : ℕ) → IsLinked self.new m n ↔
+            (IsLinked self.old m n ⊎ ((p ≡ m) × (q ≡ n)))) }
     {
         self.lists[p].push(q)?;
         Ok(())

@@ -15,7 +15,8 @@ pub(crate) fn enter(
     number: usize,
 ) -> Result<(), AllocError>
     requires { q < vec_len numbers.old }
-    ensures grows { OnOk result (Grows (λ p. q ≡ p) number numbers.old.items numbers.new.items layer.old.items layer.new.items) }
+    ensures grows { OnOk result (Grows (λ p. q ≡ p) number numbers.old.items numbers.new.items
+        layer.old.items layer.new.items) }
     ensures entered { OnOk result (HasNumber numbers.new.items q) }
 {
     if numbers[q].is_none() {
@@ -33,8 +34,10 @@ pub(crate) fn enter_all(
     number: usize,
 ) -> Result<(), AllocError>
     requires { All (λ q. q < vec_len numbers.old) states.now }
-    ensures grows { OnOk result (Grows (Contains states.now) number numbers.old.items numbers.new.items layer.old.items layer.new.items) }
-    ensures entered { OnOk result ((q : ℕ) → Contains states.now q → HasNumber numbers.new.items q) }
+    ensures grows { OnOk result (Grows (Contains states.now) number numbers.old.items
+        numbers.new.items layer.old.items layer.new.items) }
+    ensures entered { OnOk result ((q : ℕ) → Contains states.now q →
+        HasNumber numbers.new.items q) }
 {
     for q in states {
         enter(numbers, layer, *q, number)?;
@@ -52,7 +55,8 @@ pub(crate) fn close(
 ) -> Result<(), AllocError>
     requires states { length links.now ≡ vec_len numbers.old }
     requires layer { IsLayer number numbers.old.items layer.old.items }
-    ensures grows { OnOk result (Grows (Spread (IsLinked links.now) (Contains layer.old.items)) number numbers.old.items numbers.new.items layer.old.items layer.new.items) }
+    ensures grows { OnOk result (Grows (Spread (IsLinked links.now) (Contains layer.old.items))
+        number numbers.old.items numbers.new.items layer.old.items layer.new.items) }
     ensures done { OnOk result (IsDone (IsLinked links.now) numbers.new.items layer.new.items) }
 {
     // The layer is a queue: what the states before `done` lead to has been entered.

@@ -33,7 +33,8 @@ fn leads<L: LabelSet>(
     distance: usize,
 ) -> bool
     requires { edge.now.to < length distances.now }
-    ensures { IsTrue result ↔ ((takes (move_of L.letters edge.now).label letter ≡ true) × (number_of distances.now edge.now.to ≡ Some distance)) }
+    ensures { IsTrue result ↔ ((takes (move_of L.letters edge.now).label letter ≡ true)
+        × (number_of distances.now edge.now.to ≡ Some distance)) }
 {
     takes(edge, letter) && distances[edge.to] == Some(distance)
 }
@@ -52,8 +53,10 @@ fn enter_ends<L: LabelSet>(
     requires state { p < states a.now }
     requires distances { length distances.now ≡ states a.now }
     requires numbers { vec_len numbers.old ≡ states a.now }
-    ensures grows { OnOk result (Grows (LeadsTo a.now distances.now distance letter p) distance numbers.old.items numbers.new.items layer.old.items layer.new.items) }
-    ensures entered { OnOk result ((q : ℕ) → LeadsTo a.now distances.now distance letter p q → HasNumber numbers.new.items q) }
+    ensures grows { OnOk result (Grows (LeadsTo a.now distances.now distance letter p) distance
+        numbers.old.items numbers.new.items layer.old.items layer.new.items) }
+    ensures entered { OnOk result ((q : ℕ) → LeadsTo a.now distances.now distance letter p q →
+        HasNumber numbers.new.items q) }
 {
     for edge in a.edges(p) {
         if leads(edge, letter, distances, distance) {
@@ -74,8 +77,11 @@ pub(crate) fn close_onward<L: LabelSet>(
     requires distances { length distances.now ≡ states a.now }
     requires numbers { vec_len numbers.old ≡ states a.now }
     requires layer { IsLayer distance numbers.old.items layer.old.items }
-    ensures grows { OnOk result (Grows (Spread (LeadsTo a.now distances.now distance None) (Contains layer.old.items)) distance numbers.old.items numbers.new.items layer.old.items layer.new.items) }
-    ensures done { OnOk result (IsDone (LeadsTo a.now distances.now distance None) numbers.new.items layer.new.items) }
+    ensures grows { OnOk result (Grows (Spread (LeadsTo a.now distances.now distance None)
+        (Contains layer.old.items)) distance numbers.old.items numbers.new.items layer.old.items
+        layer.new.items) }
+    ensures done { OnOk result (IsDone (LeadsTo a.now distances.now distance None) numbers.new.items
+        layer.new.items) }
 {
     // The layer is a queue: what the states before `done` lead to has been entered.
     let mut done = 0;
@@ -101,8 +107,11 @@ pub(crate) fn layer_after<L: LabelSet>(
     requires distances { length distances.now ≡ states a.now }
     requires numbers { vec_len numbers.old ≡ states a.now }
     requires states { All (λ q. q < states a.now) layer.now }
-    ensures grows { IfOk result (λ next. Grows (After (LeadsTo a.now distances.now distance (Some letter)) layer.now) distance numbers.old.items numbers.new.items [] next.items) }
-    ensures done { IfOk result (λ _. IsDone (LeadsTo a.now distances.now distance (Some letter)) numbers.new.items layer.now) }
+    ensures grows { IfOk result (λ next.
+        Grows (After (LeadsTo a.now distances.now distance (Some letter)) layer.now) distance
+        numbers.old.items numbers.new.items [] next.items) }
+    ensures done { IfOk result (λ _. IsDone (LeadsTo a.now distances.now distance (Some letter))
+        numbers.new.items layer.now) }
 {
     let mut next = Vec::new(alloc);
     for q in layer {

@@ -24,8 +24,10 @@ pub fn least_source<L: LabelSet>(
     v: &[u32],
 ) -> Result<Option<Word>, AllocError>
     requires letters { a.now.letters ≡ transducer.now.letters }
-    ensures found { IfOk result (λ found. IfSome found (First (λ u. Accepts a.now u × Relates (λ k. k) transducer.now u v.now))) }
-    ensures none { IfOk result (λ found. IfNone found ((u : List ℕ) → ¬ (Accepts a.now u × Relates (λ k. k) transducer.now u v.now))) }
+    ensures found { IfOk result (λ found.
+        IfSome found (First (λ u. Accepts a.now u × Relates (λ k. k) transducer.now u v.now))) }
+    ensures none { IfOk result (λ found. IfNone found ((u : List ℕ) →
+        ¬ (Accepts a.now u × Relates (λ k. k) transducer.now u v.now))) }
 {
     let sources = sources_of(alloc, transducer, v)?;
     match a.meet(alloc, &sources, usize::MAX) {
@@ -41,7 +43,8 @@ fn sources_of<L: LabelSet>(
     v: &[u32],
 ) -> Result<Nfa<L>, AllocError>
     ensures letters { IfOk result (λ nfa. nfa.letters ≡ transducer.now.letters) }
-    ensures language { IfOk result (λ nfa. (u : List ℕ) → Accepts nfa u ↔ Relates (λ k. k) transducer.now u v.now) }
+    ensures language { IfOk result (λ nfa. (u : List ℕ) → Accepts nfa u ↔
+        Relates (λ k. k) transducer.now u v.now) }
 {
     let letters = transducer.letters();
     if !are_letters(v, letters) {

@@ -58,7 +58,8 @@ fn add_source<L: LabelSet>(
     requires state { p < states a.now }
     requires links { length links.old ≡ states a.now }
     ensures count { length links.new ≡ length links.old }
-    ensures added { OnOk result ((m q : ℕ) → IsLinked links.new q m ↔ (IsLinked links.old q m ⊎ ((p ≡ m) × HasEdge a.now kind p q))) }
+    ensures added { OnOk result ((m q : ℕ) → IsLinked links.new q m ↔
+        (IsLinked links.old q m ⊎ ((p ≡ m) × HasEdge a.now kind p q))) }
 {
     for edge in a.edges(p) {
         if is_of_kind(edge, kind) {

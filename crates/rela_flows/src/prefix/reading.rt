@@ -90,7 +90,8 @@ pub(super) fn octet(text: &[u8]) -> Option<u16>
 /// What stands before the first separator, and what stands after it, or `None` where there is no
 /// separator.
 pub(super) fn cut(text: &[u8], separator: u8) -> (&[u8], Option<&[u8]>)
-    ensures { slice_split (λ b. b == separator) text.now ≡ result.0.now ∷ parts_of separator (option_copied result.1) }
+    ensures { slice_split (λ b. b == separator) text.now ≡ result.0.now
+        ∷ parts_of separator (option_copied result.1) }
 {
     match text.iter().position(|&b| b == separator) {
         Some(i) => (&text[..i], Some(&text[i + 1..])),
@@ -137,7 +138,8 @@ pub(super) fn ipv4_address(text: &[u8]) -> Option<u32>
 /// The place of the first of the first two colons that stand side by side, or `None` where no two
 /// do.
 fn gap(text: &[u8]) -> Option<usize>
-    ensures { MatchOption result ((k : ℕ) → ¬ IsGap text.now k) (λ i. IsGap text.now i × ((k : ℕ) → k < i → ¬ IsGap text.now k)) }
+    ensures { MatchOption result ((k : ℕ) → ¬ IsGap text.now k) (λ i. IsGap text.now i
+        × ((k : ℕ) → k < i → ¬ IsGap text.now k)) }
 {
     for i in 1..text.len() {
         if text[i - 1] == b':' && text[i] == b':' {

@@ -39,7 +39,8 @@ pub(super) fn ipv4_text(alloc: Global, prefix: &Ipv4Prefix) -> Result<Vec<u8>, A
 
 /// Four groups in hexadecimal, joined by colons.
 fn four_groups(alloc: Global, a: u16, b: u16, c: u16, d: u16) -> Result<String, AllocError>
-    ensures { IfOk result (λ text. string_bytes text ≡ digits 16 false a ++ colon ∷ (digits 16 false b ++ colon ∷ (digits 16 false c ++ colon ∷ digits 16 false d))) }
+    ensures { IfOk result (λ text. string_bytes text ≡ digits 16 false a ++ colon
+        ∷ (digits 16 false b ++ colon ∷ (digits 16 false c ++ colon ∷ digits 16 false d))) }
 {
     format!(in alloc; "{a:x}:{b:x}:{c:x}:{d:x}")
 }

@@ -102,10 +102,13 @@ impl<'a> Cursor<'a> {
     pub(crate) fn take_mark(&mut self, mark: u8) -> bool
         ensures end { self.new.end ≡ self.old.end }
         ensures next { result ≡ next_is (is_mark_of mark) self.old.rest.now }
-        ensures taken { result ≡ true → read_mark self.old.end mark self.old.rest.now ≡ Ok (tt, self.new.rest.now) }
-        ensures refused { result ≡ false → read_mark self.old.end mark self.old.rest.now ≡ Err (Syntax (offset self.old.end self.old.rest.now)) }
+        ensures taken { result ≡ true → read_mark self.old.end mark self.old.rest.now
+            ≡ Ok (tt, self.new.rest.now) }
+        ensures refused { result ≡ false → read_mark self.old.end mark self.old.rest.now
+            ≡ Err (Syntax (offset self.old.end self.old.rest.now)) }
         ensures kept { result ≡ false → self.new.rest.now ≡ self.old.rest.now }
-        ensures whether { whether_mark self.old.end mark self.old.rest.now ≡ Ok (result, self.new.rest.now) }
+        ensures whether { whether_mark self.old.end mark self.old.rest.now
+            ≡ Ok (result, self.new.rest.now) }
         ensures left { length self.new.rest.now ≤ length self.old.rest.now }
         ensures less { result ≡ true → length self.new.rest.now < length self.old.rest.now }
     {
@@ -123,10 +126,13 @@ impl<'a> Cursor<'a> {
     pub(crate) fn take_word(&mut self, word: &[u8]) -> bool
         ensures end { self.new.end ≡ self.old.end }
         ensures next { result ≡ next_is (is_word_of word.now) self.old.rest.now }
-        ensures taken { result ≡ true → read_word self.old.end word.now self.old.rest.now ≡ Ok (tt, self.new.rest.now) }
-        ensures refused { result ≡ false → read_word self.old.end word.now self.old.rest.now ≡ Err (Syntax (offset self.old.end self.old.rest.now)) }
+        ensures taken { result ≡ true → read_word self.old.end word.now self.old.rest.now
+            ≡ Ok (tt, self.new.rest.now) }
+        ensures refused { result ≡ false → read_word self.old.end word.now self.old.rest.now
+            ≡ Err (Syntax (offset self.old.end self.old.rest.now)) }
         ensures kept { result ≡ false → self.new.rest.now ≡ self.old.rest.now }
-        ensures whether { whether_word self.old.end word.now self.old.rest.now ≡ Ok (result, self.new.rest.now) }
+        ensures whether { whether_word self.old.end word.now self.old.rest.now
+            ≡ Ok (result, self.new.rest.now) }
         ensures left { length self.new.rest.now ≤ length self.old.rest.now }
         ensures less { result ≡ true → length self.new.rest.now < length self.old.rest.now }
     {
@@ -142,7 +148,8 @@ impl<'a> Cursor<'a> {
     /// Goes past the mark, which has to come next.
     pub(crate) fn mark(&mut self, mark: u8) -> Result<(), SpecError>
         ensures end { self.new.end ≡ self.old.end }
-        ensures read { IfOk result (λ _. read_mark self.old.end mark self.old.rest.now ≡ Ok (tt, self.new.rest.now)) }
+        ensures read { IfOk result (λ _. read_mark self.old.end mark self.old.rest.now
+            ≡ Ok (tt, self.new.rest.now)) }
         ensures fault { IfErr result (λ e. read_mark self.old.end mark self.old.rest.now ≡ Err e) }
         ensures less { OnOk result (length self.new.rest.now < length self.old.rest.now) }
     {
@@ -160,7 +167,8 @@ impl<'a> Cursor<'a> {
     pub(crate) fn closed<T: Drop>(&mut self, value: T, mark: u8) -> Result<T, SpecError>
         ensures end { self.new.end ≡ self.old.end }
         ensures same { IfOk result (λ v. v ≡ value) }
-        ensures read { IfOk result (λ _. read_mark self.old.end mark self.old.rest.now ≡ Ok (tt, self.new.rest.now)) }
+        ensures read { IfOk result (λ _. read_mark self.old.end mark self.old.rest.now
+            ≡ Ok (tt, self.new.rest.now)) }
         ensures fault { IfErr result (λ e. read_mark self.old.end mark self.old.rest.now ≡ Err e) }
         ensures less { OnOk result (length self.new.rest.now < length self.old.rest.now) }
     {
@@ -171,8 +179,10 @@ impl<'a> Cursor<'a> {
     /// Goes past the word, which has to come next.
     pub(crate) fn word(&mut self, word: &[u8]) -> Result<(), SpecError>
         ensures end { self.new.end ≡ self.old.end }
-        ensures read { IfOk result (λ _. read_word self.old.end word.now self.old.rest.now ≡ Ok (tt, self.new.rest.now)) }
-        ensures fault { IfErr result (λ e. read_word self.old.end word.now self.old.rest.now ≡ Err e) }
+        ensures read { IfOk result (λ _. read_word self.old.end word.now self.old.rest.now
+            ≡ Ok (tt, self.new.rest.now)) }
+        ensures fault { IfErr result (λ e. read_word self.old.end word.now self.old.rest.now
+            ≡ Err e) }
         ensures less { OnOk result (length self.new.rest.now < length self.old.rest.now) }
     {
         let syntax = self.syntax();
@@ -192,10 +202,12 @@ impl<'a> Cursor<'a> {
     #[tactic(auto, unfolding(crate::specs::Readings::read_open))]
     pub(crate) fn open(&mut self, bracket: u8, room: usize) -> Result<usize, SpecError>
         ensures end { self.new.end ≡ self.old.end }
-        ensures read { IfOk result (λ _. read_open self.old.end bracket room self.old.rest.now ≡ Ok (tt, self.new.rest.now)) }
+        ensures read { IfOk result (λ _. read_open self.old.end bracket room self.old.rest.now
+            ≡ Ok (tt, self.new.rest.now)) }
         ensures room { IfOk result (λ inner. room ≡ inner + 1) }
         ensures inner { IfOk result (λ inner. inner ≡ room - 1) }
-        ensures fault { IfErr result (λ e. read_open self.old.end bracket room self.old.rest.now ≡ Err e) }
+        ensures fault { IfErr result (λ e. read_open self.old.end bracket room self.old.rest.now
+            ≡ Err e) }
         ensures less { OnOk result (length self.new.rest.now < length self.old.rest.now) }
     {
         match self.rest.split_first() {
@@ -214,8 +226,10 @@ impl<'a> Cursor<'a> {
     #[tactic(auto, unfolding(crate::specs::ReadWords::read_name))]
     pub(crate) fn name(&mut self, alloc: Global) -> Result<Name, SpecError>
         ensures end { self.new.end ≡ self.old.end }
-        ensures read { IfOk result (λ name. read_name self.old.end self.old.rest.now ≡ Ok (named (offset self.old.end self.old.rest.now) name, self.new.rest.now)) }
-        ensures fault { IfErr result (λ e. e ≢ Memory → read_name self.old.end self.old.rest.now ≡ Err e) }
+        ensures read { IfOk result (λ name. read_name self.old.end self.old.rest.now
+            ≡ Ok (named (offset self.old.end self.old.rest.now) name, self.new.rest.now)) }
+        ensures fault { IfErr result (λ e. e ≢ Memory →
+            read_name self.old.end self.old.rest.now ≡ Err e) }
         ensures less { OnOk result (length self.new.rest.now < length self.old.rest.now) }
     {
         match self.rest.split_first() {
@@ -234,8 +248,10 @@ impl<'a> Cursor<'a> {
     #[tactic(auto, unfolding(crate::specs::ReadWords::read_reference))]
     pub(crate) fn reference(&mut self, alloc: Global) -> Result<Name, SpecError>
         ensures end { self.new.end ≡ self.old.end }
-        ensures read { IfOk result (λ name. read_reference self.old.end self.old.rest.now ≡ Ok (named (offset self.old.end self.old.rest.now) name, self.new.rest.now)) }
-        ensures fault { IfErr result (λ e. e ≢ Memory → read_reference self.old.end self.old.rest.now ≡ Err e) }
+        ensures read { IfOk result (λ name. read_reference self.old.end self.old.rest.now
+            ≡ Ok (named (offset self.old.end self.old.rest.now) name, self.new.rest.now)) }
+        ensures fault { IfErr result (λ e. e ≢ Memory →
+            read_reference self.old.end self.old.rest.now ≡ Err e) }
         ensures less { OnOk result (length self.new.rest.now < length self.old.rest.now) }
     {
         match self.rest.split_first() {
@@ -255,7 +271,8 @@ impl<'a> Cursor<'a> {
     #[tactic(auto, unfolding(crate::specs::ReadWords::read_number))]
     pub(crate) fn number(&mut self) -> Result<u32, SpecError>
         ensures end { self.new.end ≡ self.old.end }
-        ensures read { IfOk result (λ n. read_number self.old.end self.old.rest.now ≡ Ok (n, self.new.rest.now)) }
+        ensures read { IfOk result (λ n. read_number self.old.end self.old.rest.now
+            ≡ Ok (n, self.new.rest.now)) }
         ensures fault { IfErr result (λ e. read_number self.old.end self.old.rest.now ≡ Err e) }
         ensures less { OnOk result (length self.new.rest.now < length self.old.rest.now) }
     {
@@ -275,7 +292,8 @@ impl<'a> Cursor<'a> {
     #[tactic(auto, unfolding(crate::specs::ReadWords::read_prefix))]
     pub(crate) fn prefix(&mut self) -> Result<Prefix, SpecError>
         ensures end { self.new.end ≡ self.old.end }
-        ensures read { IfOk result (λ p. read_prefix self.old.end self.old.rest.now ≡ Ok (p, self.new.rest.now)) }
+        ensures read { IfOk result (λ p. read_prefix self.old.end self.old.rest.now
+            ≡ Ok (p, self.new.rest.now)) }
         ensures fault { IfErr result (λ e. read_prefix self.old.end self.old.rest.now ≡ Err e) }
         ensures less { OnOk result (length self.new.rest.now < length self.old.rest.now) }
     {

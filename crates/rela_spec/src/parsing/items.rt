@@ -20,7 +20,8 @@ use std::alloc::Global;
 #[tactic(auto, unfolding(crate::specs::ReadFile::read_level_line))]
 pub(crate) fn level_line(cursor: &mut Cursor) -> Result<Level, SpecError>
     ensures end { cursor.new.end ≡ cursor.old.end }
-    ensures read { IfOk result (λ level. read_level_line cursor.old.end cursor.old.rest.now ≡ Ok (level, cursor.new.rest.now)) }
+    ensures read { IfOk result (λ level. read_level_line cursor.old.end cursor.old.rest.now
+        ≡ Ok (level, cursor.new.rest.now)) }
     ensures fault { IfErr result (λ e. read_level_line cursor.old.end cursor.old.rest.now ≡ Err e) }
     ensures left { OnOk result (length cursor.new.rest.now ≤ length cursor.old.rest.now) }
 {
@@ -36,7 +37,8 @@ pub(crate) fn level_line(cursor: &mut Cursor) -> Result<Level, SpecError>
 #[tactic(auto, unfolding(crate::specs::ReadFile::read_level_word))]
 fn level_word(cursor: &mut Cursor) -> Result<Level, SpecError>
     ensures end { cursor.new.end ≡ cursor.old.end }
-    ensures read { IfOk result (λ level. read_level_word cursor.old.end cursor.old.rest.now ≡ Ok (level, cursor.new.rest.now)) }
+    ensures read { IfOk result (λ level. read_level_word cursor.old.end cursor.old.rest.now
+        ≡ Ok (level, cursor.new.rest.now)) }
     ensures fault { IfErr result (λ e. read_level_word cursor.old.end cursor.old.rest.now ≡ Err e) }
     ensures less { OnOk result (length cursor.new.rest.now < length cursor.old.rest.now) }
 {
@@ -55,8 +57,10 @@ fn level_word(cursor: &mut Cursor) -> Result<Level, SpecError>
 pub(crate) fn item(alloc: Global, cursor: &mut Cursor, room: usize) -> Result<Item, SpecError>
     requires { room ≤ 100 }
     ensures end { cursor.new.end ≡ cursor.old.end }
-    ensures read { IfOk result (λ item. read_item cursor.old.end room cursor.old.rest.now ≡ Ok (item, cursor.new.rest.now)) }
-    ensures fault { IfErr result (λ e. e ≢ Memory → read_item cursor.old.end room cursor.old.rest.now ≡ Err e) }
+    ensures read { IfOk result (λ item. read_item cursor.old.end room cursor.old.rest.now
+        ≡ Ok (item, cursor.new.rest.now)) }
+    ensures fault { IfErr result (λ e. e ≢ Memory →
+        read_item cursor.old.end room cursor.old.rest.now ≡ Err e) }
     ensures less { OnOk result (length cursor.new.rest.now < length cursor.old.rest.now) }
     ensures low { IfOk result (λ item. IsLow item) }
 {
@@ -74,8 +78,10 @@ pub(crate) fn item(alloc: Global, cursor: &mut Cursor, room: usize) -> Result<It
 #[tactic(auto, unfolding(crate::specs::ReadFile::read_path_item))]
 fn path_item(alloc: Global, cursor: &mut Cursor, room: usize) -> Result<Item, SpecError>
     ensures end { cursor.new.end ≡ cursor.old.end }
-    ensures read { IfOk result (λ item. read_path_item cursor.old.end room cursor.old.rest.now ≡ Ok (item, cursor.new.rest.now)) }
-    ensures fault { IfErr result (λ e. e ≢ Memory → read_path_item cursor.old.end room cursor.old.rest.now ≡ Err e) }
+    ensures read { IfOk result (λ item. read_path_item cursor.old.end room cursor.old.rest.now
+        ≡ Ok (item, cursor.new.rest.now)) }
+    ensures fault { IfErr result (λ e. e ≢ Memory →
+        read_path_item cursor.old.end room cursor.old.rest.now ≡ Err e) }
     ensures less { OnOk result (length cursor.new.rest.now < length cursor.old.rest.now) }
     ensures low { IfOk result (λ item. IsLow item) }
 {
@@ -91,8 +97,10 @@ fn path_item(alloc: Global, cursor: &mut Cursor, room: usize) -> Result<Item, Sp
 #[tactic(auto, unfolding(crate::specs::ReadFile::read_spec_item))]
 fn spec_item(alloc: Global, cursor: &mut Cursor, room: usize) -> Result<Item, SpecError>
     ensures end { cursor.new.end ≡ cursor.old.end }
-    ensures read { IfOk result (λ item. read_spec_item cursor.old.end room cursor.old.rest.now ≡ Ok (item, cursor.new.rest.now)) }
-    ensures fault { IfErr result (λ e. e ≢ Memory → read_spec_item cursor.old.end room cursor.old.rest.now ≡ Err e) }
+    ensures read { IfOk result (λ item. read_spec_item cursor.old.end room cursor.old.rest.now
+        ≡ Ok (item, cursor.new.rest.now)) }
+    ensures fault { IfErr result (λ e. e ≢ Memory →
+        read_spec_item cursor.old.end room cursor.old.rest.now ≡ Err e) }
     ensures less { OnOk result (length cursor.new.rest.now < length cursor.old.rest.now) }
     ensures low { IfOk result (λ item. IsLow item) }
 {
@@ -109,8 +117,10 @@ fn spec_item(alloc: Global, cursor: &mut Cursor, room: usize) -> Result<Item, Sp
 fn check_item(alloc: Global, cursor: &mut Cursor, room: usize) -> Result<Item, SpecError>
     requires { room ≤ 100 }
     ensures end { cursor.new.end ≡ cursor.old.end }
-    ensures read { IfOk result (λ item. read_check_item cursor.old.end room cursor.old.rest.now ≡ Ok (item, cursor.new.rest.now)) }
-    ensures fault { IfErr result (λ e. e ≢ Memory → read_check_item cursor.old.end room cursor.old.rest.now ≡ Err e) }
+    ensures read { IfOk result (λ item. read_check_item cursor.old.end room cursor.old.rest.now
+        ≡ Ok (item, cursor.new.rest.now)) }
+    ensures fault { IfErr result (λ e. e ≢ Memory →
+        read_check_item cursor.old.end room cursor.old.rest.now ≡ Err e) }
     ensures less { OnOk result (length cursor.new.rest.now < length cursor.old.rest.now) }
     ensures low { IfOk result (λ item. IsLow item) }
 {
@@ -141,8 +151,10 @@ fn condition_behind<T: Drop>(
     requires { room ≤ 100 }
     ensures end { cursor.new.end ≡ cursor.old.end }
     ensures same { IfOk result (λ both. both.0 ≡ before) }
-    ensures read { IfOk result (λ both. read_condition cursor.old.end room cursor.old.rest.now ≡ Ok (both.1, cursor.new.rest.now)) }
-    ensures fault { IfErr result (λ e. e ≢ Memory → read_condition cursor.old.end room cursor.old.rest.now ≡ Err e) }
+    ensures read { IfOk result (λ both. read_condition cursor.old.end room cursor.old.rest.now
+        ≡ Ok (both.1, cursor.new.rest.now)) }
+    ensures fault { IfErr result (λ e. e ≢ Memory →
+        read_condition cursor.old.end room cursor.old.rest.now ≡ Err e) }
     ensures left { OnOk result (length cursor.new.rest.now ≤ length cursor.old.rest.now) }
     ensures depth { IfOk result (λ both. depth both.1 ≤ 1000) }
 {
@@ -155,8 +167,10 @@ fn condition_behind<T: Drop>(
 fn condition(alloc: Global, cursor: &mut Cursor, room: usize) -> Result<Predicate, SpecError>
     requires { room ≤ 100 }
     ensures end { cursor.new.end ≡ cursor.old.end }
-    ensures read { IfOk result (λ when. read_condition cursor.old.end room cursor.old.rest.now ≡ Ok (when, cursor.new.rest.now)) }
-    ensures fault { IfErr result (λ e. e ≢ Memory → read_condition cursor.old.end room cursor.old.rest.now ≡ Err e) }
+    ensures read { IfOk result (λ when. read_condition cursor.old.end room cursor.old.rest.now
+        ≡ Ok (when, cursor.new.rest.now)) }
+    ensures fault { IfErr result (λ e. e ≢ Memory →
+        read_condition cursor.old.end room cursor.old.rest.now ≡ Err e) }
     ensures left { OnOk result (length cursor.new.rest.now ≤ length cursor.old.rest.now) }
     ensures depth { IfOk result (λ when. depth when ≤ 1000) }
 {

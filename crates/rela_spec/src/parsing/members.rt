@@ -37,7 +37,8 @@ fn is_at_picking(cursor: &Cursor) -> bool
 #[tactic(auto, unfolding(crate::specs::ReadPaths::read_picked_by))]
 fn picked_by(cursor: &mut Cursor) -> Result<By, SpecError>
     ensures end { cursor.new.end ≡ cursor.old.end }
-    ensures read { IfOk result (λ by. read_picked_by cursor.old.end cursor.old.rest.now ≡ Ok (by, cursor.new.rest.now)) }
+    ensures read { IfOk result (λ by. read_picked_by cursor.old.end cursor.old.rest.now
+        ≡ Ok (by, cursor.new.rest.now)) }
     ensures fault { IfErr result (λ e. read_picked_by cursor.old.end cursor.old.rest.now ≡ Err e) }
     ensures less { OnOk result (length cursor.new.rest.now < length cursor.old.rest.now) }
 {
@@ -59,8 +60,10 @@ fn picked_by(cursor: &mut Cursor) -> Result<By, SpecError>
 #[tactic(auto, unfolding(crate::specs::ReadPaths::read_picked))]
 fn picked(alloc: Global, cursor: &mut Cursor, room: usize) -> Result<Member, SpecError>
     ensures end { cursor.new.end ≡ cursor.old.end }
-    ensures read { IfOk result (λ member. read_picked cursor.old.end room cursor.old.rest.now ≡ Ok (member, cursor.new.rest.now)) }
-    ensures fault { IfErr result (λ e. e ≢ Memory → read_picked cursor.old.end room cursor.old.rest.now ≡ Err e) }
+    ensures read { IfOk result (λ member. read_picked cursor.old.end room cursor.old.rest.now
+        ≡ Ok (member, cursor.new.rest.now)) }
+    ensures fault { IfErr result (λ e. e ≢ Memory →
+        read_picked cursor.old.end room cursor.old.rest.now ≡ Err e) }
     ensures less { OnOk result (length cursor.new.rest.now < length cursor.old.rest.now) }
 {
     let by = picked_by(cursor)?;
@@ -75,8 +78,10 @@ fn picked(alloc: Global, cursor: &mut Cursor, room: usize) -> Result<Member, Spe
 #[tactic(auto, unfolding(crate::specs::ReadPaths::read_member))]
 pub(crate) fn member(alloc: Global, cursor: &mut Cursor, room: usize) -> Result<Member, SpecError>
     ensures end { cursor.new.end ≡ cursor.old.end }
-    ensures read { IfOk result (λ member. read_member cursor.old.end room cursor.old.rest.now ≡ Ok (member, cursor.new.rest.now)) }
-    ensures fault { IfErr result (λ e. e ≢ Memory → read_member cursor.old.end room cursor.old.rest.now ≡ Err e) }
+    ensures read { IfOk result (λ member. read_member cursor.old.end room cursor.old.rest.now
+        ≡ Ok (member, cursor.new.rest.now)) }
+    ensures fault { IfErr result (λ e. e ≢ Memory →
+        read_member cursor.old.end room cursor.old.rest.now ≡ Err e) }
     ensures less { OnOk result (length cursor.new.rest.now < length cursor.old.rest.now) }
 {
     if cursor.take_word(b"drop") {
@@ -97,8 +102,10 @@ pub(crate) fn member(alloc: Global, cursor: &mut Cursor, room: usize) -> Result<
 #[tactic(auto, unfolding(crate::specs::ReadPaths::read_members))]
 fn members(alloc: Global, cursor: &mut Cursor, room: usize) -> Result<Vec<Member>, SpecError>
     ensures end { cursor.new.end ≡ cursor.old.end }
-    ensures read { IfOk result (λ members. read_members cursor.old.end room cursor.old.rest.now ≡ Ok (members.items, cursor.new.rest.now)) }
-    ensures fault { IfErr result (λ e. e ≢ Memory → read_members cursor.old.end room cursor.old.rest.now ≡ Err e) }
+    ensures read { IfOk result (λ members. read_members cursor.old.end room cursor.old.rest.now
+        ≡ Ok (members.items, cursor.new.rest.now)) }
+    ensures fault { IfErr result (λ e. e ≢ Memory →
+        read_members cursor.old.end room cursor.old.rest.now ≡ Err e) }
     ensures left { OnOk result (length cursor.new.rest.now ≤ length cursor.old.rest.now) }
 {
     let mut members = Vec::new(alloc);
@@ -112,8 +119,10 @@ fn members(alloc: Global, cursor: &mut Cursor, room: usize) -> Result<Vec<Member
 #[tactic(auto, unfolding(crate::specs::ReadPaths::read_class))]
 pub(crate) fn class(alloc: Global, cursor: &mut Cursor, room: usize) -> Result<PathExpr, SpecError>
     ensures end { cursor.new.end ≡ cursor.old.end }
-    ensures read { IfOk result (λ path. read_class cursor.old.end room cursor.old.rest.now ≡ Ok (path, cursor.new.rest.now)) }
-    ensures fault { IfErr result (λ e. e ≢ Memory → read_class cursor.old.end room cursor.old.rest.now ≡ Err e) }
+    ensures read { IfOk result (λ path. read_class cursor.old.end room cursor.old.rest.now
+        ≡ Ok (path, cursor.new.rest.now)) }
+    ensures fault { IfErr result (λ e. e ≢ Memory →
+        read_class cursor.old.end room cursor.old.rest.now ≡ Err e) }
     ensures less { OnOk result (length cursor.new.rest.now < length cursor.old.rest.now) }
 {
     let inner = cursor.open(b'[', room)?;

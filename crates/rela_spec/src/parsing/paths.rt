@@ -30,8 +30,10 @@ enum Joint {
 #[cycle(path)]
 pub(crate) fn path(alloc: Global, cursor: &mut Cursor, room: usize) -> Result<PathExpr, SpecError>
     ensures end { cursor.new.end ≡ cursor.old.end }
-    ensures read { IfOk result (λ path. read_path cursor.old.end room cursor.old.rest.now ≡ Ok (path, cursor.new.rest.now)) }
-    ensures fault { IfErr result (λ e. e ≢ Memory → read_path cursor.old.end room cursor.old.rest.now ≡ Err e) }
+    ensures read { IfOk result (λ path. read_path cursor.old.end room cursor.old.rest.now
+        ≡ Ok (path, cursor.new.rest.now)) }
+    ensures fault { IfErr result (λ e. e ≢ Memory →
+        read_path cursor.old.end room cursor.old.rest.now ≡ Err e) }
     ensures less { OnOk result (length cursor.new.rest.now < length cursor.old.rest.now) }
 {
     chain(alloc, cursor, Joint::Alt, room)
@@ -47,8 +49,10 @@ pub(crate) fn path_behind<T: Drop>(
 ) -> Result<(T, PathExpr), SpecError>
     ensures end { cursor.new.end ≡ cursor.old.end }
     ensures same { IfOk result (λ both. both.0 ≡ before) }
-    ensures read { IfOk result (λ both. read_path cursor.old.end room cursor.old.rest.now ≡ Ok (both.1, cursor.new.rest.now)) }
-    ensures fault { IfErr result (λ e. e ≢ Memory → read_path cursor.old.end room cursor.old.rest.now ≡ Err e) }
+    ensures read { IfOk result (λ both. read_path cursor.old.end room cursor.old.rest.now
+        ≡ Ok (both.1, cursor.new.rest.now)) }
+    ensures fault { IfErr result (λ e. e ≢ Memory →
+        read_path cursor.old.end room cursor.old.rest.now ≡ Err e) }
     ensures less { OnOk result (length cursor.new.rest.now < length cursor.old.rest.now) }
 {
     let path = path(alloc, cursor, room)?;
@@ -64,8 +68,10 @@ fn chain(
     room: usize,
 ) -> Result<PathExpr, SpecError>
     ensures end { cursor.new.end ≡ cursor.old.end }
-    ensures read { IfOk result (λ path. chain_at joint cursor.old.end room cursor.old.rest.now ≡ Ok (path, cursor.new.rest.now)) }
-    ensures fault { IfErr result (λ e. e ≢ Memory → chain_at joint cursor.old.end room cursor.old.rest.now ≡ Err e) }
+    ensures read { IfOk result (λ path. chain_at joint cursor.old.end room cursor.old.rest.now
+        ≡ Ok (path, cursor.new.rest.now)) }
+    ensures fault { IfErr result (λ e. e ≢ Memory →
+        chain_at joint cursor.old.end room cursor.old.rest.now ≡ Err e) }
     ensures less { OnOk result (length cursor.new.rest.now < length cursor.old.rest.now) }
 {
     let first = part(alloc, cursor, joint, room)?;
@@ -89,8 +95,10 @@ fn part(
     room: usize,
 ) -> Result<PathExpr, SpecError>
     ensures end { cursor.new.end ≡ cursor.old.end }
-    ensures read { IfOk result (λ path. part_at joint cursor.old.end room cursor.old.rest.now ≡ Ok (path, cursor.new.rest.now)) }
-    ensures fault { IfErr result (λ e. e ≢ Memory → part_at joint cursor.old.end room cursor.old.rest.now ≡ Err e) }
+    ensures read { IfOk result (λ path. part_at joint cursor.old.end room cursor.old.rest.now
+        ≡ Ok (path, cursor.new.rest.now)) }
+    ensures fault { IfErr result (λ e. e ≢ Memory →
+        part_at joint cursor.old.end room cursor.old.rest.now ≡ Err e) }
     ensures less { OnOk result (length cursor.new.rest.now < length cursor.old.rest.now) }
 {
     match joint {
@@ -110,8 +118,10 @@ fn next_part(
     room: usize,
 ) -> Result<PathExpr, SpecError>
     ensures end { cursor.new.end ≡ cursor.old.end }
-    ensures read { IfOk result (λ path. next_at joint cursor.old.end room cursor.old.rest.now ≡ Ok (path, cursor.new.rest.now)) }
-    ensures fault { IfErr result (λ e. e ≢ Memory → next_at joint cursor.old.end room cursor.old.rest.now ≡ Err e) }
+    ensures read { IfOk result (λ path. next_at joint cursor.old.end room cursor.old.rest.now
+        ≡ Ok (path, cursor.new.rest.now)) }
+    ensures fault { IfErr result (λ e. e ≢ Memory →
+        next_at joint cursor.old.end room cursor.old.rest.now ≡ Err e) }
     ensures less { OnOk result (length cursor.new.rest.now < length cursor.old.rest.now) }
 {
     join(cursor, joint)?;
@@ -129,8 +139,10 @@ fn more_parts(
     parts: &mut Vec<PathExpr>,
 ) -> Result<(), SpecError>
     ensures end { cursor.new.end ≡ cursor.old.end }
-    ensures read { IfOk result (λ _. more_at joint cursor.old.end room parts.old.items cursor.old.rest.now ≡ Ok (parts.new.items, cursor.new.rest.now)) }
-    ensures fault { IfErr result (λ e. e ≢ Memory → more_at joint cursor.old.end room parts.old.items cursor.old.rest.now ≡ Err e) }
+    ensures read { IfOk result (λ _. more_at joint cursor.old.end room parts.old.items
+        cursor.old.rest.now ≡ Ok (parts.new.items, cursor.new.rest.now)) }
+    ensures fault { IfErr result (λ e. e ≢ Memory →
+        more_at joint cursor.old.end room parts.old.items cursor.old.rest.now ≡ Err e) }
     ensures left { OnOk result (length cursor.new.rest.now ≤ length cursor.old.rest.now) }
 {
     while is_joined(cursor, joint) {
@@ -154,8 +166,10 @@ fn is_joined(cursor: &Cursor, joint: Joint) -> bool
 #[tactic(auto, unfolding(crate::specs::ReadPaths::read_joint))]
 fn join(cursor: &mut Cursor, joint: Joint) -> Result<(), SpecError>
     ensures end { cursor.new.end ≡ cursor.old.end }
-    ensures read { IfOk result (λ _. read_joint joint cursor.old.end cursor.old.rest.now ≡ Ok (tt, cursor.new.rest.now)) }
-    ensures fault { IfErr result (λ e. read_joint joint cursor.old.end cursor.old.rest.now ≡ Err e) }
+    ensures read { IfOk result (λ _. read_joint joint cursor.old.end cursor.old.rest.now
+        ≡ Ok (tt, cursor.new.rest.now)) }
+    ensures fault { IfErr result (λ e. read_joint joint cursor.old.end cursor.old.rest.now
+        ≡ Err e) }
     ensures left { OnOk result (length cursor.new.rest.now ≤ length cursor.old.rest.now) }
 {
     match joint {
@@ -194,8 +208,10 @@ fn is_at_path(cursor: &Cursor) -> bool
 #[cycle(path)]
 fn negation(alloc: Global, cursor: &mut Cursor, room: usize) -> Result<PathExpr, SpecError>
     ensures end { cursor.new.end ≡ cursor.old.end }
-    ensures read { IfOk result (λ path. negation_at cursor.old.end room cursor.old.rest.now ≡ Ok (path, cursor.new.rest.now)) }
-    ensures fault { IfErr result (λ e. e ≢ Memory → negation_at cursor.old.end room cursor.old.rest.now ≡ Err e) }
+    ensures read { IfOk result (λ path. negation_at cursor.old.end room cursor.old.rest.now
+        ≡ Ok (path, cursor.new.rest.now)) }
+    ensures fault { IfErr result (λ e. e ≢ Memory →
+        negation_at cursor.old.end room cursor.old.rest.now ≡ Err e) }
     ensures less { OnOk result (length cursor.new.rest.now < length cursor.old.rest.now) }
 {
     if !cursor.take_mark(b'!') {
@@ -210,8 +226,10 @@ fn negation(alloc: Global, cursor: &mut Cursor, room: usize) -> Result<PathExpr,
 #[cycle(path)]
 fn postfixed(alloc: Global, cursor: &mut Cursor, room: usize) -> Result<PathExpr, SpecError>
     ensures end { cursor.new.end ≡ cursor.old.end }
-    ensures read { IfOk result (λ path. postfixed_at cursor.old.end room cursor.old.rest.now ≡ Ok (path, cursor.new.rest.now)) }
-    ensures fault { IfErr result (λ e. e ≢ Memory → postfixed_at cursor.old.end room cursor.old.rest.now ≡ Err e) }
+    ensures read { IfOk result (λ path. postfixed_at cursor.old.end room cursor.old.rest.now
+        ≡ Ok (path, cursor.new.rest.now)) }
+    ensures fault { IfErr result (λ e. e ≢ Memory →
+        postfixed_at cursor.old.end room cursor.old.rest.now ≡ Err e) }
     ensures less { OnOk result (length cursor.new.rest.now < length cursor.old.rest.now) }
 {
     let part = atom(alloc, cursor, room)?;
@@ -224,8 +242,10 @@ fn postfixed(alloc: Global, cursor: &mut Cursor, room: usize) -> Result<PathExpr
 #[cycle(path)]
 fn atom(alloc: Global, cursor: &mut Cursor, room: usize) -> Result<PathExpr, SpecError>
     ensures end { cursor.new.end ≡ cursor.old.end }
-    ensures read { IfOk result (λ path. atom_at cursor.old.end room cursor.old.rest.now ≡ Ok (path, cursor.new.rest.now)) }
-    ensures fault { IfErr result (λ e. e ≢ Memory → atom_at cursor.old.end room cursor.old.rest.now ≡ Err e) }
+    ensures read { IfOk result (λ path. atom_at cursor.old.end room cursor.old.rest.now
+        ≡ Ok (path, cursor.new.rest.now)) }
+    ensures fault { IfErr result (λ e. e ≢ Memory →
+        atom_at cursor.old.end room cursor.old.rest.now ≡ Err e) }
     ensures less { OnOk result (length cursor.new.rest.now < length cursor.old.rest.now) }
 {
     if cursor.take_mark(b'.') {
@@ -250,8 +270,10 @@ fn atom(alloc: Global, cursor: &mut Cursor, room: usize) -> Result<PathExpr, Spe
 #[cycle(path)]
 fn group(alloc: Global, cursor: &mut Cursor, room: usize) -> Result<PathExpr, SpecError>
     ensures end { cursor.new.end ≡ cursor.old.end }
-    ensures read { IfOk result (λ path. group_at cursor.old.end room cursor.old.rest.now ≡ Ok (path, cursor.new.rest.now)) }
-    ensures fault { IfErr result (λ e. e ≢ Memory → group_at cursor.old.end room cursor.old.rest.now ≡ Err e) }
+    ensures read { IfOk result (λ path. group_at cursor.old.end room cursor.old.rest.now
+        ≡ Ok (path, cursor.new.rest.now)) }
+    ensures fault { IfErr result (λ e. e ≢ Memory →
+        group_at cursor.old.end room cursor.old.rest.now ≡ Err e) }
     ensures less { OnOk result (length cursor.new.rest.now < length cursor.old.rest.now) }
 {
     let inner = cursor.open(b'(', room)?;

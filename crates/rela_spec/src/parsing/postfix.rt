@@ -34,8 +34,10 @@ pub(crate) fn postfix(
     part: PathExpr,
 ) -> Result<PathExpr, SpecError>
     ensures end { cursor.new.end ≡ cursor.old.end }
-    ensures read { IfOk result (λ path. read_postfix cursor.old.end room part cursor.old.rest.now ≡ Ok (path, cursor.new.rest.now)) }
-    ensures fault { IfErr result (λ e. e ≢ Memory → read_postfix cursor.old.end room part cursor.old.rest.now ≡ Err e) }
+    ensures read { IfOk result (λ path. read_postfix cursor.old.end room part cursor.old.rest.now
+        ≡ Ok (path, cursor.new.rest.now)) }
+    ensures fault { IfErr result (λ e. e ≢ Memory →
+        read_postfix cursor.old.end room part cursor.old.rest.now ≡ Err e) }
     ensures left { OnOk result (length cursor.new.rest.now ≤ length cursor.old.rest.now) }
 {
     let (part, repetition) = repetition_behind(cursor, room, part)?;
@@ -51,8 +53,13 @@ fn repetition_behind<T: Drop>(
 ) -> Result<(T, Option<Repetition>), SpecError>
     ensures end { cursor.new.end ≡ cursor.old.end }
     ensures same { IfOk result (λ both. both.0 ≡ before) }
-    ensures read { IfOk result (λ both. (part : PathExpr) → read_postfix cursor.old.end room part cursor.old.rest.now ≡ Ok (repeated both.1 part, cursor.new.rest.now)) }
-    ensures fault { IfErr result (λ e. (part : PathExpr) → read_postfix cursor.old.end room part cursor.old.rest.now ≡ Err e) }
+    ensures read { IfOk result (λ both. (part : PathExpr) →
+        read_postfix cursor.old.end room part cursor.old.rest.now ≡ Ok (
+          repeated both.1 part,
+          cursor.new.rest.now,
+        )) }
+    ensures fault { IfErr result (λ e. (part : PathExpr) →
+        read_postfix cursor.old.end room part cursor.old.rest.now ≡ Err e) }
     ensures left { OnOk result (length cursor.new.rest.now ≤ length cursor.old.rest.now) }
 {
     let repetition = next_repetition(cursor, room)?;
@@ -63,8 +70,13 @@ fn repetition_behind<T: Drop>(
 #[tactic(auto, unfolding(crate::specs::ReadPaths::read_postfix))]
 fn next_repetition(cursor: &mut Cursor, room: usize) -> Result<Option<Repetition>, SpecError>
     ensures end { cursor.new.end ≡ cursor.old.end }
-    ensures read { IfOk result (λ found. (part : PathExpr) → read_postfix cursor.old.end room part cursor.old.rest.now ≡ Ok (repeated found part, cursor.new.rest.now)) }
-    ensures fault { IfErr result (λ e. (part : PathExpr) → read_postfix cursor.old.end room part cursor.old.rest.now ≡ Err e) }
+    ensures read { IfOk result (λ found. (part : PathExpr) →
+        read_postfix cursor.old.end room part cursor.old.rest.now ≡ Ok (
+          repeated found part,
+          cursor.new.rest.now,
+        )) }
+    ensures fault { IfErr result (λ e. (part : PathExpr) →
+        read_postfix cursor.old.end room part cursor.old.rest.now ≡ Err e) }
     ensures left { OnOk result (length cursor.new.rest.now ≤ length cursor.old.rest.now) }
 {
     if cursor.take_mark(b'*') {
@@ -106,7 +118,8 @@ fn repeated(
 #[tactic(auto, unfolding(crate::specs::ReadPaths::read_times))]
 fn times(cursor: &mut Cursor, room: usize) -> Result<u32, SpecError>
     ensures end { cursor.new.end ≡ cursor.old.end }
-    ensures read { IfOk result (λ n. read_times cursor.old.end room cursor.old.rest.now ≡ Ok (n, cursor.new.rest.now)) }
+    ensures read { IfOk result (λ n. read_times cursor.old.end room cursor.old.rest.now
+        ≡ Ok (n, cursor.new.rest.now)) }
     ensures fault { IfErr result (λ e. read_times cursor.old.end room cursor.old.rest.now ≡ Err e) }
     ensures less { OnOk result (length cursor.new.rest.now < length cursor.old.rest.now) }
 {

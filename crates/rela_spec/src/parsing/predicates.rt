@@ -31,8 +31,10 @@ pub(crate) fn predicate(
     room: usize,
 ) -> Result<Predicate, SpecError>
     ensures end { cursor.new.end ≡ cursor.old.end }
-    ensures read { IfOk result (λ p. read_predicate cursor.old.end room cursor.old.rest.now ≡ Ok (p, cursor.new.rest.now)) }
-    ensures fault { IfErr result (λ e. e ≢ Memory → read_predicate cursor.old.end room cursor.old.rest.now ≡ Err e) }
+    ensures read { IfOk result (λ p. read_predicate cursor.old.end room cursor.old.rest.now
+        ≡ Ok (p, cursor.new.rest.now)) }
+    ensures fault { IfErr result (λ e. e ≢ Memory →
+        read_predicate cursor.old.end room cursor.old.rest.now ≡ Err e) }
     ensures less { OnOk result (length cursor.new.rest.now < length cursor.old.rest.now) }
     ensures depth { IfOk result (λ p. depth p ≤ 3 * room + 4) }
 {
@@ -49,8 +51,10 @@ fn chain(
     room: usize,
 ) -> Result<Predicate, SpecError>
     ensures end { cursor.new.end ≡ cursor.old.end }
-    ensures read { IfOk result (λ p. chain_at joint cursor.old.end room cursor.old.rest.now ≡ Ok (p, cursor.new.rest.now)) }
-    ensures fault { IfErr result (λ e. e ≢ Memory → chain_at joint cursor.old.end room cursor.old.rest.now ≡ Err e) }
+    ensures read { IfOk result (λ p. chain_at joint cursor.old.end room cursor.old.rest.now
+        ≡ Ok (p, cursor.new.rest.now)) }
+    ensures fault { IfErr result (λ e. e ≢ Memory →
+        chain_at joint cursor.old.end room cursor.old.rest.now ≡ Err e) }
     ensures less { OnOk result (length cursor.new.rest.now < length cursor.old.rest.now) }
     ensures depth { IfOk result (λ p. depth p ≤ 3 * room + (within joint + 1)) }
 {
@@ -75,8 +79,10 @@ fn part(
     room: usize,
 ) -> Result<Predicate, SpecError>
     ensures end { cursor.new.end ≡ cursor.old.end }
-    ensures read { IfOk result (λ p. part_at joint cursor.old.end room cursor.old.rest.now ≡ Ok (p, cursor.new.rest.now)) }
-    ensures fault { IfErr result (λ e. e ≢ Memory → part_at joint cursor.old.end room cursor.old.rest.now ≡ Err e) }
+    ensures read { IfOk result (λ p. part_at joint cursor.old.end room cursor.old.rest.now
+        ≡ Ok (p, cursor.new.rest.now)) }
+    ensures fault { IfErr result (λ e. e ≢ Memory →
+        part_at joint cursor.old.end room cursor.old.rest.now ≡ Err e) }
     ensures less { OnOk result (length cursor.new.rest.now < length cursor.old.rest.now) }
     ensures depth { IfOk result (λ p. depth p ≤ 3 * room + within joint) }
 {
@@ -96,8 +102,10 @@ fn next_part(
     room: usize,
 ) -> Result<Predicate, SpecError>
     ensures end { cursor.new.end ≡ cursor.old.end }
-    ensures read { IfOk result (λ p. next_at joint cursor.old.end room cursor.old.rest.now ≡ Ok (p, cursor.new.rest.now)) }
-    ensures fault { IfErr result (λ e. e ≢ Memory → next_at joint cursor.old.end room cursor.old.rest.now ≡ Err e) }
+    ensures read { IfOk result (λ p. next_at joint cursor.old.end room cursor.old.rest.now
+        ≡ Ok (p, cursor.new.rest.now)) }
+    ensures fault { IfErr result (λ e. e ≢ Memory →
+        next_at joint cursor.old.end room cursor.old.rest.now ≡ Err e) }
     ensures less { OnOk result (length cursor.new.rest.now < length cursor.old.rest.now) }
     ensures depth { IfOk result (λ p. depth p ≤ 3 * room + within joint) }
 {
@@ -117,8 +125,10 @@ fn more_parts(
 ) -> Result<(), SpecError>
     requires { greatest (map depth parts.old.items) ≤ 3 * room + within joint }
     ensures end { cursor.new.end ≡ cursor.old.end }
-    ensures read { IfOk result (λ _. more_at joint cursor.old.end room parts.old.items cursor.old.rest.now ≡ Ok (parts.new.items, cursor.new.rest.now)) }
-    ensures fault { IfErr result (λ e. e ≢ Memory → more_at joint cursor.old.end room parts.old.items cursor.old.rest.now ≡ Err e) }
+    ensures read { IfOk result (λ _. more_at joint cursor.old.end room parts.old.items
+        cursor.old.rest.now ≡ Ok (parts.new.items, cursor.new.rest.now)) }
+    ensures fault { IfErr result (λ e. e ≢ Memory →
+        more_at joint cursor.old.end room parts.old.items cursor.old.rest.now ≡ Err e) }
     ensures left { OnOk result (length cursor.new.rest.now ≤ length cursor.old.rest.now) }
     ensures depth { OnOk result (greatest (map depth parts.new.items) ≤ 3 * room + within joint) }
 {
@@ -141,8 +151,10 @@ fn is_joined(cursor: &Cursor, joint: Joint) -> bool
 /// Goes past the word that joins the next part, which has to come next.
 fn join(cursor: &mut Cursor, joint: Joint) -> Result<(), SpecError>
     ensures end { cursor.new.end ≡ cursor.old.end }
-    ensures read { IfOk result (λ _. read_word cursor.old.end (between joint) cursor.old.rest.now ≡ Ok (tt, cursor.new.rest.now)) }
-    ensures fault { IfErr result (λ e. read_word cursor.old.end (between joint) cursor.old.rest.now ≡ Err e) }
+    ensures read { IfOk result (λ _. read_word cursor.old.end (between joint) cursor.old.rest.now
+        ≡ Ok (tt, cursor.new.rest.now)) }
+    ensures fault { IfErr result (λ e. read_word cursor.old.end (between joint) cursor.old.rest.now
+        ≡ Err e) }
     ensures less { OnOk result (length cursor.new.rest.now < length cursor.old.rest.now) }
 {
     match joint {
@@ -168,8 +180,10 @@ fn joined(joint: Joint, parts: List<Predicate>) -> Predicate
 #[cycle(predicate)]
 fn denial(alloc: Global, cursor: &mut Cursor, room: usize) -> Result<Predicate, SpecError>
     ensures end { cursor.new.end ≡ cursor.old.end }
-    ensures read { IfOk result (λ p. denial_at cursor.old.end room cursor.old.rest.now ≡ Ok (p, cursor.new.rest.now)) }
-    ensures fault { IfErr result (λ e. e ≢ Memory → denial_at cursor.old.end room cursor.old.rest.now ≡ Err e) }
+    ensures read { IfOk result (λ p. denial_at cursor.old.end room cursor.old.rest.now
+        ≡ Ok (p, cursor.new.rest.now)) }
+    ensures fault { IfErr result (λ e. e ≢ Memory →
+        denial_at cursor.old.end room cursor.old.rest.now ≡ Err e) }
     ensures less { OnOk result (length cursor.new.rest.now < length cursor.old.rest.now) }
     ensures depth { IfOk result (λ p. depth p ≤ 3 * room + 2) }
 {
@@ -185,8 +199,10 @@ fn denial(alloc: Global, cursor: &mut Cursor, room: usize) -> Result<Predicate, 
 #[cycle(predicate)]
 fn single(alloc: Global, cursor: &mut Cursor, room: usize) -> Result<Predicate, SpecError>
     ensures end { cursor.new.end ≡ cursor.old.end }
-    ensures read { IfOk result (λ p. single_at cursor.old.end room cursor.old.rest.now ≡ Ok (p, cursor.new.rest.now)) }
-    ensures fault { IfErr result (λ e. e ≢ Memory → single_at cursor.old.end room cursor.old.rest.now ≡ Err e) }
+    ensures read { IfOk result (λ p. single_at cursor.old.end room cursor.old.rest.now
+        ≡ Ok (p, cursor.new.rest.now)) }
+    ensures fault { IfErr result (λ e. e ≢ Memory →
+        single_at cursor.old.end room cursor.old.rest.now ≡ Err e) }
     ensures less { OnOk result (length cursor.new.rest.now < length cursor.old.rest.now) }
     ensures depth { IfOk result (λ p. depth p ≤ 3 * room + 1) }
 {
@@ -201,8 +217,10 @@ fn single(alloc: Global, cursor: &mut Cursor, room: usize) -> Result<Predicate, 
 #[cycle(predicate)]
 fn group(alloc: Global, cursor: &mut Cursor, room: usize) -> Result<Predicate, SpecError>
     ensures end { cursor.new.end ≡ cursor.old.end }
-    ensures read { IfOk result (λ p. group_at cursor.old.end room cursor.old.rest.now ≡ Ok (p, cursor.new.rest.now)) }
-    ensures fault { IfErr result (λ e. e ≢ Memory → group_at cursor.old.end room cursor.old.rest.now ≡ Err e) }
+    ensures read { IfOk result (λ p. group_at cursor.old.end room cursor.old.rest.now
+        ≡ Ok (p, cursor.new.rest.now)) }
+    ensures fault { IfErr result (λ e. e ≢ Memory →
+        group_at cursor.old.end room cursor.old.rest.now ≡ Err e) }
     ensures less { OnOk result (length cursor.new.rest.now < length cursor.old.rest.now) }
     ensures depth { IfOk result (λ p. depth p ≤ 3 * room + 1) }
 {
@@ -215,8 +233,10 @@ fn group(alloc: Global, cursor: &mut Cursor, room: usize) -> Result<Predicate, S
 #[tactic(auto, unfolding(crate::specs::ReadPredicates::read_test), using(crate::proofs::Depths::depth_all, crate::proofs::Depths::depth_flow, crate::proofs::Depths::depth_class))]
 fn test(alloc: Global, cursor: &mut Cursor) -> Result<Predicate, SpecError>
     ensures end { cursor.new.end ≡ cursor.old.end }
-    ensures read { IfOk result (λ p. read_test cursor.old.end cursor.old.rest.now ≡ Ok (p, cursor.new.rest.now)) }
-    ensures fault { IfErr result (λ e. e ≢ Memory → read_test cursor.old.end cursor.old.rest.now ≡ Err e) }
+    ensures read { IfOk result (λ p. read_test cursor.old.end cursor.old.rest.now
+        ≡ Ok (p, cursor.new.rest.now)) }
+    ensures fault { IfErr result (λ e. e ≢ Memory →
+        read_test cursor.old.end cursor.old.rest.now ≡ Err e) }
     ensures less { OnOk result (length cursor.new.rest.now < length cursor.old.rest.now) }
     ensures depth { IfOk result (λ p. depth p ≤ 1) }
 {
@@ -240,8 +260,10 @@ fn test(alloc: Global, cursor: &mut Cursor) -> Result<Predicate, SpecError>
 #[tactic(auto, unfolding(crate::specs::ReadPredicates::read_destination), using(crate::proofs::Depths::depth_dst_in, crate::proofs::Depths::depth_dst_overlaps))]
 fn destination(cursor: &mut Cursor) -> Result<Predicate, SpecError>
     ensures end { cursor.new.end ≡ cursor.old.end }
-    ensures read { IfOk result (λ p. read_destination cursor.old.end cursor.old.rest.now ≡ Ok (p, cursor.new.rest.now)) }
-    ensures fault { IfErr result (λ e. read_destination cursor.old.end cursor.old.rest.now ≡ Err e) }
+    ensures read { IfOk result (λ p. read_destination cursor.old.end cursor.old.rest.now
+        ≡ Ok (p, cursor.new.rest.now)) }
+    ensures fault { IfErr result (λ e. read_destination cursor.old.end cursor.old.rest.now
+        ≡ Err e) }
     ensures less { OnOk result (length cursor.new.rest.now < length cursor.old.rest.now) }
     ensures depth { IfOk result (λ p. depth p ≤ 1) }
 {
@@ -256,7 +278,8 @@ fn destination(cursor: &mut Cursor) -> Result<Predicate, SpecError>
 #[tactic(auto, unfolding(crate::specs::ReadPredicates::read_source), using(crate::proofs::Depths::depth_src_in, crate::proofs::Depths::depth_src_overlaps))]
 fn source(cursor: &mut Cursor) -> Result<Predicate, SpecError>
     ensures end { cursor.new.end ≡ cursor.old.end }
-    ensures read { IfOk result (λ p. read_source cursor.old.end cursor.old.rest.now ≡ Ok (p, cursor.new.rest.now)) }
+    ensures read { IfOk result (λ p. read_source cursor.old.end cursor.old.rest.now
+        ≡ Ok (p, cursor.new.rest.now)) }
     ensures fault { IfErr result (λ e. read_source cursor.old.end cursor.old.rest.now ≡ Err e) }
     ensures less { OnOk result (length cursor.new.rest.now < length cursor.old.rest.now) }
     ensures depth { IfOk result (λ p. depth p ≤ 1) }

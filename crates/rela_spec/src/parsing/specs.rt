@@ -27,8 +27,10 @@ enum Joint {
 #[cycle(spec)]
 pub(crate) fn body(alloc: Global, cursor: &mut Cursor, room: usize) -> Result<SpecExpr, SpecError>
     ensures end { cursor.new.end ≡ cursor.old.end }
-    ensures read { IfOk result (λ spec. read_body cursor.old.end room cursor.old.rest.now ≡ Ok (spec, cursor.new.rest.now)) }
-    ensures fault { IfErr result (λ e. e ≢ Memory → read_body cursor.old.end room cursor.old.rest.now ≡ Err e) }
+    ensures read { IfOk result (λ spec. read_body cursor.old.end room cursor.old.rest.now
+        ≡ Ok (spec, cursor.new.rest.now)) }
+    ensures fault { IfErr result (λ e. e ≢ Memory →
+        read_body cursor.old.end room cursor.old.rest.now ≡ Err e) }
     ensures less { OnOk result (length cursor.new.rest.now < length cursor.old.rest.now) }
 {
     chain(alloc, cursor, Joint::Else, room)
@@ -44,8 +46,10 @@ pub(crate) fn body_behind<T: Drop>(
 ) -> Result<(T, SpecExpr), SpecError>
     ensures end { cursor.new.end ≡ cursor.old.end }
     ensures same { IfOk result (λ both. both.0 ≡ before) }
-    ensures read { IfOk result (λ both. read_body cursor.old.end room cursor.old.rest.now ≡ Ok (both.1, cursor.new.rest.now)) }
-    ensures fault { IfErr result (λ e. e ≢ Memory → read_body cursor.old.end room cursor.old.rest.now ≡ Err e) }
+    ensures read { IfOk result (λ both. read_body cursor.old.end room cursor.old.rest.now
+        ≡ Ok (both.1, cursor.new.rest.now)) }
+    ensures fault { IfErr result (λ e. e ≢ Memory →
+        read_body cursor.old.end room cursor.old.rest.now ≡ Err e) }
     ensures less { OnOk result (length cursor.new.rest.now < length cursor.old.rest.now) }
 {
     let spec = body(alloc, cursor, room)?;
@@ -61,8 +65,10 @@ fn chain(
     room: usize,
 ) -> Result<SpecExpr, SpecError>
     ensures end { cursor.new.end ≡ cursor.old.end }
-    ensures read { IfOk result (λ spec. chain_at joint cursor.old.end room cursor.old.rest.now ≡ Ok (spec, cursor.new.rest.now)) }
-    ensures fault { IfErr result (λ e. e ≢ Memory → chain_at joint cursor.old.end room cursor.old.rest.now ≡ Err e) }
+    ensures read { IfOk result (λ spec. chain_at joint cursor.old.end room cursor.old.rest.now
+        ≡ Ok (spec, cursor.new.rest.now)) }
+    ensures fault { IfErr result (λ e. e ≢ Memory →
+        chain_at joint cursor.old.end room cursor.old.rest.now ≡ Err e) }
     ensures less { OnOk result (length cursor.new.rest.now < length cursor.old.rest.now) }
 {
     let first = part(alloc, cursor, joint, room)?;
@@ -85,8 +91,10 @@ fn part(
     room: usize,
 ) -> Result<SpecExpr, SpecError>
     ensures end { cursor.new.end ≡ cursor.old.end }
-    ensures read { IfOk result (λ spec. part_at joint cursor.old.end room cursor.old.rest.now ≡ Ok (spec, cursor.new.rest.now)) }
-    ensures fault { IfErr result (λ e. e ≢ Memory → part_at joint cursor.old.end room cursor.old.rest.now ≡ Err e) }
+    ensures read { IfOk result (λ spec. part_at joint cursor.old.end room cursor.old.rest.now
+        ≡ Ok (spec, cursor.new.rest.now)) }
+    ensures fault { IfErr result (λ e. e ≢ Memory →
+        part_at joint cursor.old.end room cursor.old.rest.now ≡ Err e) }
     ensures less { OnOk result (length cursor.new.rest.now < length cursor.old.rest.now) }
 {
     match joint {
@@ -105,8 +113,10 @@ fn next_part(
     room: usize,
 ) -> Result<SpecExpr, SpecError>
     ensures end { cursor.new.end ≡ cursor.old.end }
-    ensures read { IfOk result (λ spec. next_at joint cursor.old.end room cursor.old.rest.now ≡ Ok (spec, cursor.new.rest.now)) }
-    ensures fault { IfErr result (λ e. e ≢ Memory → next_at joint cursor.old.end room cursor.old.rest.now ≡ Err e) }
+    ensures read { IfOk result (λ spec. next_at joint cursor.old.end room cursor.old.rest.now
+        ≡ Ok (spec, cursor.new.rest.now)) }
+    ensures fault { IfErr result (λ e. e ≢ Memory →
+        next_at joint cursor.old.end room cursor.old.rest.now ≡ Err e) }
     ensures less { OnOk result (length cursor.new.rest.now < length cursor.old.rest.now) }
 {
     join(cursor, joint)?;
@@ -124,8 +134,10 @@ fn more_parts(
     parts: &mut Vec<SpecExpr>,
 ) -> Result<(), SpecError>
     ensures end { cursor.new.end ≡ cursor.old.end }
-    ensures read { IfOk result (λ _. more_at joint cursor.old.end room parts.old.items cursor.old.rest.now ≡ Ok (parts.new.items, cursor.new.rest.now)) }
-    ensures fault { IfErr result (λ e. e ≢ Memory → more_at joint cursor.old.end room parts.old.items cursor.old.rest.now ≡ Err e) }
+    ensures read { IfOk result (λ _. more_at joint cursor.old.end room parts.old.items
+        cursor.old.rest.now ≡ Ok (parts.new.items, cursor.new.rest.now)) }
+    ensures fault { IfErr result (λ e. e ≢ Memory →
+        more_at joint cursor.old.end room parts.old.items cursor.old.rest.now ≡ Err e) }
     ensures left { OnOk result (length cursor.new.rest.now ≤ length cursor.old.rest.now) }
 {
     while is_joined(cursor, joint) {
@@ -147,8 +159,10 @@ fn is_joined(cursor: &Cursor, joint: Joint) -> bool
 /// Goes past the word that joins the next part, which has to come next.
 fn join(cursor: &mut Cursor, joint: Joint) -> Result<(), SpecError>
     ensures end { cursor.new.end ≡ cursor.old.end }
-    ensures read { IfOk result (λ _. read_word cursor.old.end (between joint) cursor.old.rest.now ≡ Ok (tt, cursor.new.rest.now)) }
-    ensures fault { IfErr result (λ e. read_word cursor.old.end (between joint) cursor.old.rest.now ≡ Err e) }
+    ensures read { IfOk result (λ _. read_word cursor.old.end (between joint) cursor.old.rest.now
+        ≡ Ok (tt, cursor.new.rest.now)) }
+    ensures fault { IfErr result (λ e. read_word cursor.old.end (between joint) cursor.old.rest.now
+        ≡ Err e) }
     ensures less { OnOk result (length cursor.new.rest.now < length cursor.old.rest.now) }
 {
     match joint {
@@ -172,8 +186,10 @@ fn joined(joint: Joint, parts: List<SpecExpr>) -> SpecExpr
 #[cycle(spec)]
 fn single(alloc: Global, cursor: &mut Cursor, room: usize) -> Result<SpecExpr, SpecError>
     ensures end { cursor.new.end ≡ cursor.old.end }
-    ensures read { IfOk result (λ spec. single_at cursor.old.end room cursor.old.rest.now ≡ Ok (spec, cursor.new.rest.now)) }
-    ensures fault { IfErr result (λ e. e ≢ Memory → single_at cursor.old.end room cursor.old.rest.now ≡ Err e) }
+    ensures read { IfOk result (λ spec. single_at cursor.old.end room cursor.old.rest.now
+        ≡ Ok (spec, cursor.new.rest.now)) }
+    ensures fault { IfErr result (λ e. e ≢ Memory →
+        single_at cursor.old.end room cursor.old.rest.now ≡ Err e) }
     ensures less { OnOk result (length cursor.new.rest.now < length cursor.old.rest.now) }
 {
     if cursor.is_at_reference() {
@@ -192,8 +208,10 @@ fn single(alloc: Global, cursor: &mut Cursor, room: usize) -> Result<SpecExpr, S
 #[cycle(spec)]
 fn group(alloc: Global, cursor: &mut Cursor, room: usize) -> Result<SpecExpr, SpecError>
     ensures end { cursor.new.end ≡ cursor.old.end }
-    ensures read { IfOk result (λ spec. group_at cursor.old.end room cursor.old.rest.now ≡ Ok (spec, cursor.new.rest.now)) }
-    ensures fault { IfErr result (λ e. e ≢ Memory → group_at cursor.old.end room cursor.old.rest.now ≡ Err e) }
+    ensures read { IfOk result (λ spec. group_at cursor.old.end room cursor.old.rest.now
+        ≡ Ok (spec, cursor.new.rest.now)) }
+    ensures fault { IfErr result (λ e. e ≢ Memory →
+        group_at cursor.old.end room cursor.old.rest.now ≡ Err e) }
     ensures less { OnOk result (length cursor.new.rest.now < length cursor.old.rest.now) }
 {
     let inner = cursor.open(b'(', room)?;
@@ -205,8 +223,10 @@ fn group(alloc: Global, cursor: &mut Cursor, room: usize) -> Result<SpecExpr, Sp
 #[tactic(auto, unfolding(crate::specs::ReadSpecs::read_unit))]
 fn unit(alloc: Global, cursor: &mut Cursor, room: usize) -> Result<SpecExpr, SpecError>
     ensures end { cursor.new.end ≡ cursor.old.end }
-    ensures read { IfOk result (λ spec. read_unit cursor.old.end room cursor.old.rest.now ≡ Ok (spec, cursor.new.rest.now)) }
-    ensures fault { IfErr result (λ e. e ≢ Memory → read_unit cursor.old.end room cursor.old.rest.now ≡ Err e) }
+    ensures read { IfOk result (λ spec. read_unit cursor.old.end room cursor.old.rest.now
+        ≡ Ok (spec, cursor.new.rest.now)) }
+    ensures fault { IfErr result (λ e. e ≢ Memory →
+        read_unit cursor.old.end room cursor.old.rest.now ≡ Err e) }
     ensures less { OnOk result (length cursor.new.rest.now < length cursor.old.rest.now) }
 {
     let inner = cursor.open(b'{', room)?;
@@ -227,8 +247,10 @@ fn change_behind<T: Drop>(
 ) -> Result<(T, Modifier<PathExpr>), SpecError>
     ensures end { cursor.new.end ≡ cursor.old.end }
     ensures same { IfOk result (λ both. both.0 ≡ before) }
-    ensures read { IfOk result (λ both. read_change cursor.old.end room cursor.old.rest.now ≡ Ok (both.1, cursor.new.rest.now)) }
-    ensures fault { IfErr result (λ e. e ≢ Memory → read_change cursor.old.end room cursor.old.rest.now ≡ Err e) }
+    ensures read { IfOk result (λ both. read_change cursor.old.end room cursor.old.rest.now
+        ≡ Ok (both.1, cursor.new.rest.now)) }
+    ensures fault { IfErr result (λ e. e ≢ Memory →
+        read_change cursor.old.end room cursor.old.rest.now ≡ Err e) }
     ensures less { OnOk result (length cursor.new.rest.now < length cursor.old.rest.now) }
 {
     let modifier = change(alloc, cursor, room)?;
@@ -239,8 +261,10 @@ fn change_behind<T: Drop>(
 #[tactic(auto, unfolding(crate::specs::ReadSpecs::read_change))]
 fn change(alloc: Global, cursor: &mut Cursor, room: usize) -> Result<Modifier<PathExpr>, SpecError>
     ensures end { cursor.new.end ≡ cursor.old.end }
-    ensures read { IfOk result (λ modifier. read_change cursor.old.end room cursor.old.rest.now ≡ Ok (modifier, cursor.new.rest.now)) }
-    ensures fault { IfErr result (λ e. e ≢ Memory → read_change cursor.old.end room cursor.old.rest.now ≡ Err e) }
+    ensures read { IfOk result (λ modifier. read_change cursor.old.end room cursor.old.rest.now
+        ≡ Ok (modifier, cursor.new.rest.now)) }
+    ensures fault { IfErr result (λ e. e ≢ Memory →
+        read_change cursor.old.end room cursor.old.rest.now ≡ Err e) }
     ensures less { OnOk result (length cursor.new.rest.now < length cursor.old.rest.now) }
 {
     if cursor.take_word(b"preserve") {
@@ -269,8 +293,10 @@ fn change(alloc: Global, cursor: &mut Cursor, room: usize) -> Result<Modifier<Pa
 #[tactic(auto, unfolding(crate::specs::ReadSpecs::read_argument))]
 fn argument(alloc: Global, cursor: &mut Cursor, room: usize) -> Result<PathExpr, SpecError>
     ensures end { cursor.new.end ≡ cursor.old.end }
-    ensures read { IfOk result (λ path. read_argument cursor.old.end room cursor.old.rest.now ≡ Ok (path, cursor.new.rest.now)) }
-    ensures fault { IfErr result (λ e. e ≢ Memory → read_argument cursor.old.end room cursor.old.rest.now ≡ Err e) }
+    ensures read { IfOk result (λ path. read_argument cursor.old.end room cursor.old.rest.now
+        ≡ Ok (path, cursor.new.rest.now)) }
+    ensures fault { IfErr result (λ e. e ≢ Memory →
+        read_argument cursor.old.end room cursor.old.rest.now ≡ Err e) }
     ensures less { OnOk result (length cursor.new.rest.now < length cursor.old.rest.now) }
 {
     let inner = cursor.open(b'(', room)?;
@@ -286,8 +312,10 @@ fn replacement(
     room: usize,
 ) -> Result<Modifier<PathExpr>, SpecError>
     ensures end { cursor.new.end ≡ cursor.old.end }
-    ensures read { IfOk result (λ modifier. read_replacement cursor.old.end room cursor.old.rest.now ≡ Ok (modifier, cursor.new.rest.now)) }
-    ensures fault { IfErr result (λ e. e ≢ Memory → read_replacement cursor.old.end room cursor.old.rest.now ≡ Err e) }
+    ensures read { IfOk result (λ modifier. read_replacement cursor.old.end room cursor.old.rest.now
+        ≡ Ok (modifier, cursor.new.rest.now)) }
+    ensures fault { IfErr result (λ e. e ≢ Memory →
+        read_replacement cursor.old.end room cursor.old.rest.now ≡ Err e) }
     ensures less { OnOk result (length cursor.new.rest.now < length cursor.old.rest.now) }
 {
     let inner = cursor.open(b'(', room)?;

@@ -18,7 +18,8 @@ pub(super) fn zone_of_unit(
     modifier: &Change,
     alphabet: &Alphabet,
 ) -> Result<PathTerm, AllocError>
-    ensures { IfOk result (λ t. t ≡ (unit_terms (length alphabet.now) (path_of zone.now) modifier.now).zone) }
+    ensures { IfOk result (λ t. t ≡ (unit_terms (length alphabet.now) (path_of zone.now)
+        modifier.now).zone) }
 {
     match modifier {
         Change::Preserve | Change::Remove(_) | Change::Ignore(_) => path_of(alloc, zone),
@@ -37,7 +38,8 @@ pub(super) fn before_of_unit(
     alphabet: &Alphabet,
 ) -> Result<RelTerm, AllocError>
     requires { All IsMarker (change_markers modifier.now) }
-    ensures { IfOk result (λ r. r ≡ (unit_terms (length alphabet.now) (path_of zone.now) modifier.now).before) }
+    ensures { IfOk result (λ r. r ≡ (unit_terms (length alphabet.now) (path_of zone.now)
+        modifier.now).before) }
 {
     match modifier {
         Change::Preserve => RelTerm::identity(alloc, path_of(alloc, zone)?),
@@ -62,7 +64,8 @@ pub(super) fn after_of_unit(
     alphabet: &Alphabet,
 ) -> Result<RelTerm, AllocError>
     requires { All IsMarker (change_markers modifier.now) }
-    ensures { IfOk result (λ r. r ≡ (unit_terms (length alphabet.now) (path_of zone.now) modifier.now).after) }
+    ensures { IfOk result (λ r. r ≡ (unit_terms (length alphabet.now) (path_of zone.now)
+        modifier.now).after) }
 {
     match modifier {
         Change::Preserve | Change::Remove(_) => RelTerm::identity(alloc, path_of(alloc, zone)?),
@@ -135,7 +138,8 @@ fn without(alloc: Global, x: PathTerm, y: PathTerm) -> Result<PathTerm, AllocErr
 
 /// The identity on the words of the zone that are not in the path expression.
 fn kept_without(alloc: Global, zone: &Expr, path: &Expr) -> Result<RelTerm, AllocError>
-    ensures { IfOk result (λ r. r ≡ RelTerm.Identity (without (path_of zone.now) (path_of path.now))) }
+    ensures { IfOk result (λ r. r ≡ RelTerm.Identity (without (path_of zone.now)
+        (path_of path.now))) }
 {
     let (zone, path) = both(path_of(alloc, zone), path_of(alloc, path))?;
     RelTerm::identity(alloc, without(alloc, zone, path)?)
@@ -143,7 +147,8 @@ fn kept_without(alloc: Global, zone: &Expr, path: &Expr) -> Result<RelTerm, Allo
 
 /// The identity on the words of either expression.
 fn kept_or(alloc: Global, x: &Expr, y: &Expr) -> Result<RelTerm, AllocError>
-    ensures { IfOk result (λ r. r ≡ RelTerm.Identity (PathTerm.Union (path_of x.now) (path_of y.now))) }
+    ensures { IfOk result (λ r. r ≡ RelTerm.Identity (PathTerm.Union (path_of x.now)
+        (path_of y.now))) }
 {
     RelTerm::identity(alloc, either(alloc, x, y)?)
 }
@@ -178,7 +183,8 @@ fn added(alloc: Global, zone: &Expr, path: &Expr) -> Result<RelTerm, AllocError>
 /// of those with each new path.
 fn replaced(alloc: Global, zone: &Expr, old: &Expr, new: &Expr) -> Result<RelTerm, AllocError>
     ensures { IfOk result (λ r. r ≡ RelTerm.Union
-        (RelTerm.Identity (without (PathTerm.Union (path_of zone.now) (path_of new.now)) (PathTerm.Meet (path_of old.now) (path_of zone.now))))
+        (RelTerm.Identity (without (PathTerm.Union (path_of zone.now) (path_of new.now))
+        (PathTerm.Meet (path_of old.now) (path_of zone.now))))
         (RelTerm.Product (PathTerm.Meet (path_of old.now) (path_of zone.now)) (path_of new.now))) }
 {
     let (kept, come) = both(
@@ -191,7 +197,8 @@ fn replaced(alloc: Global, zone: &Expr, old: &Expr, new: &Expr) -> Result<RelTer
 /// The identity on the words of the zone and the new paths, but for the old paths of the zone.
 fn not_replaced(alloc: Global, zone: &Expr, old: &Expr, new: &Expr) -> Result<RelTerm, AllocError>
     ensures { IfOk result (λ r. r ≡ RelTerm.Identity
-        (without (PathTerm.Union (path_of zone.now) (path_of new.now)) (PathTerm.Meet (path_of old.now) (path_of zone.now)))) }
+        (without (PathTerm.Union (path_of zone.now) (path_of new.now))
+        (PathTerm.Meet (path_of old.now) (path_of zone.now)))) }
 {
     let (all, gone) = both(either(alloc, zone, new), common(alloc, old, zone))?;
     RelTerm::identity(alloc, without(alloc, all, gone)?)
