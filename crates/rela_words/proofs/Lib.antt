@@ -1,0 +1,12 @@
+pub mod Asked
+pub mod Fits
+pub mod Joins
+pub mod Matched
+pub mod Meets
+pub mod Numbers
+pub mod Operands
+pub mod Readings
+pub mod Rows
+pub mod Shapes
+pub mod Walks
+pub mod WordKinds

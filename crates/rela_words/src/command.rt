@@ -1,0 +1,51 @@
+//! The commands, and the bounds of their numbers.
+
+/// The state limit where the words give none.
+pub const DEFAULT_STATES: usize = 100_000;
+
+/// The greatest state limit that the words may give.
+pub const MAX_STATES: usize = 4_000_000;
+
+/// To check a change.
+#[derive(Debug, Drop)]
+pub struct Check {
+    /// The name of the file with the snapshot before the change.
+    pub before: String,
+    /// The name of the file with the snapshot after the change.
+    pub after: String,
+    /// The name of the file with the locations.
+    pub locations: String,
+    /// The name of the file with the specification.
+    pub spec: String,
+    /// The state limit of each verdict, from 1 to [`MAX_STATES`].
+    pub states: usize,
+}
+
+/// To write the canonical text of a specification.
+#[derive(Debug, Drop)]
+pub struct Fmt {
+    /// The name of the file with the specification.
+    pub spec: String,
+}
+
+/// To write the snapshot that forwarding tables give.
+#[derive(Debug, Drop)]
+pub struct Fib {
+    /// The name of the file with the tables.
+    pub tables: String,
+    /// The name of the file with other tables, whose routes cut the flows too.
+    pub other: String,
+    /// The name of the file with the locations.
+    pub locations: String,
+}
+
+/// What the words ask for.
+#[derive(Debug, Drop)]
+pub enum Command {
+    /// `check [--states N] BEFORE AFTER LOCATIONS SPEC`
+    Check(Check),
+    /// `fmt SPEC`
+    Fmt(Fmt),
+    /// `fib TABLES OTHER LOCATIONS`
+    Fib(Fib),
+}

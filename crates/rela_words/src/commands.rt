@@ -1,0 +1,80 @@
+//! Each command, read from the parts of its words.
+
+ghost use Rattle.std.specs.Prelude.{◌≡◌, IfOk, IfErr, codes, string_bytes, false, []};
+ghost use Rattle.rela_words.specs.Commands.{command_of};
+ghost use Rattle.rela_words.specs.Parts.{FitJust, FitNothing, parts_of};
+
+use crate::command::{Check, Command, Fib, Fmt};
+use crate::errors::WordsError;
+use crate::parts::Parts;
+use std::alloc::Global;
+
+/// `check`: four operands and a state limit.
+///
+/// # Errors
+///
+/// `Bad` where the parts aren't those of such a command.
+pub(crate) fn read_check(alloc: Global, parts: &Parts<'_>) -> Result<Command, WordsError>
+    ensures fits { IfOk result (λ c. FitJust (codes "check") (parts_of parts.now) (command_of c)) }
+    ensures bad { IfErr result (λ e. e ≡ WordsError.Bad
+        → FitNothing (codes "check") (parts_of parts.now)) }
+{
+    let states = parts.states().ok_or(WordsError::Bad)?;
+    if parts.blame {
+        return Err(WordsError::Bad);
+    }
+    let Some([before, after, locations, spec]) = parts.operands() else {
+        return Err(WordsError::Bad);
+    };
+    Ok(Command::Check(Check {
+        before: String::from_str(alloc, before)?,
+        after: String::from_str(alloc, after)?,
+        locations: String::from_str(alloc, locations)?,
+        spec: String::from_str(alloc, spec)?,
+        states,
+    }))
+}
+
+/// `fmt`: one operand.
+///
+/// # Errors
+///
+/// `Bad` where the parts aren't those of such a command.
+pub(crate) fn read_fmt(alloc: Global, parts: &Parts<'_>) -> Result<Command, WordsError>
+    ensures fits { IfOk result (λ c. FitJust (codes "fmt") (parts_of parts.now) (command_of c)) }
+    ensures bad { IfErr result (λ e. e ≡ WordsError.Bad
+        → FitNothing (codes "fmt") (parts_of parts.now)) }
+{
+    if !parts.have_no_options() {
+        return Err(WordsError::Bad);
+    }
+    let Some([spec]) = parts.operands() else {
+        return Err(WordsError::Bad);
+    };
+    Ok(Command::Fmt(Fmt {
+        spec: String::from_str(alloc, spec)?,
+    }))
+}
+
+/// `fib`: three operands.
+///
+/// # Errors
+///
+/// `Bad` where the parts aren't those of such a command.
+pub(crate) fn read_fib(alloc: Global, parts: &Parts<'_>) -> Result<Command, WordsError>
+    ensures fits { IfOk result (λ c. FitJust (codes "fib") (parts_of parts.now) (command_of c)) }
+    ensures bad { IfErr result (λ e. e ≡ WordsError.Bad
+        → FitNothing (codes "fib") (parts_of parts.now)) }
+{
+    if !parts.have_no_options() {
+        return Err(WordsError::Bad);
+    }
+    let Some([tables, other, locations]) = parts.operands() else {
+        return Err(WordsError::Bad);
+    };
+    Ok(Command::Fib(Fib {
+        tables: String::from_str(alloc, tables)?,
+        other: String::from_str(alloc, other)?,
+        locations: String::from_str(alloc, locations)?,
+    }))
+}

@@ -1,0 +1,13 @@
+//! The words of the command line: what they ask for, or that they ask for nothing.
+#![tactic(auto)]
+
+mod command;
+mod commands;
+mod errors;
+mod number;
+mod parts;
+mod reading;
+
+pub use command::{Check, Command, DEFAULT_STATES, Fib, Fmt, MAX_STATES};
+pub use errors::WordsError;
+pub use reading::read_words;
