@@ -1,96 +1,115 @@
 -- What `fib` gives, from what its steps give.
-use Rattle.std.proofs.Common.{◌≡◌, ℕ, ◌≤◌, nat_lt, false, List, Option, Result, Ok, Err, IfOk, refl, sym, ap, subst, rules}
-use Rattle.std.specs.Result.{IfErr}
+use Rattle.std.proofs.Common.{◌≡◌, ◌≢◌, ◌∙◌, ℕ, Bool, true, List, Option, Result, Ok, Err, refl, sym, ap, subst}
 use Rattle.rela_fib.specs.Loading.{LoadsAs}
 use Rattle.rela_fib.specs.Snapshot.{IsSnapshotOf, IsTooLong, IsTooMany}
 use Rattle.rela_fib.specs.declared.error.FibError.{FibError}
 use Rattle.rela_fib.specs.declared.error.FibError.TheVariants as fib
 use Rattle.rela_io.specs.Held.{FilesByName}
 use Rattle.rela_locations.specs.Network.{Network}
+use Rattle.rela_snapshot.specs.Steps.{◌>>=◌}
 use Rattle.rela_tables.specs.Forwarding.{Forwarding}
-use Rattle.rela_top.specs.Answer.{Answer, answer_by}
-use Rattle.rela_top.specs.Draws.{IsDrawing, DrawsOver, Draws}
-use Rattle.rela_top.specs.Inputs.{Gives, ReadsNetwork, ReadsTables}
-use Rattle.rela_top.specs.Loading.{fib_halt}
-use Rattle.rela_top.specs.Reading.{max_file_bytes, HaltsBy}
-use Rattle.rela_top.specs.declared.answer.Answer as declared
+use Rattle.rela_top.specs.Answer.{Answer}
+use Rattle.rela_top.specs.Draws.{IsDrawnAs, drawing_of, IsDrawing, Draws, SameDrawings}
+use Rattle.rela_top.specs.Given.{Equals, Agrees, IsGiven, IsRead}
+use Rattle.rela_top.specs.Halts.{fib_halt}
+use Rattle.rela_top.specs.Inputs.{BytesOf, Gives, ReadsNetwork, ReadsTables}
 use Rattle.rela_top.specs.declared.reading.Halt.{Halt}
 use Rattle.rela_top.specs.declared.reading.Halt.TheVariants.{Refused}
 use Rattle.rela_top.specs.declared.refusal.Input.TheVariants.{Locations, Tables, Other}
+use Rattle.rela_top.specs.declared.refusal.Reason.TheVariants.{Snapshot}
 use Rattle.rela_top.specs.declared.refusal.Refusal.{Refusal}
-use Rattle.rela_top.proofs.InputLaws.{told}
-use Rattle.rela_top.proofs.LoadLaws.{same_refusal}
+use Rattle.rela_top.proofs.GivenLaws.{stopped, continued_equal, read_given, refused_read, memory_read}
 
-pub drawn : (network : Network) (tables other : Forwarding) (text : List ℕ)
-    → IsSnapshotOf network tables other text → LoadsAs network tables other text → ¬ IsTooMany network tables other → ¬ IsTooLong network tables other
-    → IsDrawing network tables other (Ok (record { text = text; status = 0 }))
-unfolding IsDrawing
-drawn network tables other text is loads few short = (Ok text, (is, loads, few, short), refl)
+abbrev answer : List ℕ → Answer
+answer text = record { text = text; status = 0 }
 
-pub too_large : (network : Network) (tables other : Forwarding) (e : FibError) (refusal : Refusal)
-    → (e ≡ fib.TooMany → IsTooMany network tables other) → (e ≡ fib.TooLong → IsTooLong network tables other)
-    → (e ≡ fib.TooLong → ¬ IsTooMany network tables other) → fib_halt e ≡ Refused refusal → IsDrawing network tables other (Err refusal)
-unfolding IsDrawing
-too_large network tables other fib.TooMany refusal many long few halt =
-    (Err fib.TooMany, many refl, ap (λ (r : Refusal). Err r) (same_refusal _ refusal halt))
-too_large network tables other fib.TooLong refusal many long few halt =
-    (Err fib.TooLong, (long refl, few refl), ap (λ (r : Refusal). Err r) (same_refusal _ refusal halt))
-too_large network tables other fib.Memory refusal many long few halt = absurd (cc)
+abbrev too : FibError → Refusal
+too e = record { input = Tables; reason = Snapshot e }
 
--- tables that give no snapshot end the command without a fault
-pub fib_halts : (old new given : ℕ) (e : FibError) (halt : Halt)
-    → halt ≡ fib_halt e → new ≡ old → given ≤ max_file_bytes → HaltsBy old new given halt
-fib_halts old new given fib.TooMany halt is same few =
-    let short : nat_lt max_file_bytes given ≡ false = search rules in
-    rw is (same, sym short)
-fib_halts old new given fib.TooLong halt is same few =
-    let short : nat_lt max_file_bytes given ≡ false = search rules in
-    rw is (same, sym short)
-fib_halts old new given fib.Memory halt is same few = rw is same
+module _ (network : Network) (tables other : Forwarding) where
+  text_alone : (text : List ℕ) (y : Result (List ℕ) FibError) (x : Result Answer Refusal) → IsDrawnAs network tables other (Ok text) → IsDrawnAs network tables other y → x ≡ drawing_of y
+      → Agrees true SameDrawings (Ok (answer text)) x
+  text_alone text (Ok drawn) x is drawing same = subst (λ (r : Result Answer Refusal). Agrees true SameDrawings (Ok (answer text)) r) (sym same) refl
+  text_alone text (Err fib.TooMany) x is drawing same = absurd (is.2 drawing)
+  text_alone text (Err fib.TooLong) x is drawing same = absurd (is.3 drawing.0)
+  text_alone text (Err fib.Memory) x is drawing same = absurd drawing
 
-pub tables_refused : (holds : Option FilesByName) (network : Network) (tables other : List ℕ) (refusal : Refusal)
-    → Gives holds tables Tables (ReadsTables Tables network) (Err refusal) → DrawsOver holds network tables other (Err refusal)
-unfolding DrawsOver
-tables_refused holds network tables other refusal given = (Err refusal, given, refl)
+  pub drawn : (text : List ℕ) → IsSnapshotOf network tables other text → LoadsAs network tables other text → ¬ IsTooMany network tables other → ¬ IsTooLong network tables other
+      → IsRead SameDrawings (IsDrawing network tables other) (Ok (answer text))
+  unfolding IsDrawing
+  drawn text is loads few short = record {
+    given = record {
+      told_by = (Ok text, (is, loads, few, short), refl);
+      alone = λ t x steps. text_alone text steps.0 x (is, loads, few, short) steps.1 steps.2;
+    };
+    halts = tt;
+  }
 
-pub other_refused : (holds now : Option FilesByName) (network : Network) (tables other : List ℕ) (first : Forwarding) (refusal : Refusal)
-    → Gives holds tables Tables (ReadsTables Tables network) (Ok first) → now ≡ holds
-    → Gives now other Other (ReadsTables Other network) (Err refusal) → DrawsOver holds network tables other (Err refusal)
-unfolding DrawsOver
-other_refused holds now network tables other first refusal given same refused =
-    (Ok first, given, (Err refusal, told holds now other Other (ReadsTables Other network) (Err refusal) same refused, refl))
+  many_alone : (y : Result (List ℕ) FibError) (x : Result Answer Refusal) → IsTooMany network tables other → IsDrawnAs network tables other y → x ≡ drawing_of y → x ≡ Err (too fib.TooMany)
+  many_alone (Ok text) x many drawing same = absurd (drawing.2 many)
+  many_alone (Err fib.TooMany) x many drawing same = same
+  many_alone (Err fib.TooLong) x many drawing same = absurd (drawing.1 many)
+  many_alone (Err fib.Memory) x many drawing same = absurd drawing
 
-pub draws_over : (holds now : Option FilesByName) (network : Network) (tables other : List ℕ) (first second : Forwarding) (r : Result Answer Refusal)
-    → Gives holds tables Tables (ReadsTables Tables network) (Ok first) → now ≡ holds
-    → Gives now other Other (ReadsTables Other network) (Ok second) → IsDrawing network first second r → DrawsOver holds network tables other r
-unfolding DrawsOver
-draws_over holds now network tables other first second r given same read drawing =
-    (Ok first, given, (Ok second, told holds now other Other (ReadsTables Other network) (Ok second) same read, drawing))
+  long_alone : (y : Result (List ℕ) FibError) (x : Result Answer Refusal) → IsTooLong network tables other → ¬ IsTooMany network tables other → IsDrawnAs network tables other y → x ≡ drawing_of y
+      → x ≡ Err (too fib.TooLong)
+  long_alone (Ok text) x long few drawing same = absurd (drawing.3 long)
+  long_alone (Err fib.TooMany) x long few drawing same = absurd (few drawing)
+  long_alone (Err fib.TooLong) x long few drawing same = same
+  long_alone (Err fib.Memory) x long few drawing same = absurd drawing
 
-pub locations_refused : (holds : Option FilesByName) (tables other locations : List ℕ) (refusal : Refusal)
-    → Gives holds locations Locations ReadsNetwork (Err refusal) → Draws holds tables other locations (Err refusal)
-unfolding Draws
-locations_refused holds tables other locations refusal given = (Err refusal, given, refl)
+  pub too_large : (e : FibError) (halt : Halt) → halt ≡ fib_halt e → (e ≡ fib.TooMany → IsTooMany network tables other) → (e ≡ fib.TooLong → IsTooLong network tables other)
+      → (e ≡ fib.TooLong → ¬ IsTooMany network tables other) → IsRead SameDrawings (IsDrawing network tables other) (Err halt)
+  unfolding IsDrawing
+  too_large fib.TooMany halt is many long few =
+      refused_read SameDrawings (IsDrawing network tables other) halt (too fib.TooMany) is refl (Err fib.TooMany, many refl, refl)
+      (λ x steps. many_alone steps.0 x (many refl) steps.1 steps.2)
+  too_large fib.TooLong halt is many long few =
+      refused_read SameDrawings (IsDrawing network tables other) halt (too fib.TooLong) is refl (Err fib.TooLong, (long refl, few refl), refl)
+      (λ x steps. long_alone steps.0 x (long refl) (few refl) steps.1 steps.2)
+  too_large fib.Memory halt is many long few = memory_read SameDrawings (IsDrawing network tables other) halt is
 
-draws : (holds now : Option FilesByName) (tables other locations : List ℕ) (network : Network) (r : Result Answer Refusal)
-    → Gives holds locations Locations ReadsNetwork (Ok network) → now ≡ holds → DrawsOver now network tables other r
-    → Draws holds tables other locations r
-unfolding Draws
-draws holds now tables other locations network r given same over =
-    (Ok network, given, subst (λ (h : Option FilesByName). DrawsOver h network tables other r) same over)
+module _ (told steady : Bool) (holds : Option FilesByName) (tables other locations : List ℕ) where
+  abbrev Places : Result Network Refusal → Type 0
+  Places = Gives (BytesOf holds locations Locations) ReadsNetwork
 
-pub draws_made : (holds now : Option FilesByName) (tables other locations : List ℕ) (network : Network) (r : Result declared.Answer Halt)
-    → Gives holds locations Locations ReadsNetwork (Ok network) → now ≡ holds
-    → IfOk r (λ answer. DrawsOver now network tables other (Ok (answer_by answer)))
-    → IfOk r (λ answer. Draws holds tables other locations (Ok (answer_by answer)))
-draws_made holds now tables other locations network (Ok answer) given same over =
-    draws holds now tables other locations network (Ok (answer_by answer)) given same over
-draws_made holds now tables other locations network (Err halt) given same over = tt
+  abbrev First : Network → Result Forwarding Refusal → Type 0
+  First network = Gives (BytesOf holds tables Tables) (ReadsTables Tables network)
 
-pub draws_refused : (holds now : Option FilesByName) (tables other locations : List ℕ) (network : Network) (r : Result declared.Answer Halt)
-    → Gives holds locations Locations ReadsNetwork (Ok network) → now ≡ holds
-    → IfErr r (λ halt. (refusal : Refusal) → halt ≡ Refused refusal → DrawsOver now network tables other (Err refusal))
-    → IfErr r (λ halt. (refusal : Refusal) → halt ≡ Refused refusal → Draws holds tables other locations (Err refusal))
-draws_refused holds now tables other locations network (Ok answer) given same over = tt
-draws_refused holds now tables other locations network (Err halt) given same over =
-    λ refusal is. draws holds now tables other locations network (Err refusal) given same (over refusal is)
+  abbrev Second : Network → Result Forwarding Refusal → Type 0
+  Second network = Gives (BytesOf holds other Other) (ReadsTables Other network)
+
+  abbrev Then : Network → Forwarding → Result Answer Refusal → Type 0
+  Then network first = Second network >>= IsDrawing network first
+
+  abbrev Next : Network → Result Answer Refusal → Type 0
+  Next network = First network >>= Then network
+
+  abbrev Drawn : Result Answer Refusal → Type 0
+  Drawn = Draws holds tables other locations
+
+  pub locations_stopped : (halt : Halt) → IsGiven told steady Equals Places (Err halt) → IsGiven told steady SameDrawings Drawn (Err halt)
+  unfolding Draws
+  locations_stopped halt given = stopped told steady Equals SameDrawings Places Next halt given
+
+  over : (network : Network) (r : Result Answer Halt) → IsGiven told steady Equals Places (Ok network) → IsGiven told steady SameDrawings (Next network) r → IsGiven told steady SameDrawings Drawn r
+  unfolding Draws
+  over network r given next = continued_equal told steady SameDrawings Places Next network r given next
+
+  pub tables_stopped : (network : Network) (halt : Halt) → IsGiven told steady Equals Places (Ok network) → IsGiven told steady Equals (First network) (Err halt) → IsGiven told steady SameDrawings Drawn (Err halt)
+  tables_stopped network halt given first = over network (Err halt) given (stopped told steady Equals SameDrawings (First network) (Then network) halt first)
+
+  after_first : (network : Network) (first : Forwarding) (r : Result Answer Halt) → IsGiven told steady Equals Places (Ok network) → IsGiven told steady Equals (First network) (Ok first)
+      → IsGiven told steady SameDrawings (Then network first) r → IsGiven told steady SameDrawings Drawn r
+  after_first network first r given one next = over network r given (continued_equal told steady SameDrawings (First network) (Then network) first r one next)
+
+  pub other_stopped : (network : Network) (first : Forwarding) (halt : Halt) → IsGiven told steady Equals Places (Ok network) → IsGiven told steady Equals (First network) (Ok first)
+      → IsGiven told steady Equals (Second network) (Err halt) → IsGiven told steady SameDrawings Drawn (Err halt)
+  other_stopped network first halt given one two =
+      after_first network first (Err halt) given one (stopped told steady Equals SameDrawings (Second network) (IsDrawing network first) halt two)
+
+  pub draws : (network : Network) (first second : Forwarding) (r : Result Answer Halt) → IsGiven told steady Equals Places (Ok network) → IsGiven told steady Equals (First network) (Ok first)
+      → IsGiven told steady Equals (Second network) (Ok second) → IsRead SameDrawings (IsDrawing network first second) r → IsGiven told steady SameDrawings Drawn r
+  draws network first second r given one two reads =
+      after_first network first r given one
+      (continued_equal told steady SameDrawings (Second network) (IsDrawing network first) second r two (read_given told steady SameDrawings (IsDrawing network first second) r reads))

@@ -1,5 +1,5 @@
--- What the three files of `fib` give: the snapshot of the one table file, cut by the routes of both, or the first refusal in
--- the order in which they are read.
+-- What the three inputs of `fib` give: the snapshot of the one table file, cut by the routes of both, or the first refusal
+-- in the order in which they are read.
 use Rattle.std.specs.Prelude.{◌≡◌, ℕ, List, Option, Result, Ok, Err}
 use Rattle.rela_fib.specs.Loading.{LoadsAs}
 use Rattle.rela_fib.specs.Snapshot.{IsSnapshotOf, IsTooLong, IsTooMany}
@@ -10,10 +10,10 @@ use Rattle.rela_locations.specs.Network.{Network}
 use Rattle.rela_snapshot.specs.Steps.{◌>>=◌}
 use Rattle.rela_tables.specs.Forwarding.{Forwarding}
 use Rattle.rela_top.specs.Answer.{Answer}
-use Rattle.rela_top.specs.Inputs.{Gives, ReadsNetwork, ReadsTables}
+use Rattle.rela_top.specs.Inputs.{BytesOf, Gives, ReadsNetwork, ReadsTables}
 use Rattle.rela_top.specs.declared.refusal.Input.TheVariants.{Locations, Tables, Other}
+use Rattle.rela_top.specs.declared.refusal.Reason.TheVariants.{Snapshot}
 use Rattle.rela_top.specs.declared.refusal.Refusal.{Refusal}
-use Rattle.rela_top.specs.declared.refusal.Refusal.TheVariants.{Snapshot}
 
 -- the text of the snapshot, which loads as just the flows that are drawn, or what there is too much of
 abbrev pub IsDrawnAs : Network → Forwarding → Forwarding → Result (List ℕ) FibError → Type 0
@@ -27,22 +27,20 @@ IsDrawnAs network tables other (Err fib.Memory) = ⊥
 
 abbrev pub drawing_of : Result (List ℕ) FibError → Result Answer Refusal
 drawing_of (Ok text) = Ok (record { text = text; status = 0 })
-drawing_of (Err e) = Err (Snapshot e)
+drawing_of (Err e) = Err (record { input = Tables; reason = Snapshot e })
 
 unfoldable pub IsDrawing : Network → Forwarding → Forwarding → Result Answer Refusal → Type 0
 IsDrawing network tables other r = (x : Result (List ℕ) FibError) × IsDrawnAs network tables other x
     × (r ≡ drawing_of x)
 
--- over a network
-unfoldable pub DrawsOver : Option FilesByName → Network → (tables other : List ℕ) →
-    Result Answer Refusal → Type 0
-DrawsOver holds network tables other = do
-  first ← Gives holds tables Tables (ReadsTables Tables network)
-  second ← Gives holds other Other (ReadsTables Other network)
-  IsDrawing network first second
-
 unfoldable pub Draws : Option FilesByName → (tables other locations : List ℕ) →
     Result Answer Refusal → Type 0
 Draws holds tables other locations = do
-  network ← Gives holds locations Locations ReadsNetwork
-  DrawsOver holds network tables other
+  network ← Gives (BytesOf holds locations Locations) ReadsNetwork
+  first ← Gives (BytesOf holds tables Tables) (ReadsTables Tables network)
+  second ← Gives (BytesOf holds other Other) (ReadsTables Other network)
+  IsDrawing network first second
+
+-- two snapshots of the same tables
+abbrev pub SameDrawings : Answer → Answer → Type 0
+SameDrawings x y = x.status ≡ y.status

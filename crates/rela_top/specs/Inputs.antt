@@ -1,5 +1,5 @@
 -- What the bytes of an input give.
-use Rattle.std.specs.Prelude.{◌≡◌, ℕ, ◌<◌, ◌≤◌, ◌⊎◌, List, length, Option, Some, IfSome, Result, Ok, Err}
+use Rattle.std.specs.Prelude.{◌≡◌, ℕ, ◌<◌, ◌≤◌, List, length, Option, Some, IfSome, Result, Ok, Err}
 use Rattle.rela_io.specs.Held.{FilesByName}
 use Rattle.rela_json.specs.declared.error.LoadError.{LoadError}
 use Rattle.rela_locations.specs.Load as locations
@@ -7,14 +7,15 @@ use Rattle.rela_locations.specs.Network.{Network}
 use Rattle.rela_snapshot.specs.FlowEntry.{ListedFlow}
 use Rattle.rela_snapshot.specs.Flows.{AreFlowsOf}
 use Rattle.rela_snapshot.specs.Load as snapshot
+use Rattle.rela_snapshot.specs.Steps.{◌>>=◌}
 use Rattle.rela_snapshot.specs.declared.snapshot.Flow.{Flow}
 use Rattle.rela_tables.specs.Forwarding.{Forwarding}
 use Rattle.rela_tables.specs.Load.{LoadTables}
 use Rattle.rela_top.specs.Reading.{max_file_bytes}
 use Rattle.rela_top.specs.declared.refusal.Input.{Input}
 use Rattle.rela_top.specs.declared.refusal.Input.TheVariants.{Locations}
+use Rattle.rela_top.specs.declared.refusal.Reason.TheVariants.{TooLong, Load}
 use Rattle.rela_top.specs.declared.refusal.Refusal.{Refusal}
-use Rattle.rela_top.specs.declared.refusal.Refusal.TheVariants.{TooLong, Load}
 
 -- where the files are told, this one has these bytes
 abbrev pub IsTold : Option FilesByName → List ℕ → List ℕ → Type 0
@@ -24,29 +25,28 @@ IsTold holds name bytes = IfSome holds (λ files. files name ≡ Some bytes)
 unfoldable pub IsTooLong : Option FilesByName → List ℕ → Input → Refusal → Type 0
 IsTooLong holds name input refusal =
     (bytes : List ℕ) × IsTold holds name bytes × (max_file_bytes < length bytes)
-    × (refusal ≡ TooLong input)
+    × (refusal ≡ record { input = input; reason = TooLong })
 
 -- the file has these bytes, and they aren't too many
 unfoldable pub HasBytes : Option FilesByName → List ℕ → List ℕ → Type 0
 HasBytes holds name bytes = IsTold holds name bytes × (length bytes ≤ max_file_bytes)
 
--- r refuses the input as too long
-abbrev pub RefusesAsTooLong : {A : Type 0} → Option FilesByName → List ℕ → Input →
-    Result A Refusal → Type 0
-RefusesAsTooLong holds name input (Ok a) = ⊥
-RefusesAsTooLong holds name input (Err refusal) = IsTooLong holds name input refusal
+-- the bytes of the file of this name, or the refusal of the input that it stands for
+abbrev pub BytesOf : Option FilesByName → List ℕ → Input → Result (List ℕ) Refusal → Type 0
+BytesOf holds name input (Ok bytes) = HasBytes holds name bytes
+BytesOf holds name input (Err refusal) = IsTooLong holds name input refusal
 
--- the input that the file of this name stands for is refused as too long, or its bytes give what `Reads` says
-unfoldable pub Gives : {A : Type 0} → Option FilesByName → List ℕ → Input →
+-- what the bytes that a step gives are read as, or the refusal of either
+unfoldable pub Gives : {A : Type 0} → (Result (List ℕ) Refusal → Type 0) →
     (List ℕ → Result A Refusal → Type 0) → Result A Refusal → Type 0
-Gives holds name input Reads r =
-    RefusesAsTooLong holds name input r ⊎ ((bytes : List ℕ)
-    × HasBytes holds name bytes × Reads bytes r)
+Gives Bytes Reads = do
+  bytes ← Bytes
+  Reads bytes
 
 -- what a decoder answers of an input
 abbrev pub load_of : {A : Type 0} → Input → Result A LoadError → Result A Refusal
-load_of input (Ok a) = Ok a
-load_of input (Err e) = Err (Load input e)
+load_of input (Ok x) = Ok x
+load_of input (Err e) = Err (record { input = input; reason = Load e })
 
 abbrev pub ReadsNetwork : List ℕ → Result Network Refusal → Type 0
 ReadsNetwork bytes r = r ≡ load_of Locations (locations.Load bytes)
@@ -57,7 +57,7 @@ abbrev pub AreReadFlows : Input → Result (List ListedFlow) LoadError →
 AreReadFlows input (Ok listed) (Ok flows) = AreFlowsOf listed flows
 AreReadFlows input (Ok listed) (Err refusal) = ⊥
 AreReadFlows input (Err e) (Ok flows) = ⊥
-AreReadFlows input (Err e) (Err refusal) = refusal ≡ Load input e
+AreReadFlows input (Err e) (Err refusal) = refusal ≡ record { input = input; reason = Load e }
 
 abbrev pub ReadsFlows : Input → Network → List ℕ → Result (List Flow) Refusal → Type 0
 ReadsFlows input network bytes r = (x : Result (List ListedFlow) LoadError)

@@ -1,14 +1,15 @@
 -- What a command gives, and what a run answers.
-use Rattle.std.specs.Prelude.{◌≡◌, ℕ, ◌⊎◌, Bool, false, nat_lt, List, codes, Option, Result, Ok, Err}
+use Rattle.std.specs.Prelude.{◌≡◌, ℕ, ◌⊎◌, Bool, false, nat_lt, List, codes, IsSome, Option, Result, Ok, Err}
 use Rattle.rela_io.specs.Held.{FilesByName}
 use Rattle.rela_report.specs.Text.{line}
 use Rattle.rela_top.specs.Answer.{Answer, Delivers}
-use Rattle.rela_top.specs.Checks.{Checks}
-use Rattle.rela_top.specs.Draws.{Draws}
+use Rattle.rela_top.specs.Checks.{Checks, SameReports}
+use Rattle.rela_top.specs.Draws.{Draws, SameDrawings}
 use Rattle.rela_top.specs.Formats.{Formats}
+use Rattle.rela_top.specs.Given.{Equals}
 use Rattle.rela_top.specs.Reading.{is_too_long, max_file_bytes}
 use Rattle.rela_top.specs.Refusal.{refusal_line}
-use Rattle.rela_top.specs.Words.{Command, Check, Fmt, Fib, Ask, AskNothing}
+use Rattle.rela_words.specs.Words.{Command, Check, Fmt, Fib, Ask, AskNothing}
 use Rattle.rela_top.specs.declared.refusal.Refusal.{Refusal}
 
 -- what the files of a command give: its answer, or the first refusal
@@ -17,6 +18,19 @@ Outcome holds (Check before after locations spec states) =
     Checks holds before after locations spec states
 Outcome holds (Fmt spec) = Formats holds spec
 Outcome holds (Fib tables other locations) = Draws holds tables other locations
+
+-- how far the files settle the answer of a command
+abbrev pub SameAnswer : Command → Answer → Answer → Type 0
+SameAnswer (Check before after locations spec states) = SameReports
+SameAnswer (Fmt spec) = Equals
+SameAnswer (Fib tables other locations) = SameDrawings
+
+-- the same refusal, or the same answer as far as the files settle it
+abbrev pub SameOutcome : Command → Result Answer Refusal → Result Answer Refusal → Type 0
+SameOutcome command (Ok answer) (Ok other) = SameAnswer command answer other
+SameOutcome command (Ok answer) (Err refusal) = ⊥
+SameOutcome command (Err refusal) (Ok answer) = ⊥
+SameOutcome command (Err refusal) (Err other) = refusal ≡ other
 
 -- an outcome as it is answered: a refusal by its line and status 4
 abbrev pub answer_of : Result Answer Refusal → Answer
@@ -29,11 +43,13 @@ says_too_long (Ok answer) = false
 says_too_long (Err refusal) = is_too_long refusal
 
 -- This is the answer to what the files of a command give: as too long exactly where the file opened last gave more bytes
--- than are allowed.
+-- than are allowed. Where the files are told, they give nothing else.
 pub record GivenBy (holds : Option FilesByName) (command : Command) (given : ℕ)
     (answer : Answer) : Type 0 where
   pub outcome : Result Answer Refusal
   pub is_outcome : Outcome holds command outcome
+  pub alone : IsSome holds → (other : Result Answer Refusal) → Outcome holds command other →
+      SameOutcome command outcome other
   pub too_long : says_too_long outcome ≡ nat_lt max_file_bytes given
   pub is_answer : answer ≡ answer_of outcome
 
@@ -52,3 +68,31 @@ abbrev pub Answers : List (List ℕ) → Option FilesByName → ℕ → Option (
     Option (List ℕ) → ℕ → Type 0
 Answers words holds given old new status = (answer : Answer) × Fits words holds given answer
     × Delivers old new answer status
+
+-- the answer is that to this outcome, or to one that is the same as far as the files settle it
+abbrev pub IsSameAnswer : Command → Result Answer Refusal → Answer → Type 0
+IsSameAnswer command outcome answer =
+    (made : Result Answer Refusal) × SameOutcome command made outcome × (answer ≡ answer_of made)
+
+-- the answer is that to each outcome of the command
+abbrev pub AnswersAll : Option FilesByName → Command → Answer → Type 0
+AnswersAll holds command answer = (outcome : Result Answer Refusal) → Outcome holds command outcome →
+    IsSameAnswer command outcome answer
+
+-- the command has no outcome: its files end before one
+abbrev pub GivesNothing : Option FilesByName → Command → Type 0
+GivesNothing holds command = (outcome : Result Answer Refusal) → ¬ Outcome holds command outcome
+
+-- memory ran out, or the answer to this outcome of the command was delivered
+abbrev pub Completes : Command → Result Answer Refusal → Option (List ℕ) → Option (List ℕ) →
+    ℕ → Type 0
+Completes command outcome old new status =
+    (status ≡ 7) ⊎ ((answer : Answer) × IsSameAnswer command outcome answer
+    × Delivers old new answer status)
+
+-- that holds of each outcome of the command that the words ask for
+abbrev pub CompletesAll : List (List ℕ) → Option FilesByName → Option (List ℕ) →
+    Option (List ℕ) → ℕ → Type 0
+CompletesAll words holds old new status =
+    (command : Command) (outcome : Result Answer Refusal) → Ask words command →
+    Outcome holds command outcome → Completes command outcome old new status

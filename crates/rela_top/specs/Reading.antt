@@ -1,37 +1,23 @@
--- What ends a run early, and what is then known of the files.
-use Rattle.std.specs.Prelude.{◌≡◌, ℕ, All, Bool, true, false, nat_lt, List, [], ◌∷◌, Option}
+-- What ends a command early, and what is then known of the files.
+use Rattle.std.specs.Prelude.{◌≡◌, ℕ, ◌≤◌, ⊤, Bool, true, false, nat_lt, Result, OnOk, IfErr}
 use Rattle.rela_io.specs.Count.{Rose}
-use Rattle.rela_io.specs.Held.{FilesByName, HoldsName}
-use Rattle.rela_top.specs.Words.{Command, Check, Fmt, Fib, Ask}
-use Rattle.rela_top.specs.declared.refusal.Refusal.{Refusal}
-use Rattle.rela_top.specs.declared.refusal.Refusal.TheVariants.{TooLong, Load, FlowDiffers, Specification, Snapshot}
 use Rattle.rela_top.specs.declared.reading.Halt.{Halt}
 use Rattle.rela_top.specs.declared.reading.Halt.TheVariants.{Refused, ReadFault, Memory}
+use Rattle.rela_top.specs.declared.refusal.Reason.{Reason}
+use Rattle.rela_top.specs.declared.refusal.Reason.TheVariants.{TooLong}
+use Rattle.rela_top.specs.declared.refusal.Refusal.{Refusal}
 
 -- the most bytes that a file may have
 abbrev pub max_file_bytes : ℕ
 max_file_bytes = 33554432
 
--- the names of the files that a command reads
-abbrev pub files_of : Command → List (List ℕ)
-files_of (Check before after locations spec states) = before ∷ after ∷ locations ∷ spec ∷ []
-files_of (Fmt spec) = spec ∷ []
-files_of (Fib tables other locations) = tables ∷ other ∷ locations ∷ []
+abbrev pub is_of_length : Reason → Bool
+is_of_length TooLong = true
+is_of_length _ = false
 
--- it is told that each file of the command is there
-abbrev pub HoldsFiles : Option FilesByName → Command → Type 0
-HoldsFiles holds command = All (HoldsName holds) (files_of command)
-
--- and of each command that the words ask for
-abbrev pub HoldsAsked : Option FilesByName → List (List ℕ) → Type 0
-HoldsAsked holds words = (command : Command) → Ask words command → HoldsFiles holds command
-
+-- the input is refused since its file has too many bytes
 abbrev pub is_too_long : Refusal → Bool
-is_too_long (TooLong input) = true
-is_too_long (Load input error) = false
-is_too_long (FlowDiffers before after) = false
-is_too_long (Specification error) = false
-is_too_long (Snapshot error) = false
+is_too_long refusal = is_of_length refusal.reason
 
 -- Why reading ended early, without a fault where it is for a refusal, and as too long exactly where the file opened last
 -- gave more bytes than are allowed. `old` and `new` count the faults before and after, `given` is what that file gave.
@@ -40,3 +26,16 @@ HaltsBy old new given (Refused refusal) = (new ≡ old)
     × (is_too_long refusal ≡ nat_lt max_file_bytes given)
 HaltsBy old new given ReadFault = Rose old new
 HaltsBy old new given Memory = new ≡ old
+
+-- How a call ends that reads files: with a value where no fault was counted and the file opened last gave no more than is
+-- allowed, or else early.
+pub record Ends {A : Type 0} (old new given : ℕ) (result : Result A Halt) : Type 0 where
+  pub ok_keeps_count : OnOk result (new ≡ old)
+  pub ok_given : OnOk result (given ≤ max_file_bytes)
+  pub halts : IfErr result (HaltsBy old new given)
+
+-- a call that opens no file ends early for want of memory, or for a refusal that speaks of no length
+abbrev pub HaltsInside : Halt → Type 0
+HaltsInside (Refused refusal) = is_too_long refusal ≡ false
+HaltsInside ReadFault = ⊥
+HaltsInside Memory = ⊤

@@ -11,14 +11,16 @@ use Rattle.rela_flows.specs.Notation.{text_of}
 use Rattle.rela_flows.specs.declared.predicate.FlowClass.{FlowClass}
 use Rattle.rela_report.specs.Text.{line}
 use Rattle.rela_top.specs.declared.refusal.Input.{Input}
-use Rattle.rela_top.specs.declared.refusal.Input.TheVariants.{Locations, Before, After, Spec, Tables, Other}
+use Rattle.rela_top.specs.declared.refusal.Input.TheVariants.{Locations, Before, After, Pair, Spec, Tables, Other}
+use Rattle.rela_top.specs.declared.refusal.Reason.{Reason}
+use Rattle.rela_top.specs.declared.refusal.Reason.TheVariants.{TooLong, Load, FlowDiffers, Specification, Snapshot}
 use Rattle.rela_top.specs.declared.refusal.Refusal.{Refusal}
-use Rattle.rela_top.specs.declared.refusal.Refusal.TheVariants.{TooLong, Load, FlowDiffers, Specification, Snapshot}
 
 abbrev pub input_text : Input → List ℕ
 input_text Locations = codes "locations"
 input_text Before = codes "before"
 input_text After = codes "after"
+input_text Pair = codes "pair"
 input_text Spec = codes "spec"
 input_text Tables = codes "tables"
 input_text Other = codes "other"
@@ -83,9 +85,12 @@ fib_text fib.Memory = []
 unfoldable pub at_place : List ℕ → List ℕ → List ℕ
 at_place place said = codes "refused " ++ (place ++ (codes " " ++ line said))
 
+abbrev pub reason_text : Reason → List ℕ
+reason_text TooLong = codes "2 TooLong"
+reason_text (Load error) = load_text error
+reason_text (FlowDiffers before after) = differs_text before after
+reason_text (Specification error) = spec_text error
+reason_text (Snapshot error) = fib_text error
+
 abbrev pub refusal_line : Refusal → List ℕ
-refusal_line (TooLong input) = at_place (input_text input) (codes "2 TooLong")
-refusal_line (Load input error) = at_place (input_text input) (load_text error)
-refusal_line (FlowDiffers before after) = at_place (codes "pair") (differs_text before after)
-refusal_line (Specification error) = at_place (codes "spec") (spec_text error)
-refusal_line (Snapshot error) = at_place (codes "tables") (fib_text error)
+refusal_line refusal = at_place (input_text refusal.input) (reason_text refusal.reason)

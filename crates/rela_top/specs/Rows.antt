@@ -1,6 +1,6 @@
 -- The rows of a report: flow after flow, one for each check that selects the flow, or one alone. `names` are the
 -- locations of the checks' level, and `states` is the state limit.
-use Rattle.std.specs.Prelude.{◌≡◌, ℕ, ◌<◌, List, length, map, slice_get, IsSomeAnd, All}
+use Rattle.std.specs.Prelude.{◌≡◌, ℕ, ◌<◌, ◌⊎◌, List, length, map, slice_get, IsSomeAnd, All}
 use Rattle.std.specs.List.{AllZip}
 use Rattle.rela_engine.specs.RowOf.{RowOf}
 use Rattle.rela_engine.specs.Scenes.{paths_of}
@@ -11,6 +11,7 @@ use Rattle.rela_names.specs.Alphabet.{path_symbols}
 use Rattle.rela_report.specs.declared.rows.ReportRow.{ReportRow}
 use Rattle.rela_report.specs.declared.rows.ReportRow.TheVariants.{Unselected, Checked}
 use Rattle.rela_report.specs.declared.rows.Row.{Row}
+use Rattle.rela_report.specs.declared.rows.Row.TheVariants.{Undecided}
 use Rattle.rela_snapshot.specs.PairsLocated.{ArePairsLocated}
 use Rattle.rela_snapshot.specs.declared.pairing.FlowPair.{FlowPair}
 use Rattle.rela_translate.specs.Checked.{Checked as Check}
@@ -65,3 +66,18 @@ pub record AreChecksAt (names : List (List ℕ)) (pairs : List FlowPair)
     (checks : List Check) : Type 0 where
   pub listed : All (ListsPathSymbols names) checks
   pub located : All (λ check. ArePairsLocated names check.level pairs) checks
+
+-- the two verdicts are equal, or one of them is left open
+abbrev pub AgreeInVerdict : Row → Row → Type 0
+AgreeInVerdict row other = (row ≡ other) ⊎ ((row ≡ Undecided) ⊎ (other ≡ Undecided))
+
+-- the two rows have one flow and one check, and their verdicts agree
+abbrev pub AgreeInRow : ReportRow → ReportRow → Type 0
+AgreeInRow (Unselected flow) (Unselected other) = flow ≡ other
+AgreeInRow (Unselected flow) (Checked other name row) = ⊥
+AgreeInRow (Checked flow name row) (Unselected other) = ⊥
+AgreeInRow (Checked flow name row) (Checked other named verdict) =
+    (flow ≡ other) × (name ≡ named) × AgreeInVerdict row verdict
+
+abbrev pub AgreeInRows : List ReportRow → List ReportRow → Type 0
+AgreeInRows = AllZip AgreeInRow

@@ -1,16 +1,14 @@
 -- What the text of a specification asks for: its checks, or its first refusal.
 use Rattle.std.specs.Prelude.{◌≡◌, ℕ, List, map, All, Result, Ok, Err}
-use Rattle.rela_lex.specs.declared.error.SpecError.{SpecError}
 use Rattle.rela_locations.specs.Network.{Network}
 use Rattle.rela_names.specs.declared.level.Level.{Level}
 use Rattle.rela_snapshot.specs.Steps.{◌>>=◌}
 use Rattle.rela_spec.specs.declared.tree.SpecFile.{SpecFile}
 use Rattle.rela_translate.specs.Checked.{Checked as Check}
 use Rattle.rela_expand.specs.Expand.{expanded, outcome_of}
-use Rattle.rela_top.specs.Specifications.{ReadsTree}
+use Rattle.rela_top.specs.Specifications.{IsFaultOf, ReadsTree}
 use Rattle.rela_top.specs.declared.asking.Asked.{Asked}
 use Rattle.rela_top.specs.declared.refusal.Refusal.{Refusal}
-use Rattle.rela_top.specs.declared.refusal.Refusal.TheVariants.{Specification}
 
 -- the level of the locations, and the checks in their order
 pub record Specified : Type 0 where
@@ -24,24 +22,22 @@ pub record IsSpecified (network : Network) (tree : SpecFile) (specified : Specif
   pub levels : All (λ check. check.level ≡ tree.level) specified.checks
 
 -- what a tree asks for over the network, or the first refusal as it is expanded
-abbrev pub AsksFor : Network → SpecFile → Result Specified SpecError → Type 0
+abbrev pub AsksFor : Network → SpecFile → Result Specified Refusal → Type 0
 AsksFor network tree (Ok specified) = IsSpecified network tree specified
-AsksFor network tree (Err e) = expanded network tree ≡ Err e
+AsksFor network tree (Err refusal) = IsFaultOf (λ e. expanded network tree ≡ Err e) refusal
 
 -- what a text asks for, or its first refusal: of its tokens, else of their tree, else as that is expanded
-unfoldable pub ReadsSpecified : Network → List ℕ → Result Specified SpecError → Type 0
-ReadsSpecified network bytes = do
+unfoldable pub ReadsChecks : Network → List ℕ → Result Specified Refusal → Type 0
+ReadsChecks network bytes = do
   tree ← ReadsTree bytes
   AsksFor network tree
 
-abbrev pub as_refusal : {A : Type 0} → Result A SpecError → Result A Refusal
-as_refusal (Ok a) = Ok a
-as_refusal (Err e) = Err (Specification e)
-
--- the same as an input that is read
-abbrev pub ReadsChecks : Network → List ℕ → Result Specified Refusal → Type 0
-ReadsChecks network bytes r = (x : Result Specified SpecError) × ReadsSpecified network bytes x
-    × (r ≡ as_refusal x)
+-- the same level, and the same checks there
+pub record SameSpecified (a b : Specified) : Type 0 where
+  pub level : a.level ≡ b.level
+  pub checks : map outcome_of a.checks ≡ map outcome_of b.checks
+  pub levels : All (λ check. check.level ≡ a.level) a.checks
+  pub others : All (λ check. check.level ≡ b.level) b.checks
 
 -- what was read, as data
 abbrev pub specified_by : Asked → Specified

@@ -1,15 +1,21 @@
 //! What a specification asks for, from its text.
 
-ghost use Rattle.std.specs.Prelude.{◌≢◌, ◌≤◌, Ok, Err, IfOk, IfErr, All, length};
+ghost use Rattle.std.specs.Prelude.{◌≡◌, ◌≤◌, IfOk, All, length};
 ghost use Rattle.rela_locations.specs.Network.{alphabet_of};
+ghost use Rattle.rela_spec.specs.Depth.{IsLow};
+ghost use Rattle.rela_spec.specs.Full.{IsFull};
+ghost use Rattle.rela_top.specs.Given.{Equals, IsRead, seen};
 ghost use Rattle.rela_top.specs.Rows.{ListsPathSymbols};
-ghost use Rattle.rela_top.specs.Specified.{ReadsSpecified, specified_by};
+ghost use Rattle.rela_top.specs.Specifications.{ReadsTree};
+ghost use Rattle.rela_top.specs.Specified.{ReadsChecks, SameSpecified, specified_by};
 
-use crate::formatting::read_tree;
+use crate::halts::spec_halt;
+use crate::reading::Halt;
 use rela_expand::expand;
-use rela_lex::SpecError;
+use rela_lex::tokens;
 use rela_locations::Locations;
 use rela_names::Level;
+use rela_spec::{SpecFile, parse};
 use rela_translate::Check;
 use std::alloc::Global;
 
@@ -22,26 +28,53 @@ pub struct Asked {
     pub checks: Vec<Check>,
 }
 
-/// What a text of at most 32 MiB asks for over these locations.
+/// The tree of a specification's text, which has at most 32 MiB. No predicate in it is deeper than
+/// 1,000, and each of its lists has two parts or more. Time and space: linear in the text.
 ///
 /// # Errors
 ///
-/// The first fault of the text: `BadToken` where no token begins; else `Syntax`, `TooDeep` or
-/// `BadNumber` as the tokens are read; else, as what is read is expanded, `RepeatedName`,
-/// `UnknownName`, `FinerLevel`, `UnknownLocation`, `TooDeep` or `TooLarge`; `Memory`.
-pub fn read_asked(alloc: Global, text: &[u8], locations: &Locations) -> Result<Asked, SpecError>
+/// `Refused` with `BadToken` where no token begins; else with the first fault of the tokens,
+/// `Syntax`, `TooDeep` or `BadNumber`; `Memory`.
+pub fn read_tree(alloc: Global, text: &[u8]) -> Result<SpecFile, Halt>
     requires { length text.now ≤ 33554432 }
-    ensures asked { IfOk result (λ asked.
-        ReadsSpecified locations.now text.now (Ok (specified_by asked))) }
+    ensures tree { IsRead Equals (ReadsTree text.now) result }
+    ensures full { IfOk result (λ file. IsFull file) }
+    ensures low { IfOk result (λ file. All IsLow file.items) }
+{
+    let tokens = match tokens(alloc, text) {
+        Ok(tokens) => tokens,
+        Err(error) => return Err(spec_halt(error)),
+    };
+    match parse(alloc, tokens.as_slice(), text.len() as u32) {
+        Ok(file) => Ok(file),
+        Err(error) => Err(spec_halt(error)),
+    }
+}
+
+/// What a text of at most 32 MiB asks for over these locations. Time and space: linear in the text
+/// and in the checks, whose names are written out.
+///
+/// # Errors
+///
+/// `Refused` with the first fault of the text: `BadToken` where no token begins; else `Syntax`,
+/// `TooDeep` or `BadNumber` as the tokens are read; else, as what is read is expanded,
+/// `RepeatedName`, `UnknownName`, `FinerLevel`, `UnknownLocation`, `TooDeep` or `TooLarge`;
+/// `Memory`.
+pub fn read_asked(alloc: Global, text: &[u8], locations: &Locations) -> Result<Asked, Halt>
+    requires { length text.now ≤ 33554432 }
+    ensures asked { IsRead SameSpecified (ReadsChecks locations.now text.now)
+        (seen specified_by result) }
     ensures listed { IfOk result (λ asked.
         All (ListsPathSymbols (alphabet_of asked.level locations.now)) asked.checks.items) }
-    ensures fault { IfErr result (λ e. e ≢ SpecError.Memory →
-        ReadsSpecified locations.now text.now (Err e)) }
+    ensures levels { IfOk result (λ asked.
+        All (λ check. check.level ≡ asked.level) asked.checks.items) }
 {
     let file = read_tree(alloc, text)?;
-    let checks = expand(alloc, &file, locations)?;
-    Ok(Asked {
-        level: file.level,
-        checks,
-    })
+    match expand(alloc, &file, locations) {
+        Ok(checks) => Ok(Asked {
+            level: file.level,
+            checks,
+        }),
+        Err(error) => Err(spec_halt(error)),
+    }
 }

@@ -2,10 +2,11 @@
 #![tactic(auto)]
 
 mod answer;
-mod arguments;
 mod asking;
+mod change;
 mod drawing;
 mod formatting;
+mod halts;
 mod loading;
 mod planning;
 mod reading;
@@ -14,20 +15,21 @@ mod reporting;
 mod rows;
 mod running;
 mod sharing;
+mod texts;
 mod verdict;
-mod words;
 
 pub use answer::{
     Answer, BAD_WORDS, MET, NO_MEMORY, READ_FAULT, REFUSED, UNDECIDED, VIOLATED, WRITE_FAULT,
     deliver,
 };
-pub use asking::{Asked, read_asked};
+pub use asking::{Asked, read_asked, read_tree};
+pub use change::{Loaded, load_change, read_change};
 pub use drawing::draw;
-pub use formatting::{format, read_tree};
-pub use loading::{load_locations, load_pairs, load_snapshot, load_spec, load_tables};
+pub use formatting::format;
+pub use loading::{load_locations, load_pairs, load_snapshot, load_spec, load_tables, load_tree};
 pub use reading::{Halt, MAX_FILE_BYTES, read_input};
-pub use refusal::{Input, Refusal, refusal_line};
-pub use reporting::report;
+pub use refusal::{Input, Reason, Refusal, refusal_line};
+pub use reporting::{report, report_texts};
 pub use rows::rows_of;
 pub use running::run;
-pub use words::{Command, DEFAULT_STATES, MAX_STATES, read_words};
+pub use texts::{pair_flows, read_locations, read_pairs, read_snapshot, read_tables};

@@ -1,12 +1,12 @@
 //! Reading the files that a command names.
 
-ghost use Rattle.std.specs.Prelude.{◌≡◌, ◌≢◌, ◌≤◌, Err, IsTrue, IfOk, IfErr, OnOk, vec_len};
+ghost use Rattle.std.specs.Prelude.{◌≡◌, ◌≢◌, ◌≤◌, Err, IsTrue, IfOk, is_some, vec_len};
 ghost use Rattle.rela_io.specs.Held.{HoldsName};
-ghost use Rattle.rela_top.specs.Reading.{max_file_bytes, HaltsBy};
-ghost use Rattle.rela_top.specs.Inputs.{HasBytes, IsTooLong};
-ghost use Rattle.rela_top.specs.declared.refusal.Refusal.{Refusal};
+ghost use Rattle.rela_top.specs.Given.{Equals, IsGiven, seen};
+ghost use Rattle.rela_top.specs.Inputs.{BytesOf};
+ghost use Rattle.rela_top.specs.Reading.{max_file_bytes, Ends};
 
-use crate::refusal::{Input, Refusal};
+use crate::refusal::{Input, Reason, Refusal};
 use rela_io::{Files, ReadError, read_all};
 use std::alloc::{AllocError, Global};
 
@@ -40,21 +40,16 @@ impl From<AllocError> for Halt {
 ///
 /// `ReadFault` where the file can't be opened or a read fails; `Refused` where it has more than
 /// [`MAX_FILE_BYTES`]; `Memory`.
-#[tactic(auto, unfolding(crate::specs::Inputs::HasBytes))]
 pub fn read_input<F: Files>(
     alloc: Global,
     files: &mut F,
     input: Input,
     name: &str,
 ) -> Result<Vec<u8>, Halt>
-    ensures bytes { IfOk result (λ bytes. HasBytes (F.holds files.old) name.now bytes.items) }
-    ensures too_long { IfErr result (λ halt. (refusal : Refusal) → halt ≡ Halt.Refused refusal →
-        IsTooLong (F.holds files.old) name.now input refusal) }
+    ensures given { IsGiven (is_some (F.holds files.old)) (F.steady files.old) Equals
+        (BytesOf (F.holds files.old) name.now input) (seen (λ bytes. bytes.items) result) }
     ensures ok_within { IfOk result (λ bytes. vec_len bytes ≤ max_file_bytes) }
-    ensures ok_given { OnOk result (F.given files.new ≤ max_file_bytes) }
-    ensures ok_keeps_count { OnOk result (F.faults files.new ≡ F.faults files.old) }
-    ensures halts { IfErr result
-        (HaltsBy (F.faults files.old) (F.faults files.new) (F.given files.new)) }
+    ensures ends { Ends (F.faults files.old) (F.faults files.new) (F.given files.new) result }
     ensures steady_is_no_fault { IsTrue (F.steady files.old) →
         HoldsName (F.holds files.old) name.now → result ≢ Err Halt.ReadFault }
     ensures same_holds { F.holds files.new ≡ F.holds files.old }
@@ -63,7 +58,10 @@ pub fn read_input<F: Files>(
     match read_all(alloc, files, name, MAX_FILE_BYTES) {
         Ok(bytes) => Ok(bytes),
         Err(ReadError::Fault) => Err(Halt::ReadFault),
-        Err(ReadError::TooLong) => Err(Halt::Refused(Refusal::TooLong(input))),
+        Err(ReadError::TooLong) => Err(Halt::Refused(Refusal {
+            input,
+            reason: Reason::TooLong,
+        })),
         Err(ReadError::Memory) => Err(Halt::Memory),
     }
 }

@@ -1,7 +1,7 @@
-//! Why an input is refused, and the line that says so.
+//! Which input is refused and why, and the line that says so.
 
 ghost use Rattle.std.specs.Prelude.{◌≡◌, ◌++◌, IfOk, OnOk, string_bytes};
-ghost use Rattle.rela_top.specs.Refusal.{input_text, in_row, by_rule, load_text, at_offset, spec_text, class_text, differs_text, fib_text, at_place, refusal_line};
+ghost use Rattle.rela_top.specs.Refusal.{input_text, in_row, by_rule, load_text, at_offset, spec_text, class_text, differs_text, fib_text, reason_text, at_place, refusal_line};
 
 use rela_fib::FibError;
 use rela_flows::FlowClass;
@@ -9,7 +9,7 @@ use rela_json::LoadError;
 use rela_lex::SpecError;
 use std::alloc::{AllocError, Global};
 
-/// One of the files that a command reads.
+/// What a command reads, and what a refusal speaks of.
 #[derive(Clone, Copy, Debug, PartialEq, Eq)]
 pub enum Input {
     /// The location file.
@@ -18,6 +18,8 @@ pub enum Input {
     Before,
     /// The snapshot after the change.
     After,
+    /// The flows of the two snapshots, side by side.
+    Pair,
     /// The specification.
     Spec,
     /// The table file that a snapshot is made of.
@@ -26,24 +28,32 @@ pub enum Input {
     Other,
 }
 
+/// Which input is refused, and why.
+#[derive(Debug, Drop)]
+pub struct Refusal {
+    /// The input.
+    pub input: Input,
+    /// What is wrong with it.
+    pub reason: Reason,
+}
+
 /// Why an input is refused.
 #[derive(Debug, Drop)]
-pub enum Refusal {
-    /// The file of this input has more bytes than are allowed.
-    TooLong(Input),
-    /// The first fault of a JSON file, which stands for this input, in the order in which it is
-    /// walked. It isn't want of memory.
-    Load { input: Input, error: LoadError },
+pub enum Reason {
+    /// The file has more bytes than are allowed.
+    TooLong,
+    /// The first fault of a JSON file, in the order in which it is walked. It isn't want of memory.
+    Load(LoadError),
     /// The two snapshots give a flow of one name different prefixes or classes.
     FlowDiffers { before: FlowClass, after: FlowClass },
-    /// The first fault of the specification. It isn't want of memory.
+    /// The first fault of the text of a specification. It isn't want of memory.
     Specification(SpecError),
     /// Why tables give no snapshot. It isn't want of memory.
     Snapshot(FibError),
 }
 
 /// The line that a refused input gets, with its line feed: `refused`, the place, the number and
-/// name of the refusal, and its detail.
+/// name of the refusal, and its detail. Time and space: linear in the line.
 ///
 /// # Errors
 ///
@@ -51,28 +61,24 @@ pub enum Refusal {
 pub fn refusal_line(alloc: Global, refusal: &Refusal) -> Result<Vec<u8>, AllocError>
     ensures { IfOk result (λ text. text.items ≡ refusal_line refusal.now) }
 {
-    match refusal {
-        Refusal::TooLong(input) => at_place(alloc, input_text(*input), b"2 TooLong"),
-        Refusal::Load { input, error } => {
-            let said = load_text(alloc, error)?;
-            at_place(alloc, input_text(*input), said.as_bytes())
-        }
-        Refusal::FlowDiffers { before, after } => {
-            let said = differs_text(alloc, before, after)?;
-            at_place(alloc, "pair", said.as_slice())
-        }
-        Refusal::Specification(error) => {
-            let said = spec_text(alloc, error)?;
-            at_place(alloc, "spec", said.as_bytes())
-        }
-        Refusal::Snapshot(error) => {
-            let said = fib_text(alloc, error)?;
-            at_place(alloc, "tables", said.as_bytes())
-        }
+    let said = reason_text(alloc, &refusal.reason)?;
+    at_place(alloc, input_text(refusal.input), said.as_slice())
+}
+
+/// The number and name of the refusal, and its detail.
+fn reason_text(alloc: Global, reason: &Reason) -> Result<Vec<u8>, AllocError>
+    ensures { IfOk result (λ text. text.items ≡ reason_text reason.now) }
+{
+    match reason {
+        Reason::TooLong => Vec::from_slice(alloc, b"2 TooLong"),
+        Reason::Load(error) => Ok(load_text(alloc, error)?.into_bytes()),
+        Reason::FlowDiffers { before, after } => differs_text(alloc, before, after),
+        Reason::Specification(error) => Ok(spec_text(alloc, error)?.into_bytes()),
+        Reason::Snapshot(error) => Ok(fib_text(alloc, error)?.into_bytes()),
     }
 }
 
-/// The place that a refusal names for an input.
+/// The place that a line names for an input.
 fn input_text(input: Input) -> &'static str
     ensures { result.now ≡ input_text input }
 {
@@ -80,6 +86,7 @@ fn input_text(input: Input) -> &'static str
         Input::Locations => "locations",
         Input::Before => "before",
         Input::After => "after",
+        Input::Pair => "pair",
         Input::Spec => "spec",
         Input::Tables => "tables",
         Input::Other => "other",

@@ -1,28 +1,24 @@
 //! From the two snapshots, the locations and the specification to the report.
 
-ghost use Rattle.std.specs.Prelude.{◌≡◌, ◌≢◌, ◌≤◌, Ok, Err, IsTrue, IfOk, IfErr, OnOk};
+ghost use Rattle.std.specs.Prelude.{◌≢◌, ◌≤◌, Ok, Err, IsTrue, IfOk, is_some, length};
 ghost use Rattle.rela_io.specs.Held.{HoldsName};
 ghost use Rattle.rela_top.specs.Answer.{answer_by, IsOutcomeStatus};
-ghost use Rattle.rela_top.specs.Checks.{Checks, ChecksOver, Reports};
-ghost use Rattle.rela_top.specs.Reading.{max_file_bytes, HaltsBy};
+ghost use Rattle.rela_top.specs.Checks.{Checks, Reports, ReportsTexts, SameReports};
+ghost use Rattle.rela_top.specs.Given.{IsGiven, IsRead, seen};
+ghost use Rattle.rela_top.specs.Loaded.{loaded_by, names_of};
+ghost use Rattle.rela_top.specs.Reading.{Ends};
 ghost use Rattle.rela_top.specs.Rows.{AreChecksAt};
-ghost use Rattle.rela_top.specs.declared.refusal.Refusal.{Refusal};
 
 use crate::answer::Answer;
-use crate::loading::{load_locations, load_pairs, load_spec};
+use crate::change::{Loaded, load_change, read_change};
 use crate::reading::Halt;
 use crate::rows::rows_of;
 use rela_io::Files;
-use rela_locations::Locations;
-use rela_names::Alphabet;
 use rela_report::{status, text};
-use rela_snapshot::FlowPair;
-use rela_translate::Check;
 use std::alloc::{AllocError, Global};
 
-/// Reads the locations, the snapshot before, the snapshot after and the specification in the files
-/// of these names, in this order, and makes the report. `states` is the state limit of each
-/// verdict.
+/// Loads the change in the files of these names, as [`load_change`] does, and makes the report.
+/// `states` is the state limit of each verdict.
 ///
 /// # Errors
 ///
@@ -37,82 +33,65 @@ pub fn report<F: Files>(
     states: usize,
 ) -> Result<Answer, Halt>
     requires some { 1 ≤ states }
-    ensures reports { IfOk result (λ answer. Checks (F.holds files.old)
-        before.now after.now locations.now spec.now states (Ok (answer_by answer))) }
+    ensures given { IsGiven (is_some (F.holds files.old)) (F.steady files.old) SameReports
+        (Checks (F.holds files.old) before.now after.now locations.now spec.now states)
+        (seen answer_by result) }
     ensures status { IfOk result (λ answer. IsOutcomeStatus answer.status) }
-    ensures refused { IfErr result (λ halt. (refusal : Refusal) → halt ≡ Halt.Refused refusal →
-        Checks (F.holds files.old) before.now after.now locations.now spec.now states
-        (Err refusal)) }
-    ensures ok_given { OnOk result (F.given files.new ≤ max_file_bytes) }
-    ensures ok_keeps_count { OnOk result (F.faults files.new ≡ F.faults files.old) }
-    ensures halts { IfErr result
-        (HaltsBy (F.faults files.old) (F.faults files.new) (F.given files.new)) }
+    ensures ends { Ends (F.faults files.old) (F.faults files.new) (F.given files.new) result }
     ensures steady_is_no_fault { IsTrue (F.steady files.old) →
         HoldsName (F.holds files.old) before.now →
-        HoldsName (F.holds files.old) after.now → HoldsName (F.holds files.old) locations.now →
-        HoldsName (F.holds files.old) spec.now → result ≢ Err Halt.ReadFault }
+        HoldsName (F.holds files.old) after.now →
+        HoldsName (F.holds files.old) locations.now →
+        HoldsName (F.holds files.old) spec.now →
+        result ≢ Err Halt.ReadFault }
 {
-    let locations = load_locations(alloc, files, locations)?;
-    report_over(alloc, files, before, after, spec, &locations, states)
+    let loaded = load_change(alloc, files, before, after, locations, spec)?;
+    Ok(report_on(alloc, &loaded, states)?)
 }
 
-/// The answer of [`report`] over locations that are read already.
-fn report_over<F: Files>(
+/// The report on the change in these texts, of at most 32 MiB each: what [`report`] makes of files
+/// that hold them.
+///
+/// # Errors
+///
+/// The first refusal or want of memory ends it.
+pub fn report_texts(
     alloc: Global,
-    files: &mut F,
-    before: &str,
-    after: &str,
-    spec: &str,
-    locations: &Locations,
+    before: &[u8],
+    after: &[u8],
+    locations: &[u8],
+    spec: &[u8],
     states: usize,
 ) -> Result<Answer, Halt>
     requires some { 1 ≤ states }
-    ensures reports { IfOk result (λ answer. ChecksOver (F.holds files.old) locations.now
-        before.now after.now spec.now states (Ok (answer_by answer))) }
+    requires before { length before.now ≤ 33554432 }
+    requires after { length after.now ≤ 33554432 }
+    requires locations { length locations.now ≤ 33554432 }
+    requires spec { length spec.now ≤ 33554432 }
+    ensures reports { IsRead SameReports
+        (ReportsTexts before.now after.now locations.now spec.now states)
+        (seen answer_by result) }
     ensures status { IfOk result (λ answer. IsOutcomeStatus answer.status) }
-    ensures refused { IfErr result (λ halt. (refusal : Refusal) → halt ≡ Halt.Refused refusal →
-        ChecksOver (F.holds files.old) locations.now before.now after.now spec.now states
-        (Err refusal)) }
-    ensures ok_given { OnOk result (F.given files.new ≤ max_file_bytes) }
-    ensures ok_keeps_count { OnOk result (F.faults files.new ≡ F.faults files.old) }
-    ensures halts { IfErr result
-        (HaltsBy (F.faults files.old) (F.faults files.new) (F.given files.new)) }
-    ensures steady_is_no_fault { IsTrue (F.steady files.old) →
-        HoldsName (F.holds files.old) before.now →
-        HoldsName (F.holds files.old) after.now → HoldsName (F.holds files.old) spec.now →
-        result ≢ Err Halt.ReadFault }
 {
-    let pairs = load_pairs(alloc, files, before, after, locations)?;
-    let asked = load_spec(alloc, files, spec, locations)?;
-    Ok(report_on(
-        alloc,
-        &pairs,
-        &asked.checks,
-        locations.alphabet(asked.level),
-        states,
-    )?)
+    let loaded = read_change(alloc, before, after, locations, spec)?;
+    Ok(report_on(alloc, &loaded, states)?)
 }
 
-/// The report on these flows under these checks, made whole. `names` are the locations of the
-/// checks' level.
+/// The report on a loaded change, made whole.
 ///
 /// # Errors
 ///
 /// Only where memory is wanted.
-fn report_on(
-    alloc: Global,
-    pairs: &[FlowPair],
-    checks: &[Check],
-    names: &Alphabet,
-    states: usize,
-) -> Result<Answer, AllocError>
+fn report_on(alloc: Global, loaded: &Loaded, states: usize) -> Result<Answer, AllocError>
     requires some { 1 ≤ states }
-    requires checks { AreChecksAt names.now pairs.now checks.now }
+    requires checks { AreChecksAt (names_of (loaded_by loaded.now)) loaded.now.pairs.items
+        loaded.now.asked.checks.items }
     ensures reports { IfOk result (λ answer.
-        Reports names.now states checks.now pairs.now (Ok (answer_by answer))) }
+        Reports states (loaded_by loaded.now) (Ok (answer_by answer))) }
     ensures status { IfOk result (λ answer. IsOutcomeStatus answer.status) }
 {
-    let rows = rows_of(alloc, pairs, checks, names, states)?;
+    let names = loaded.locations.alphabet(loaded.asked.level);
+    let rows = rows_of(alloc, &loaded.pairs, &loaded.asked.checks, names, states)?;
     let text = text(alloc, &rows, names)?;
     let status = status(&rows);
     Ok(Answer { text, status })

@@ -1,13 +1,14 @@
 //! The one call that the program makes.
 
-ghost use Rattle.std.specs.Prelude.{◌≡◌, ◌≢◌, ◌<◌, ◌≤◌, ◌⊎◌, Ok, Err, IsTrue, IfOk, IfErr, OnOk, map, string_bytes};
+ghost use Rattle.std.specs.Prelude.{◌≡◌, ◌≢◌, ◌<◌, ◌⊎◌, Err, IsTrue, IfOk, OnOk, is_some, map, string_bytes};
 ghost use Rattle.rela_io.specs.Count.{Rose};
-ghost use Rattle.rela_top.specs.Words.{AskNothing, HasStates};
-ghost use Rattle.rela_top.specs.Reading.{max_file_bytes, HoldsAsked, HoldsFiles, HaltsBy};
+ghost use Rattle.rela_words.specs.Words.{AskNothing, HasNumbers};
+ghost use Rattle.rela_top.specs.Operands.{HoldsAsked, HoldsFiles};
 ghost use Rattle.rela_top.specs.Answer.{answer_by, IsOutcomeStatus};
-ghost use Rattle.rela_top.specs.Outcome.{Answers, GivenBy, Outcome};
-ghost use Rattle.rela_top.specs.declared.refusal.Refusal.{Refusal};
-ghost use Rattle.rela_top.specs.Commands.{command_of};
+ghost use Rattle.rela_top.specs.Given.{IsGiven, seen};
+ghost use Rattle.rela_top.specs.Outcome.{Answers, AnswersAll, CompletesAll, GivenBy, GivesNothing, Outcome, SameAnswer};
+ghost use Rattle.rela_top.specs.Reading.{Ends};
+ghost use Rattle.rela_words.specs.Commands.{command_of};
 
 use crate::answer::{Answer, BAD_WORDS, NO_MEMORY, READ_FAULT, REFUSED, WRITE_FAULT, deliver};
 use crate::drawing::draw;
@@ -15,8 +16,8 @@ use crate::formatting::format;
 use crate::reading::Halt;
 use crate::refusal::refusal_line;
 use crate::reporting::report;
-use crate::words::{Command, read_words};
 use rela_io::{Files, Sink};
+use rela_words::{Command, WordsError, read_words};
 use std::alloc::Global;
 
 /// Does what the words ask for, those after the program's name: reads `files`, writes the whole
@@ -28,7 +29,7 @@ pub fn run<F: Files, K: Sink>(alloc: Global, words: &[String], files: &mut F, ou
         Answers (map string_bytes words.now) (F.holds files.old) (F.given files.new)
         (K.taken out.old) (K.taken out.new) result }
     ensures bad_words { result ≡ BAD_WORDS → AskNothing (map string_bytes words.now) }
-    ensures unread_words { AskNothing (map string_bytes words.now) →
+    ensures unread_words { AskNothing (map string_bytes words.now) → result ≢ NO_MEMORY →
         (result ≡ BAD_WORDS) ⊎ (result ≡ WRITE_FAULT) }
     ensures unread_words_open_nothing { AskNothing (map string_bytes words.now) →
         files.new ≡ files.old }
@@ -41,6 +42,12 @@ pub fn run<F: Files, K: Sink>(alloc: Global, words: &[String], files: &mut F, ou
         HoldsAsked (F.holds files.old) (map string_bytes words.now) →
         (result ≢ READ_FAULT) × (F.faults files.new ≡ F.faults files.old) }
 
+    // Over steady files what they give is the answer, unless memory runs out: so the first refusal is,
+    // whatever stands in the files after it.
+    ensures complete { IsTrue (F.steady files.old) →
+        CompletesAll (map string_bytes words.now) (F.holds files.old)
+        (K.taken out.old) (K.taken out.new) result }
+
     // A write fault, exactly where one was counted.
     ensures write_fault_counted { result ≡ WRITE_FAULT →
         Rose (K.faults out.old) (K.faults out.new) }
@@ -49,8 +56,10 @@ pub fn run<F: Files, K: Sink>(alloc: Global, words: &[String], files: &mut F, ou
     ensures read_fault_writes_nothing { result ≡ READ_FAULT → out.new ≡ out.old }
     ensures no_memory_writes_nothing { result ≡ NO_MEMORY → out.new ≡ out.old }
 {
-    let Some(command) = read_words(words) else {
-        return deliver(out, b"rela: bad command line\n", BAD_WORDS);
+    let command = match read_words(alloc, words) {
+        Ok(command) => command,
+        Err(WordsError::Bad) => return deliver(out, b"rela: bad command line\n", BAD_WORDS),
+        Err(WordsError::Memory) => return NO_MEMORY,
     };
     match answer(alloc, files, &command) {
         Ok(answer) => deliver(out, answer.text.as_slice(), answer.status),
@@ -73,8 +82,8 @@ enum Stop {
 /// # Errors
 ///
 /// `ReadFault` where a file can't be read; `Memory` where memory runs out.
-fn answer<F: Files>(alloc: Global, files: &mut F, command: &Command<'_>) -> Result<Answer, Stop>
-    requires { HasStates (command_of command.now) }
+fn answer<F: Files>(alloc: Global, files: &mut F, command: &Command) -> Result<Answer, Stop>
+    requires { HasNumbers (command_of command.now) }
     ensures fits { IfOk result (λ answer.
         GivenBy (F.holds files.old) (command_of command.now) (F.given files.new)
         (answer_by answer)) }
@@ -87,6 +96,10 @@ fn answer<F: Files>(alloc: Global, files: &mut F, command: &Command<'_>) -> Resu
     ensures steady_is_no_fault { IsTrue (F.steady files.old) →
         HoldsFiles (F.holds files.old) (command_of command.now) →
         (result ≢ Err Stop.ReadFault) × (F.faults files.new ≡ F.faults files.old) }
+    ensures complete { IsTrue (F.steady files.old) → IfOk result (λ answer.
+        AnswersAll (F.holds files.old) (command_of command.now) (answer_by answer)) }
+    ensures fault_gives_nothing { IsTrue (F.steady files.old) → result ≡ Err Stop.ReadFault →
+        GivesNothing (F.holds files.old) (command_of command.now) }
 {
     match carry_out(alloc, files, command) {
         Ok(answer) => Ok(answer),
@@ -107,34 +120,34 @@ fn answer<F: Files>(alloc: Global, files: &mut F, command: &Command<'_>) -> Resu
 /// # Errors
 ///
 /// The first refusal, read fault or want of memory ends it.
-fn carry_out<F: Files>(alloc: Global, files: &mut F, command: &Command<'_>) -> Result<Answer, Halt>
-    requires { HasStates (command_of command.now) }
-    ensures made { IfOk result (λ answer.
-        Outcome (F.holds files.old) (command_of command.now) (Ok (answer_by answer))) }
+fn carry_out<F: Files>(alloc: Global, files: &mut F, command: &Command) -> Result<Answer, Halt>
+    requires { HasNumbers (command_of command.now) }
+    ensures given { IsGiven (is_some (F.holds files.old)) (F.steady files.old)
+        (SameAnswer (command_of command.now))
+        (Outcome (F.holds files.old) (command_of command.now)) (seen answer_by result) }
     ensures status { IfOk result (λ answer. IsOutcomeStatus answer.status) }
-    ensures refused { IfErr result (λ halt. (refusal : Refusal) → halt ≡ Halt.Refused refusal →
-        Outcome (F.holds files.old) (command_of command.now) (Err refusal)) }
-    ensures ok_given { OnOk result (F.given files.new ≤ max_file_bytes) }
-    ensures ok_keeps_count { OnOk result (F.faults files.new ≡ F.faults files.old) }
-    ensures halts { IfErr result
-        (HaltsBy (F.faults files.old) (F.faults files.new) (F.given files.new)) }
+    ensures ends { Ends (F.faults files.old) (F.faults files.new) (F.given files.new) result }
     ensures steady_is_no_fault { IsTrue (F.steady files.old) →
         HoldsFiles (F.holds files.old) (command_of command.now) →
         result ≢ Err Halt.ReadFault }
 {
-    match *command {
-        Command::Check {
-            before,
-            after,
-            locations,
-            spec,
-            states,
-        } => report(alloc, files, before, after, locations, spec, states),
-        Command::Fmt { spec } => format(alloc, files, spec),
-        Command::Fib {
-            tables,
-            other,
-            locations,
-        } => draw(alloc, files, tables, other, locations),
+    match command {
+        Command::Check(check) => report(
+            alloc,
+            files,
+            check.before.as_str(),
+            check.after.as_str(),
+            check.locations.as_str(),
+            check.spec.as_str(),
+            check.states,
+        ),
+        Command::Fmt(fmt) => format(alloc, files, fmt.spec.as_str()),
+        Command::Fib(fib) => draw(
+            alloc,
+            files,
+            fib.tables.as_str(),
+            fib.other.as_str(),
+            fib.locations.as_str(),
+        ),
     }
 }

@@ -1,36 +1,47 @@
-use Rattle.std.proofs.Common.{◌≡◌, ◌∙◌, Ok, Err, arith, sym}
+use Rattle.std.proofs.Common.{◌≡◌, ◌∙◌, Err, arith}
 use Rattle.rela_locations.specs.Network.{alphabet_of}
-use Rattle.rela_top.proofs.LoadLaws.{paired, pair_refused, pair_halts}
-use Rattle.rela_top.proofs.PairLaws.{before_refused, after_refused, gives_pairs}
+use Rattle.rela_names.specs.declared.level.Level.{Level}
+use Rattle.rela_snapshot.specs.PairsLocated.{ArePairsLocated}
+use Rattle.rela_top.proofs.GivenLaws.{if_ok_each, ends_inside, ends_later, ends_stopped, halts_seen, no_read_fault}
+use Rattle.rela_top.proofs.PairLaws.{before_stopped, after_stopped, pairs_given}
 use Rattle.rela_top.proofs.loading.load_pairs.Goals as goal
 
-pub returns-in_err-earlier-clause-refused : goal.returns-in_err-earlier-clause-refused
-returns-in_err-earlier-clause-refused g c =
+pub returns-in_err-earlier-clause-given : goal.returns-in_err-earlier-clause-given
+returns-in_err-earlier-clause-given g c =
     let fault : c.from_residual.result ≡ Err c.in_err-earlier.field-0.0 = grind arith in
-    rw fault (λ refusal is. before_refused _ _ _ _ refusal (c.in_err-earlier.ensures.refused refusal is))
+    rw fault (before_stopped _ _ _ _ _ c.in_err-earlier.field-0.0 c.in_err-earlier.ensures.given)
 
-pub returns-in_err-later-clause-refused : goal.returns-in_err-later-clause-refused
-returns-in_err-later-clause-refused g c =
+pub returns-in_err-earlier-clause-ends : goal.returns-in_err-earlier-clause-ends
+returns-in_err-earlier-clause-ends g c =
+    let fault : c.from_residual.result ≡ Err c.in_err-earlier.field-0.0 = grind arith in
+    rw fault (ends_stopped _ _ _ c.in_err-earlier.field-0.0 c.in_err-earlier.ensures.ends)
+
+pub returns-in_err-later-clause-given : goal.returns-in_err-later-clause-given
+returns-in_err-later-clause-given g c =
     let fault : c.from_residual-in_err-later.result ≡ Err c.in_err-later.field-0.0 = grind arith in
-    rw fault (λ refusal is. after_refused _ _ _ _ _ c.in_ok-earlier.earlier refusal
-    c.in_ok-earlier.ensures.flows c.in_ok-earlier.ensures.same_holds (c.in_err-later.ensures.refused refusal is))
+    let second = rw (c.in_ok-earlier.ensures.same_holds, c.in_ok-earlier.ensures.same_steady) at c.in_err-later.ensures.given in
+    rw fault (after_stopped _ _ _ _ _ c.in_ok-earlier.earlier c.in_err-later.field-0.0 c.in_ok-earlier.ensures.given second)
 
-pub returns-in-Ok-clause-pairs : goal.returns-in-Ok-clause-pairs
-returns-in-Ok-clause-pairs g c =
-    gives_pairs _ _ _ _ _ c.in_ok-earlier.earlier c.in_ok-later.later (Ok c.in-Ok.pairs.items)
-    c.in_ok-earlier.ensures.flows c.in_ok-earlier.ensures.same_holds c.in_ok-later.ensures.flows (paired _ _ _ c.in-Ok.ensures.pairs)
+pub returns-in_err-later-clause-ends : goal.returns-in_err-later-clause-ends
+returns-in_err-later-clause-ends g c =
+    let fault : c.from_residual-in_err-later.result ≡ Err c.in_err-later.field-0.0 = grind arith in
+    rw fault (ends_later _ _ _ _ _ c.in_ok-earlier.ensures.ends.ok_keeps_count (ends_stopped _ _ _ c.in_err-later.field-0.0 c.in_err-later.ensures.ends))
 
-pub returns-in-Ok-clause-located : goal.returns-in-Ok-clause-located
-returns-in-Ok-clause-located g c = λ level.
-    c.in-Ok.ensures.located (alphabet_of level c.args.locations.now) level (c.in_ok-earlier.ensures.located level) (c.in_ok-later.ensures.located level)
+pub returns-clause-given : goal.returns-clause-given
+returns-clause-given g c =
+    let second = rw (c.in_ok-earlier.ensures.same_holds, c.in_ok-earlier.ensures.same_steady) at c.in_ok-later.ensures.given in
+    pairs_given _ _ _ _ _ c.in_ok-earlier.earlier c.in_ok-later.later _ c.in_ok-earlier.ensures.given second c.pair_flows.ensures.pairs
 
-pub returns-in-Err-clause-refused : goal.returns-in-Err-clause-refused
-returns-in-Err-clause-refused g c = λ refusal is.
-    gives_pairs _ _ _ _ _ c.in_ok-earlier.earlier c.in_ok-later.later (Err refusal)
-    c.in_ok-earlier.ensures.flows c.in_ok-earlier.ensures.same_holds c.in_ok-later.ensures.flows
-    (pair_refused _ _ c.in-Err.error refusal c.in-Err.ensures.differs (sym c.pair_halt.ensures ∙ is))
+pub returns-clause-located : goal.returns-clause-located
+returns-clause-located g c =
+    if_ok_each (λ (level : Level) pairs. ArePairsLocated (alphabet_of level c.args.locations.now) level pairs.items) c.pair_flows.result
+    (λ level. c.pair_flows.ensures.located (alphabet_of level c.args.locations.now) level (c.in_ok-earlier.ensures.located level) (c.in_ok-later.ensures.located level))
 
-pub returns-in-Err-clause-halts : goal.returns-in-Err-clause-halts
-returns-in-Err-clause-halts g c =
-    pair_halts _ _ _ c.in-Err.error _ c.pair_halt.ensures
-    (c.in_ok-later.ensures.ok_keeps_count ∙ c.in_ok-earlier.ensures.ok_keeps_count) c.in_ok-later.ensures.ok_given
+pub returns-clause-ends : goal.returns-clause-ends
+returns-clause-ends g c =
+    ends_inside _ _ _ _ (c.in_ok-later.ensures.ends.ok_keeps_count ∙ c.in_ok-earlier.ensures.ends.ok_keeps_count) c.in_ok-later.ensures.ends.ok_given
+    (halts_seen _ c.pair_flows.result c.pair_flows.ensures.pairs.halts)
+
+pub returns-clause-steady_is_no_fault : goal.returns-clause-steady_is_no_fault
+returns-clause-steady_is_no_fault g c = λ steady before after.
+    no_read_fault _ (halts_seen _ c.pair_flows.result c.pair_flows.ensures.pairs.halts)

@@ -1,26 +1,31 @@
 use Rattle.std.proofs.Common.{◌≡◌, Err, arith}
-use Rattle.rela_top.proofs.CheckLaws.{locations_refused, checks_made, checks_refused}
+use Rattle.rela_top.specs.Answer.{answer_by}
+use Rattle.rela_top.specs.Loaded.{loaded_by}
+use Rattle.rela_top.proofs.AgreeLaws.{reports_agree}
+use Rattle.rela_top.proofs.ChangeLaws.{report_stopped, reported}
+use Rattle.rela_top.proofs.GivenLaws.{ends_stopped, memory_given, memory_ends}
 use Rattle.rela_top.proofs.reporting.report.Goals as goal
 
-pub returns-in_err-locations-clause-refused : goal.returns-in_err-locations-clause-refused
-returns-in_err-locations-clause-refused g c =
-    let fault : c.from_residual.result ≡ Err c.in_err-locations.field-0.0 = grind arith in
-    rw fault (λ refusal is. locations_refused _ _ _ _ _ _ refusal (c.in_err-locations.ensures.refused refusal is))
+pub returns-in_err-loaded-clause-given : goal.returns-in_err-loaded-clause-given
+returns-in_err-loaded-clause-given g c =
+    let fault : c.from_residual.result ≡ Err c.in_err-loaded.field-0.0 = grind arith in
+    rw fault (report_stopped _ _ _ _ _ _ _ c.in_err-loaded.field-0.0 c.in_err-loaded.ensures.given)
 
-pub returns-clause-reports : goal.returns-clause-reports
-returns-clause-reports g c =
-    checks_made _ _ _ _ _ _ _ _ c.report_over.result c.in_ok-locations.ensures.network c.in_ok-locations.ensures.same_holds c.report_over.ensures.reports
+pub returns-in_err-loaded-clause-ends : goal.returns-in_err-loaded-clause-ends
+returns-in_err-loaded-clause-ends g c =
+    let fault : c.from_residual.result ≡ Err c.in_err-loaded.field-0.0 = grind arith in
+    rw fault (ends_stopped _ _ _ c.in_err-loaded.field-0.0 c.in_err-loaded.ensures.ends)
 
-pub returns-clause-refused : goal.returns-clause-refused
-returns-clause-refused g c =
-    checks_refused _ _ _ _ _ _ _ _ c.report_over.result c.in_ok-locations.ensures.network c.in_ok-locations.ensures.same_holds c.report_over.ensures.refused
+pub returns-clause-given : goal.returns-clause-given
+returns-clause-given g c =
+    let change = loaded_by c.in_ok-loaded.loaded in
+    let answer = answer_by c.in_ok-report_on.field-0 in
+    reported _ _ _ _ _ _ _ change answer c.in_ok-loaded.ensures.given c.in_ok-report_on.ensures.reports
+    (λ other same x steps. reports_agree c.args.states change other same (g.F.Files.steady c.args.files.now) answer x c.in_ok-report_on.ensures.reports steps)
 
-pub returns-clause-ok_keeps_count : goal.returns-clause-ok_keeps_count
-returns-clause-ok_keeps_count g c = rw c.in_ok-locations.ensures.ok_keeps_count at c.report_over.ensures.ok_keeps_count
+pub returns-in_err-report_on-clause-given : goal.returns-in_err-report_on-clause-given
+returns-in_err-report_on-clause-given g c = memory_given _ _ _ _ answer_by c.from_residual-in_err-report_on.result c.from_residual-in_err-report_on.ensures.1
 
-pub returns-clause-halts : goal.returns-clause-halts
-returns-clause-halts g c = rw c.in_ok-locations.ensures.ok_keeps_count at c.report_over.ensures.halts
-
-pub returns-clause-steady_is_no_fault : goal.returns-clause-steady_is_no_fault
-returns-clause-steady_is_no_fault g c = λ steady before after locations spec.
-    (rw (c.in_ok-locations.ensures.same_steady, c.in_ok-locations.ensures.same_holds) at c.report_over.ensures.steady_is_no_fault) steady before after spec
+pub returns-in_err-report_on-clause-ends : goal.returns-in_err-report_on-clause-ends
+returns-in_err-report_on-clause-ends g c =
+    memory_ends _ _ _ c.from_residual-in_err-report_on.result c.from_residual-in_err-report_on.ensures.1 c.in_ok-loaded.ensures.ends.ok_keeps_count

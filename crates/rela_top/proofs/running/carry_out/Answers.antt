@@ -1,60 +1,72 @@
-use Rattle.std.proofs.Common.{◌≡◌, [], ◌∷◌, Ok, Err, IfOk, ap, sym, subst, arith}
+use Rattle.std.proofs.Common.{◌≡◌, ℕ, List, [], ◌∷◌, ap, sym, subst, is_some, arith, string_bytes, ◌∙◌}
 use Rattle.std.specs.List.{All}
-use Rattle.std.specs.Result.{IfErr}
 use Rattle.rela_io.specs.Held.{HoldsName}
+use Rattle.rela_words.specs.Commands.{command_of}
+use Rattle.rela_words.specs.Words.{Command, Check, Fmt, Fib, HasNumbers}
 use Rattle.rela_top.specs.Answer.{answer_by}
-use Rattle.rela_top.specs.Commands.{command_of}
-use Rattle.rela_top.specs.Outcome.{Outcome}
-use Rattle.rela_top.specs.Reading.{HoldsFiles}
-use Rattle.rela_top.specs.Words.{Command}
-use Rattle.rela_top.specs.declared.reading.Halt.TheVariants.{Refused}
-use Rattle.rela_top.specs.declared.refusal.Refusal.{Refusal}
+use Rattle.rela_top.specs.Given.{IsGiven, seen}
+use Rattle.rela_top.specs.Operands.{HoldsFiles}
+use Rattle.rela_top.specs.Outcome.{Outcome, SameAnswer}
+use Rattle.rela_top.specs.declared.refusal.Input.{Input}
+use Rattle.rela_top.specs.declared.refusal.Input.TheVariants.{Locations, Before, After, Spec, Tables, Other}
 use Rattle.rela_top.proofs.running.carry_out.Goals as goal
 
-pub returns-in-Check-clause-made : goal.returns-in-Check-clause-made
-returns-in-Check-clause-made g c =
-    subst (λ (x : Command). IfOk c.report.result (λ answer. Outcome (g.F.Files.holds c.args.files.now) x (Ok (answer_by answer))))
-    (sym (ap command_of c.in-Check.is)) c.report.ensures.reports
+same_check : (b before a after l locations s spec : List ℕ) (n : ℕ) → b ≡ before → a ≡ after → l ≡ locations → s ≡ spec
+    → Check b a l s n ≡ Check before after locations spec n
+same_check b before a after l locations s spec n eb ea el es = cc
 
-pub returns-in-Check-clause-refused : goal.returns-in-Check-clause-refused
-returns-in-Check-clause-refused g c =
-    subst (λ (x : Command). IfErr c.report.result (λ halt. (refusal : Refusal) → halt ≡ Refused refusal → Outcome (g.F.Files.holds c.args.files.now) x (Err refusal)))
-    (sym (ap command_of c.in-Check.is)) c.report.ensures.refused
+same_fib : (t tables o other l locations : List ℕ) → t ≡ tables → o ≡ other → l ≡ locations → Fib t o l ≡ Fib tables other locations
+same_fib t tables o other l locations et eo el = cc
+
+pub report-requires : goal.report-requires
+report-requires g c = record { some = (subst HasNumbers (ap command_of c.in-Check.is) c.requires).0 }
+
+pub returns-in-Check-clause-given : goal.returns-in-Check-clause-given
+returns-in-Check-clause-given g c =
+    subst (λ (x : Command). IsGiven (is_some (g.F.Files.holds c.args.files.now)) (g.F.Files.steady c.args.files.now) (SameAnswer x)
+    (Outcome (g.F.Files.holds c.args.files.now) x) (seen answer_by c.report.result))
+    (same_check _ _ _ _ _ _ _ _ c.in-Check.check.states c.as_str.ensures.value c.as_str-in-Check.ensures.value c.as_str-in-Check-2.ensures.value c.as_str-in-Check-3.ensures.value
+    ∙ sym (ap command_of c.in-Check.is)) c.report.ensures.given
 
 pub returns-in-Check-clause-steady_is_no_fault : goal.returns-in-Check-clause-steady_is_no_fault
 returns-in-Check-clause-steady_is_no_fault g c = λ steady all.
-    let held : All (HoldsName (g.F.Files.holds c.args.files.now)) (c.in-Check.before.now ∷ c.in-Check.after.now ∷ c.in-Check.locations.now ∷ c.in-Check.spec.now ∷ []) =
+    let check = c.in-Check.check in
+    let held : All (λ (operand : Input × List ℕ). HoldsName (g.F.Files.holds c.args.files.now) operand.1)
+    ((Locations, string_bytes check.locations) ∷ (Before, string_bytes check.before) ∷ (After, string_bytes check.after) ∷ (Spec, string_bytes check.spec) ∷ []) =
     subst (λ (x : Command). HoldsFiles (g.F.Files.holds c.args.files.now) x) (ap command_of c.in-Check.is) all in
-    c.report.ensures.steady_is_no_fault steady (held 0 [] (omega arith)) (held 1 [] (omega arith)) (held 2 [] (omega arith)) (held 3 [] (omega arith))
+    c.report.ensures.steady_is_no_fault steady
+    (subst (HoldsName (g.F.Files.holds c.args.files.now)) (sym c.as_str.ensures.value) (held 1 (Spec, []) (omega arith)))
+    (subst (HoldsName (g.F.Files.holds c.args.files.now)) (sym c.as_str-in-Check.ensures.value) (held 2 (Spec, []) (omega arith)))
+    (subst (HoldsName (g.F.Files.holds c.args.files.now)) (sym c.as_str-in-Check-2.ensures.value) (held 0 (Spec, []) (omega arith)))
+    (subst (HoldsName (g.F.Files.holds c.args.files.now)) (sym c.as_str-in-Check-3.ensures.value) (held 3 (Spec, []) (omega arith)))
 
-pub returns-in-Fmt-clause-made : goal.returns-in-Fmt-clause-made
-returns-in-Fmt-clause-made g c =
-    subst (λ (x : Command). IfOk c.format.result (λ answer. Outcome (g.F.Files.holds c.args.files.now) x (Ok (answer_by answer))))
-    (sym (ap command_of c.in-Fmt.is)) c.format.ensures.formats
-
-pub returns-in-Fmt-clause-refused : goal.returns-in-Fmt-clause-refused
-returns-in-Fmt-clause-refused g c =
-    subst (λ (x : Command). IfErr c.format.result (λ halt. (refusal : Refusal) → halt ≡ Refused refusal → Outcome (g.F.Files.holds c.args.files.now) x (Err refusal)))
-    (sym (ap command_of c.in-Fmt.is)) c.format.ensures.refused
+pub returns-in-Fmt-clause-given : goal.returns-in-Fmt-clause-given
+returns-in-Fmt-clause-given g c =
+    subst (λ (x : Command). IsGiven (is_some (g.F.Files.holds c.args.files.now)) (g.F.Files.steady c.args.files.now) (SameAnswer x)
+    (Outcome (g.F.Files.holds c.args.files.now) x) (seen answer_by c.format.result))
+    (ap Fmt c.as_str-in-Fmt.ensures.value ∙ sym (ap command_of c.in-Fmt.is)) c.format.ensures.given
 
 pub returns-in-Fmt-clause-steady_is_no_fault : goal.returns-in-Fmt-clause-steady_is_no_fault
 returns-in-Fmt-clause-steady_is_no_fault g c = λ steady all.
-    let held : All (HoldsName (g.F.Files.holds c.args.files.now)) (c.in-Fmt.spec.now ∷ []) =
+    let held : All (λ (operand : Input × List ℕ). HoldsName (g.F.Files.holds c.args.files.now) operand.1) ((Spec, string_bytes c.in-Fmt.fmt.spec) ∷ []) =
     subst (λ (x : Command). HoldsFiles (g.F.Files.holds c.args.files.now) x) (ap command_of c.in-Fmt.is) all in
-    c.format.ensures.steady_is_no_fault steady (held 0 [] (omega arith))
+    c.format.ensures.steady_is_no_fault steady
+    (subst (HoldsName (g.F.Files.holds c.args.files.now)) (sym c.as_str-in-Fmt.ensures.value) (held 0 (Spec, []) (omega arith)))
 
-pub returns-in-Fib-clause-made : goal.returns-in-Fib-clause-made
-returns-in-Fib-clause-made g c =
-    subst (λ (x : Command). IfOk c.draw.result (λ answer. Outcome (g.F.Files.holds c.args.files.now) x (Ok (answer_by answer))))
-    (sym (ap command_of c.in-Fib.is)) c.draw.ensures.draws
-
-pub returns-in-Fib-clause-refused : goal.returns-in-Fib-clause-refused
-returns-in-Fib-clause-refused g c =
-    subst (λ (x : Command). IfErr c.draw.result (λ halt. (refusal : Refusal) → halt ≡ Refused refusal → Outcome (g.F.Files.holds c.args.files.now) x (Err refusal)))
-    (sym (ap command_of c.in-Fib.is)) c.draw.ensures.refused
+pub returns-in-Fib-clause-given : goal.returns-in-Fib-clause-given
+returns-in-Fib-clause-given g c =
+    subst (λ (x : Command). IsGiven (is_some (g.F.Files.holds c.args.files.now)) (g.F.Files.steady c.args.files.now) (SameAnswer x)
+    (Outcome (g.F.Files.holds c.args.files.now) x) (seen answer_by c.draw.result))
+    (same_fib _ _ _ _ _ _ c.as_str-in-Fib.ensures.value c.as_str-in-Fib-2.ensures.value c.as_str-in-Fib-3.ensures.value
+    ∙ sym (ap command_of c.in-Fib.is)) c.draw.ensures.given
 
 pub returns-in-Fib-clause-steady_is_no_fault : goal.returns-in-Fib-clause-steady_is_no_fault
 returns-in-Fib-clause-steady_is_no_fault g c = λ steady all.
-    let held : All (HoldsName (g.F.Files.holds c.args.files.now)) (c.in-Fib.tables.now ∷ c.in-Fib.other.now ∷ c.in-Fib.locations.now ∷ []) =
+    let fib = c.in-Fib.fib in
+    let held : All (λ (operand : Input × List ℕ). HoldsName (g.F.Files.holds c.args.files.now) operand.1)
+    ((Locations, string_bytes fib.locations) ∷ (Tables, string_bytes fib.tables) ∷ (Other, string_bytes fib.other) ∷ []) =
     subst (λ (x : Command). HoldsFiles (g.F.Files.holds c.args.files.now) x) (ap command_of c.in-Fib.is) all in
-    c.draw.ensures.steady_is_no_fault steady (held 0 [] (omega arith)) (held 1 [] (omega arith)) (held 2 [] (omega arith))
+    c.draw.ensures.steady_is_no_fault steady
+    (subst (HoldsName (g.F.Files.holds c.args.files.now)) (sym c.as_str-in-Fib.ensures.value) (held 1 (Spec, []) (omega arith)))
+    (subst (HoldsName (g.F.Files.holds c.args.files.now)) (sym c.as_str-in-Fib-2.ensures.value) (held 2 (Spec, []) (omega arith)))
+    (subst (HoldsName (g.F.Files.holds c.args.files.now)) (sym c.as_str-in-Fib-3.ensures.value) (held 0 (Spec, []) (omega arith)))

@@ -1,0 +1,102 @@
+//! A change, loaded: what its four inputs stand for, before anything of it is decided.
+
+ghost use Rattle.std.specs.Prelude.{◌≡◌, ◌≢◌, ◌≤◌, Ok, Err, IsTrue, IfOk, is_some, length};
+ghost use Rattle.rela_io.specs.Held.{HoldsName};
+ghost use Rattle.rela_snapshot.specs.Steps.{Is};
+ghost use Rattle.rela_top.specs.Given.{IsGiven, IsRead, seen};
+ghost use Rattle.rela_top.specs.Inputs.{BytesOf};
+ghost use Rattle.rela_top.specs.Loaded.{Loads, SameLoaded, loaded_by, names_of};
+ghost use Rattle.rela_top.specs.Reading.{Ends};
+ghost use Rattle.rela_top.specs.Rows.{AreChecksAt};
+ghost use Rattle.rela_top.specs.declared.refusal.Input.TheVariants as input;
+
+use crate::asking::{Asked, read_asked};
+use crate::loading::{load_locations, load_pairs, load_spec};
+use crate::reading::Halt;
+use crate::texts::{read_locations, read_pairs};
+use rela_io::Files;
+use rela_locations::Locations;
+use rela_snapshot::FlowPair;
+use std::alloc::Global;
+
+/// What the inputs of a change stand for.
+#[derive(Drop)]
+pub struct Loaded {
+    /// The locations.
+    pub locations: Locations,
+    /// The flows before and after the change, side by side.
+    pub pairs: Vec<FlowPair>,
+    /// The checks.
+    pub asked: Asked,
+}
+
+/// Reads the locations, the snapshot before, the snapshot after and the specification in the files
+/// of these names, in this order: each file whole, and then its text. Time and space: those of
+/// decoding the files.
+///
+/// # Errors
+///
+/// The first refusal, read fault or want of memory ends it.
+pub fn load_change<F: Files>(
+    alloc: Global,
+    files: &mut F,
+    before: &str,
+    after: &str,
+    locations: &str,
+    spec: &str,
+) -> Result<Loaded, Halt>
+    ensures given { IsGiven (is_some (F.holds files.old)) (F.steady files.old) SameLoaded
+        (Loads (BytesOf (F.holds files.old) before.now input.Before)
+        (BytesOf (F.holds files.old) after.now input.After)
+        (BytesOf (F.holds files.old) locations.now input.Locations)
+        (BytesOf (F.holds files.old) spec.now input.Spec)) (seen loaded_by result) }
+    ensures checks { IfOk result (λ loaded. AreChecksAt (names_of (loaded_by loaded))
+        loaded.pairs.items loaded.asked.checks.items) }
+    ensures ends { Ends (F.faults files.old) (F.faults files.new) (F.given files.new) result }
+    ensures steady_is_no_fault { IsTrue (F.steady files.old) →
+        HoldsName (F.holds files.old) before.now →
+        HoldsName (F.holds files.old) after.now →
+        HoldsName (F.holds files.old) locations.now →
+        HoldsName (F.holds files.old) spec.now →
+        result ≢ Err Halt.ReadFault }
+{
+    let locations = load_locations(alloc, files, locations)?;
+    let pairs = load_pairs(alloc, files, before, after, &locations)?;
+    let asked = load_spec(alloc, files, spec, &locations)?;
+    Ok(Loaded {
+        locations,
+        pairs,
+        asked,
+    })
+}
+
+/// The same of four texts of at most 32 MiB each.
+///
+/// # Errors
+///
+/// The first refusal or want of memory ends it.
+pub fn read_change(
+    alloc: Global,
+    before: &[u8],
+    after: &[u8],
+    locations: &[u8],
+    spec: &[u8],
+) -> Result<Loaded, Halt>
+    requires before { length before.now ≤ 33554432 }
+    requires after { length after.now ≤ 33554432 }
+    requires locations { length locations.now ≤ 33554432 }
+    requires spec { length spec.now ≤ 33554432 }
+    ensures loads { IsRead SameLoaded (Loads (Is (Ok before.now)) (Is (Ok after.now))
+        (Is (Ok locations.now)) (Is (Ok spec.now))) (seen loaded_by result) }
+    ensures checks { IfOk result (λ loaded. AreChecksAt (names_of (loaded_by loaded))
+        loaded.pairs.items loaded.asked.checks.items) }
+{
+    let locations = read_locations(alloc, locations)?;
+    let pairs = read_pairs(alloc, before, after, &locations)?;
+    let asked = read_asked(alloc, spec, &locations)?;
+    Ok(Loaded {
+        locations,
+        pairs,
+        asked,
+    })
+}
