@@ -1,0 +1,6 @@
+mod Values
+mod Tables
+mod Counts
+mod Readings
+mod Walks
+mod Openings

@@ -1,0 +1,5 @@
+pub mod Units
+pub mod Alternatives
+pub mod Written
+pub mod Leads
+pub mod Tables
