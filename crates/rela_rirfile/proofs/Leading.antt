@@ -1,0 +1,115 @@
+-- Exact readings of phrases with what they begin with.
+use Rattle.std.proofs.Common.{◌≡◌, ℕ, zero, suc, ◌+◌, ◌≤◌, Bool, true, false, ◌||◌, Some, List, ap, arith}
+use Rattle.rela_lex.specs.declared.token.Token.{Token}
+use Rattle.rela_lex.specs.declared.token.TokenKind.{TokenKind}
+use Rattle.rela_lex.specs.declared.token.TokenKind.TheVariants.{Mark, Bare}
+use Rattle.rela_spec.specs.Grammar.{is_mark_of, opens, room_after}
+use Rattle.rela_spec.specs.GrammarWords.{mark, word}
+use Rattle.rela_spec.specs.Phrases.{Phrase, done, bracketed, ◌or◌, ◌>>=◌, ◌>>◌}
+use Rattle.rela_spec.specs.ReadWords.{is_word_of, read_mark, read_word}
+use Rattle.rela_spec.specs.Readings.{Reading, next_is, choose, and_read, read_done, read_open}
+use Rattle.rela_rirfile.proofs.Exact.{Completed, Exact}
+use Rattle.rela_rirfile.proofs.Then.{Follows, exact_then}
+use Rattle.rela_rirfile.proofs.Choose.{Begins, Avoids, exact_done, exact_choose, first_completes, second_completes, weaken}
+use Rattle.rela_rirfile.proofs.Opened.{exact_open}
+use Rattle.rela_rirfile.proofs.ExactWords.{nothing, stops_nothing, Apart, apart_mark, apart_word, begins_then, begins_or, begins_mark, begins_word, avoids_begins, follows_nothing, follows_begins, follows_done, exact_mark, exact_word}
+
+-- the phrase is read exactly, and begins where the next token passes
+pub record Leading {A : Type 0} (R : ℕ → Phrase A) (passes goes_on : TokenKind → Bool) (least room from to end : ℕ) (p : Reading A) : Type 0 where
+  pub exact : Exact R goes_on least room from to end p
+  pub begins : Begins R passes
+
+module _ {A : Type 0} {c : TokenKind → Bool} {least room from to end : ℕ} where
+  -- what goes on with nothing may go on with anything
+  pub widen : {R : ℕ → Phrase A} {p : Reading A} → (few : ℕ) → few ≤ least → Exact R nothing few room from to end p → Exact R c least room from to end p
+  widen {R} {p} few le exact = weaken R p nothing c few least room from to end le (λ b _. stops_nothing b) exact
+
+  pub behind_mark : {S : ℕ → Phrase A} {k : Reading A} (byte mid : ℕ) → least ≤ 4 → room_after (Mark byte) from ≡ Some mid → Exact S c least room mid to end k
+      → Exact (λ d. mark byte >> S d) c least room from to end (λ ts. and_read (read_mark end byte ts) (λ _. k))
+  behind_mark {S} {k} byte mid few level exact =
+      exact_then (λ d. mark byte) (λ _ d. S d) nothing c least room from mid to end (read_mark end byte) (λ _. k) few (exact_mark byte nothing least room from mid end level) (λ _. exact) (follows_nothing (λ _ d. S d) c)
+
+  pub behind_word : {S : ℕ → Phrase A} {k : Reading A} (bytes : List ℕ) → least ≤ 4 → Exact S c least room from to end k
+      → Exact (λ d. word bytes >> S d) c least room from to end (λ ts. and_read (read_word end bytes ts) (λ _. k))
+  behind_word {S} {k} bytes few exact =
+      exact_then (λ d. word bytes) (λ _ d. S d) nothing c least room from from to end (read_word end bytes) (λ _. k) few (exact_word bytes nothing least room from end) (λ _. exact) (follows_nothing (λ _ d. S d) c)
+
+  pub led_word : {S : ℕ → Phrase A} {k : Reading A} (bytes : List ℕ) → least ≤ 4 → Exact S c least room from to end k
+      → Leading (λ d. word bytes >> S d) (is_word_of bytes) c least room from to end (λ ts. and_read (read_word end bytes ts) (λ _. k))
+  led_word {S} {k} bytes few exact = record { exact = behind_word bytes few exact; begins = begins_then (λ d. word bytes) (λ _ d. S d) (is_word_of bytes) (begins_word bytes) }
+
+  pub led_or : {R S : ℕ → Phrase A} {f g : TokenKind → Bool} {few many : ℕ} {p q : Reading A} → Leading R f c few room from to end p → Leading S g c many room from to end q → Apart f g
+      → Completed (λ d. R d or S d) least → Leading (λ d. R d or S d) (λ kind. f kind || g kind) c least room from to end (choose f p q)
+  led_or {R} {S} {f} {g} {few} {many} {p} {q} first second apart completed = record {
+    exact = exact_choose R S f c room from to end least few many p q first.begins (avoids_begins S f g c second.begins apart) first.exact second.exact completed;
+    begins = begins_or R S f g first.begins second.begins;
+  }
+
+  pub or_word : {S R : ℕ → Phrase A} {g : TokenKind → Bool} {many : ℕ} {k q : Reading A} (bytes : List ℕ) → least ≤ 4 → Exact S c least room from to end k
+      → Leading R g c many room from to end q → g (Bare bytes) ≡ false
+      → Leading (λ d. (word bytes >> S d) or R d) (λ kind. is_word_of bytes kind || g kind) c least room from to end (choose (is_word_of bytes) (λ ts. and_read (read_word end bytes ts) (λ _. k)) q)
+  or_word {S} {R} {g} {many} {k} {q} bytes few exact second apart =
+      let first : Leading (λ d. word bytes >> S d) (is_word_of bytes) c least room from to end (λ ts. and_read (read_word end bytes ts) (λ _. k)) = led_word bytes few exact in
+      led_or first second (apart_word bytes g apart) (first_completes (λ d. word bytes >> S d) R least first.exact.completed)
+
+  -- the phrase behind the word, or no phrase
+  pub word_or_else : {S R : ℕ → Phrase A} {many : ℕ} {k q : Reading A} (bytes : List ℕ) → least ≤ 4 → Exact S c least room from to end k → Exact R c many room from to end q → Avoids R (is_word_of bytes) c
+      → Exact (λ d. (word bytes >> S d) or R d) c least room from to end (choose (is_word_of bytes) (λ ts. and_read (read_word end bytes ts) (λ _. k)) q)
+  word_or_else {S} {R} {many} {k} {q} bytes few exact second avoids =
+      let first : Leading (λ d. word bytes >> S d) (is_word_of bytes) c least room from to end (λ ts. and_read (read_word end bytes ts) (λ _. k)) = led_word bytes few exact in
+      exact_choose (λ d. word bytes >> S d) R (is_word_of bytes) c room from to end least least many (λ ts. and_read (read_word end bytes ts) (λ _. k)) q first.begins avoids first.exact second
+      (first_completes (λ d. word bytes >> S d) R least first.exact.completed)
+
+pub make_of : {A B : Type 0} {R : ℕ → Phrase A} {c : TokenKind → Bool} {least room from to end : ℕ} {p : Reading A} (make : A → B) → least ≤ 4 → Exact R c least room from to end p
+    → Exact (λ d. R d >>= λ v. done (make v)) c least room from to end (λ ts. and_read (p ts) (λ v. read_done (make v)))
+make_of {A} {B} {R} {c} {least} {room} {from} {to} {end} {p} make few exact =
+    exact_then R (λ v d. done (make v)) c c least room from to to end p (λ v. read_done (make v)) few exact (λ v. exact_done (make v) c least room to end) (follows_done make c)
+
+pub led_make : {A B : Type 0} {R : ℕ → Phrase A} {f c : TokenKind → Bool} {least room from to end : ℕ} {p : Reading A} (make : A → B) → least ≤ 4 → Leading R f c least room from to end p
+    → Leading (λ d. R d >>= λ v. done (make v)) f c least room from to end (λ ts. and_read (p ts) (λ v. read_done (make v)))
+led_make {A} {B} {R} {f} make few led = record { exact = make_of make few led.exact; begins = begins_then R (λ v d. done (make v)) f led.begins }
+
+pub led_then : {A B : Type 0} {R : ℕ → Phrase A} {S : A → ℕ → Phrase B} {f first_goes_on c : TokenKind → Bool} {least room from mid to end : ℕ} {p : Reading A} {k : A → Reading B} → least ≤ 4
+    → Leading R f first_goes_on least room from mid end p → ((v : A) → Exact (S v) c least room mid to end (k v)) → Follows S first_goes_on c
+    → Leading (λ d. R d >>= λ v. S v d) f c least room from to end (λ ts. and_read (p ts) k)
+led_then {A} {B} {R} {S} {f} {first_goes_on} {c} {least} {room} {from} {mid} {to} {end} {p} {k} few first second follows = record {
+  exact = exact_then R S first_goes_on c least room from mid to end p k few first.exact second follows;
+  begins = begins_then R S f first.begins;
+}
+
+-- a phrase, and the mark that ends it
+pub closed_by : {A B : Type 0} {R : ℕ → Phrase A} {c : TokenKind → Bool} {least room from mid end : ℕ} {p : Reading A} (make : A → B) (byte to : ℕ) (goes_on : TokenKind → Bool) → least ≤ 4
+    → Exact R c least room from mid end p → room_after (Mark byte) mid ≡ Some to → c (Mark byte) ≡ false
+    → Exact (λ d. R d >>= λ v. mark byte >> done (make v)) goes_on least room from to end (λ ts. and_read (p ts) (λ v ts. and_read (read_mark end byte ts) (λ _. read_done (make v))))
+closed_by {A} {B} {R} {c} {least} {room} {from} {mid} {end} {p} make byte to goes_on few exact level apart =
+    exact_then R (λ v d. mark byte >> done (make v)) c goes_on least room from mid to end p (λ v ts. and_read (read_mark end byte ts) (λ _. read_done (make v))) few exact
+    (λ v. behind_mark byte to few level (exact_done (make v) goes_on least room to end))
+    (follows_begins (λ v d. mark byte >> done (make v)) (is_mark_of byte) c goes_on (λ v. begins_then (λ d. mark byte) (λ _ d. done (make v)) (is_mark_of byte) (begins_mark byte)) (apart_mark byte c apart))
+
+pub led_open : {A : Type 0} {S : ℕ → Phrase A} {c : TokenKind → Bool} {least room to end : ℕ} {k : Reading A} (byte : ℕ) → opens (Mark byte) ≡ true → least ≤ 3 → Completed S least
+    → ((inner : ℕ) → room ≡ suc inner → Exact S c least inner inner to end k)
+    → Leading (λ d. bracketed d (mark byte) S) (is_mark_of byte) c (suc least) room room to end (λ ts. and_read (read_open end byte room ts) (λ _. k))
+led_open {A} {S} {c} {least} {room} {to} {end} {k} byte opening few completed inside = record {
+  exact = exact_open S byte opening c least to end few completed room k inside;
+  begins = begins;
+}
+  where
+    begins : (d : ℕ) (a : List Token) (v : A) (b : List Token) → bracketed d (mark byte) S a v b → next_is (is_mark_of byte) a ≡ true
+    begins zero a v b h = absurd h
+    begins (suc d) a v b h = begins_mark byte d a tt h.1 h.2
+
+pub closes_to : (inner room : ℕ) → room ≡ suc inner → Some (inner + 1) ≡ Some room
+closes_to inner room e = let one : inner + 1 ≡ room = omega arith in ap Some one
+
+module _ {A : Type 0} {S R : ℕ → Phrase A} {g : TokenKind → Bool} {few many room from to end : ℕ} {k q : Reading A} (bytes : List ℕ) (small : few ≤ 4)
+    (first : Exact S nothing few room from to end k) (second : Leading R g nothing many room from to end q) (apart : g (Bare bytes) ≡ false) where
+  led_first : Leading (λ d. word bytes >> S d) (is_word_of bytes) nothing few room from to end (λ ts. and_read (read_word end bytes ts) (λ _. k))
+  led_first = led_word bytes small first
+
+  -- a phrase behind a word, or another phrase, which has the shorter texts
+  pub call_or : Leading (λ d. (word bytes >> S d) or R d) (λ kind. is_word_of bytes kind || g kind) nothing many room from to end (choose (is_word_of bytes) (λ ts. and_read (read_word end bytes ts) (λ _. k)) q)
+  call_or = led_or led_first second (apart_word bytes g apart) (second_completes (λ d. word bytes >> S d) R many second.exact.completed)
+
+  -- the same where the first has the shorter texts
+  pub call_first : Leading (λ d. (word bytes >> S d) or R d) (λ kind. is_word_of bytes kind || g kind) nothing few room from to end (choose (is_word_of bytes) (λ ts. and_read (read_word end bytes ts) (λ _. k)) q)
+  call_first = led_or led_first second (apart_word bytes g apart) (first_completes (λ d. word bytes >> S d) R few led_first.exact.completed)

@@ -1,0 +1,14 @@
+pub mod Choose
+pub mod Depths
+pub mod Exact
+pub mod ExactFile
+pub mod ExactMembers
+pub mod ExactTrees
+pub mod ExactWords
+pub mod Inside
+pub mod Leading
+pub mod Loops
+pub mod Many
+pub mod Opened
+pub mod Then
+pub mod Verdicts
