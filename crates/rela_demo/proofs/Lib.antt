@@ -1,0 +1,16 @@
+pub mod Arrays
+pub mod Below
+pub mod Entries
+pub mod Found
+pub mod LabelNames
+pub mod Lexing
+pub mod LocationTexts
+pub mod NameSets
+pub mod Parsing
+pub mod Plain
+pub mod Prefixes
+pub mod Ranges
+pub mod ReadBack
+pub mod Snapshots
+pub mod Pairs
+pub mod Steps
