@@ -1,0 +1,4 @@
+pub mod Found
+pub mod Grown
+pub mod Standing
+mod Turns

@@ -1,0 +1,16 @@
+//! Plain JSON values, read token by token with no tree.
+#![tactic(auto)]
+
+mod laws;
+mod lists;
+mod members;
+mod number;
+mod piece;
+mod unread;
+
+pub use laws::what_holds;
+pub use lists::read_text;
+pub use members::{find, read_members};
+pub use number::read_number;
+pub use piece::{Member, Piece, read_piece};
+pub use unread::Unread;
