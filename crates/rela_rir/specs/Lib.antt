@@ -9,3 +9,5 @@ pub mod Agreement
 pub mod Complements
 pub mod Tables
 pub mod Built
+pub mod Assertions
+pub mod NamedSymbols

@@ -16,6 +16,7 @@ mod set;
 mod size;
 mod table_laws;
 mod term;
+mod value;
 
 pub use agreement_laws::{licences_carry_over, scenes_alike};
 pub use assertion::Assertion;
@@ -43,3 +44,4 @@ pub use table_laws::{
     states_reached_alike, tables_carry_over, told_words_are_places, words_that_agree,
 };
 pub use term::{PathTerm, RelTerm};
+pub use value::Value;
