@@ -3,15 +3,16 @@ use Rattle.std.proofs.Common.{◌≡◌, ℕ, ◌+◌, ◌<◌, ◌≤◌, List,
 use Rattle.std.specs.Prelude.{Contains}
 use Rattle.std.proofs.lemmas.List.FromFn.{get_or-range_with_len}
 use Rattle.rela_rir.specs.declared.set.SymbolSet.{SymbolSet}
+use Rattle.rela_rir.specs.declared.term.PathTerm.{PathTerm}
 use Rattle.rela_rir.specs.declared.term.RelTerm.{RelTerm}
 use Rattle.rela_translate.specs.Checked.{Checked, IsCheck, markers_of}
-use Rattle.rela_translate.specs.Terms.{before_of, after_of}
+use Rattle.rela_translate.specs.Terms.{zone_of, before_of, after_of}
 use Rattle.rela_translate.specs.Zones.{path_symbols, marker_symbol, drop_symbol}
 use Rattle.rela_build.specs.Lettering.{AreListedAlike, AreLetterBlocks, IsAlone, Lettering}
-use Rattle.rela_build.specs.Named.{NamesR}
+use Rattle.rela_build.specs.Named.{Names, NamesR}
 use Rattle.rela_engine.specs.Blocks.{AreOne, AreBlocks}
 use Rattle.rela_engine.specs.Scenes.{lettering_of}
-use Rattle.rela_engine.proofs.NamedByChecks.{before_names, after_names}
+use Rattle.rela_engine.proofs.NamedByChecks.{zone_names, before_names, after_names}
 
 module _ (check : Checked) (n : ℕ) (blocks : List ℕ) (are : AreBlocks check n blocks) where
   path_one : (s t : ℕ) → AreOne check.classes n s t → s < path_symbols n → t < path_symbols n
@@ -53,6 +54,9 @@ module _ (check : Checked) (n : ℕ) (blocks : List ℕ) (are : AreBlocks check 
 
   pub after_alone : IsCheck check → (r : RelTerm) → r ≡ after_of n check.body → NamesR (IsAlone blocks) r
   after_alone is r form = subst (NamesR (IsAlone blocks)) (sym form) (after_names (IsAlone blocks) n drop_alone check.body (marker_alone is))
+
+  pub zone_alone : (t : PathTerm) → t ≡ zone_of n check.body → Names (IsAlone blocks) t
+  zone_alone t form = subst (Names (IsAlone blocks)) (sym form) (zone_names (IsAlone blocks) n drop_alone check.body)
 
 -- the same letters, where the class table and the numbers are told otherwise
 abbrev given : List SymbolSet → ℕ → ℕ → List ℕ → Lettering

@@ -22,3 +22,17 @@ pub mod CheckedRelations
 pub mod AlikeBodies
 pub mod AlikeTerms
 pub mod Compilations
+pub mod SpelledAutomata
+pub mod ComplementedParts
+pub mod SymbolLists
+pub mod WrittenAutomata
+pub mod EdgesInTurn
+pub mod ZoneAutomata
+pub mod StateTexts
+pub mod SymbolForms
+pub mod BuiltPaths
+pub mod ComparedPlaces
+pub mod PlainPartitions
+pub mod RightLeaves
+pub mod ByShortlex
+pub mod OneMinimal

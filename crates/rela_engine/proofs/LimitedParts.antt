@@ -51,7 +51,7 @@ weaker_pairs : {X : Type 0} (R S : X → X → Type 0) → ((x y : X) → R x y 
 weaker_pairs R S on xs pairs i j d before inside = on _ _ (pairs i j d before inside)
 
 module _ (l : Lettering) (paths : Paths) where
-  abbrev m : Scene
+  abbrev pub m : Scene
   m = scene_of l paths
 
   abbrev f : ℕ → ℕ
@@ -91,7 +91,7 @@ module _ (l : Lettering) (paths : Paths) where
     told_apart a v w (q, inl first) = (q, inl first)
     told_apart a v w (q, inr second) = (q, inr (second.1, second.0))
 
-    many_words : (a : Automaton) (k : ℕ) → ReachSets a over k → ManyWords IsPath (ToldByState (Leads l.blocks a)) k
+    pub many_words : (a : Automaton) (k : ℕ) → ReachSets a over k → ManyWords IsPath (ToldByState (Leads l.blocks a)) k
     many_words a k sets =
         let ws = words_for sets.words sets.letters in record {
           words = ws.0;
@@ -101,14 +101,14 @@ module _ (l : Lettering) (paths : Paths) where
               (mapped_pairs (AreApart a) (map f) ws.0 (subst (AllPairs (AreApart a)) (sym ws.2) sets.apart));
         }
 
-  placed : (exactly : Type 0) (x : PathTerm) (a : Automaton) → IsMade exactly l paths x a → IsPlaced m x (Leads l.blocks a)
+  pub placed : (exactly : Type 0) (x : PathTerm) (a : Automaton) → IsMade exactly l paths x a → IsPlaced m x (Leads l.blocks a)
   unfolding IsMade
   placed exactly x a made = record { table = made.table; is_table = made.placed }
 
-  abbrev Refuses : ℕ → ℕ → Automaton → List Bool → Type 0
+  abbrev pub Refuses : ℕ → ℕ → Automaton → List Bool → Type 0
   Refuses k number a over = ReachSets a over k
 
-  has_part : (parts before later : List PathTerm) (part : PathTerm) → parts ≡ before ++ part ∷ later → Contains parts part
+  pub has_part : (parts before later : List PathTerm) (part : PathTerm) → parts ≡ before ++ part ∷ later → Contains parts part
   has_part parts before later part whole = subst (λ (ps : List PathTerm). Contains ps part) (sym whole) (listed before) where
     listed : (front : List PathTerm) → Contains (front ++ part ∷ later) part
     listed [] = (0, omega arith, refl)
@@ -151,7 +151,7 @@ module _ (l : Lettering) (paths : Paths) where
     ),
   )
 
-  told_words : (exactly : Type 0) (x : PathTerm) (a : Automaton) (over : List Bool) (k : ℕ) → IsPart exactly l paths x a over → AreTold m x k → TellsWords a over k
+  pub told_words : (exactly : Type 0) (x : PathTerm) (a : Automaton) (over : List Bool) (k : ℕ) → IsPart exactly l paths x a over → AreTold m x k → TellsWords a over k
   told_words exactly x a over k is told = record {
     words = map (map f) told.words;
     count = length-map told.words (map f) ∙ told.many;
@@ -161,10 +161,10 @@ module _ (l : Lettering) (paths : Paths) where
         (weaker_pairs (ToldByContinuing m x) (λ v w. IsTold a over (map f v) (map f w)) (told_on exactly x a over is) told.words told.told);
   }
 
-  abbrev Answers : {N : Type 0} → ℕ → ℕ → Automaton → List Bool → N → Type 0
+  abbrev pub Answers : {N : Type 0} → ℕ → ℕ → Automaton → List Bool → N → Type 0
   Answers k number a over note = ¬ TellsWords a over k
 
-  none_told : {N : Type 0} (exactly : Type 0) (k first : ℕ) (parts : List PathTerm) (notes : List N) → AreNoted (Answers k) exactly l paths first parts notes
+  pub none_told : {N : Type 0} (exactly : Type 0) (k first : ℕ) (parts : List PathTerm) (notes : List N) → AreNoted (Answers k) exactly l paths first parts notes
       → (part : PathTerm) → Contains parts part → ¬ AreTold m part k
   none_told exactly k first [] notes noted part (i, inside, at) told = absurd (omega (arith, inside))
   none_told exactly k first (p ∷ parts) [] noted part listed told = absurd noted

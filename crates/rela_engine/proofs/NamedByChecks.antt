@@ -1,5 +1,5 @@
 -- The terms of a body name drop and the body's markers alone.
-use Rattle.std.proofs.Common.{◌≡◌, ℕ, List, [], ◌∷◌, ◌++◌, sym, subst, arith}
+use Rattle.std.proofs.Common.{◌≡◌, ℕ, List, [], ◌∷◌, ◌++◌, sym, ap, subst, arith}
 use Rattle.std.proofs.lemmas.List.Elements.{Contains-append_left, Contains-append_right, Contains-get_or}
 use Rattle.std.specs.Prelude.{Contains}
 use Rattle.rela_rir.specs.declared.term.PathTerm.{PathTerm}
@@ -158,3 +158,29 @@ module _ (Q : ℕ → Type 0) where
 
     pub after_names : (body : Core) → ((k : ℕ) → Contains (markers_of body) k → Q (marker_symbol n k)) → NamesR Q (after_of n body)
     after_names body fine = (named body fine).after
+
+    -- ---- a zone names drop alone
+
+    abbrev ZoneNamed : Core → Type 0
+    ZoneNamed body = Names Q (zone_of n body)
+
+    zone_unit : (z : PathTerm) (c : Change) → Names Q z → Names Q (unit_terms n z c).zone
+    zone_unit z Preserve f = f
+    zone_unit z (Add p) f = union z (path_of p) f (words p)
+    zone_unit z (Remove p) f = f
+    zone_unit z (Replace p q) f = union z (path_of q) f (words q)
+    zone_unit z Drop f = union z (P.One (drop_symbol n)) f (one (drop_symbol n) drop)
+    zone_unit z (AnyOf p k) f = union z (path_of p) f (words p)
+    zone_unit z (Ignore p) f = f
+
+    zone_layer : (y : C.Core-F ((body : Core) × ZoneNamed body)) → ZoneNamed (roll-Core (map-Core ((body : Core) × ZoneNamed body) Core (λ e. e.0) y))
+    zone_layer (C.Unit z c) = by_path _ (unit_terms n (path_of z) c).zone (ap (λ (t : Terms). t.zone) (terms_roll n (C.Unit z c))) (zone_unit (path_of z) c (words z))
+    zone_layer (C.Then s t) =
+        by_path _ (P.Concat (zone_of n s.0) (zone_of n t.0)) (ap (λ (t : Terms). t.zone) (terms_roll n (C.Then s.0 t.0)))
+        (closed (names_concat Q (zone_of n s.0) (zone_of n t.0)) (s.1, t.1))
+    zone_layer (C.Else s t) =
+        by_path _ (P.Union (zone_of n s.0) (zone_of n t.0)) (ap (λ (t : Terms). t.zone) (terms_roll n (C.Else s.0 t.0)))
+        (union (zone_of n s.0) (zone_of n t.0) s.1 t.1)
+
+    pub zone_names : (body : Core) → Names Q (zone_of n body)
+    zone_names = ind-Core ZoneNamed (λ x y is. subst (λ z. ZoneNamed (roll-Core z)) is (zone_layer y))

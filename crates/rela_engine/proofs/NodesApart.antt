@@ -39,7 +39,7 @@ pub placed_below : (level : Level) (few bound : ℕ) (nodes : List Node) → few
     → All (λ node. symbol_at level node < bound) nodes
 placed_below level few bound nodes less placed = λ k d within. let below = placed k d within in omega (arith, below, less)
 
-one_of : (level : Level) (nodes : List Node) (k : ℕ) (d : Node) → k < length nodes → Contains (map (symbol_at level) nodes) (symbol_at level (get_or nodes k d))
+pub one_of : (level : Level) (nodes : List Node) (k : ℕ) (d : Node) → k < length nodes → Contains (map (symbol_at level) nodes) (symbol_at level (get_or nodes k d))
 one_of level nodes k d within =
     let long : k < length (map (symbol_at level) nodes) = omega (arith, within, length-map nodes (symbol_at level)) in
     subst (Contains (map (symbol_at level) nodes)) (get_or-map (symbol_at level) nodes k d 0 within) (Contains-get_or (map (symbol_at level) nodes) k 0 long)
@@ -60,7 +60,7 @@ module _ (coarse : List ℕ) (locations : ℕ) (level : Level) (pre post : Topol
       alone t (omega (arith, t_below, is.same_symbols)) (parts s t below t_below together).0
 
   -- and so does each of the symbols
-  now_alone : (s : ℕ) → s < length coarse → Contains symbols s → StandsAlone fine s
+  pub now_alone : (s : ℕ) → s < length coarse → Contains symbols s → StandsAlone fine s
   now_alone s below one t t_below together = sym (((parts s t below t_below together).1 s one).0 refl)
 
   pub finer : locations + 1 < length coarse → IsPartition fine → symbols ≡ locations_of level pre.nodes post.nodes → All (λ node. symbol_at level node < locations) pre.nodes

@@ -124,7 +124,7 @@ module _ (g : Topology) (is : IsTopology g) where
   follow_nodes a [] first follows = All-cons IsNode a [] first (All-nil IsNode)
   follow_nodes a (b ∷ rest) first follows = All-cons IsNode a (b ∷ rest) first (follow_nodes b rest (edge_node g is a b follows.0) follows.1)
 
-  walk_nodes : (walk : List ℕ) → IsWalk g walk → All IsNode walk
+  pub walk_nodes : (walk : List ℕ) → IsWalk g walk → All IsNode walk
   walk_nodes [] walk = absurd walk
   walk_nodes (a ∷ rest) walk = follow_nodes a rest (let w = flag_within g.starts a walk.0 in omega (arith, w, is.starts)) walk.1
 

@@ -7,3 +7,10 @@ pub mod Least
 pub mod Compilation
 pub mod RowOf
 pub mod Seen
+pub mod SymbolAutomata
+pub mod AutomatonText
+pub mod Zone
+pub mod Spelled
+pub mod Leaves
+pub mod PlainBlocks
+pub mod Compared

@@ -40,7 +40,7 @@ fn symbols_of(check: &Check, alphabet: &Alphabet) -> u32
 }
 
 /// Refines the blocks by each class of the table.
-fn split_by_classes(
+pub(crate) fn split_by_classes(
     alloc: Global,
     splitter: &mut Splitter,
     classes: &[SymbolSet],

@@ -133,7 +133,7 @@ fn relations_over(
 }
 
 /// The letters of the check's relations.
-fn letters_of<'a>(
+pub(crate) fn letters_of<'a>(
     alloc: Global,
     check: &'a Check,
     alphabet: &Alphabet,

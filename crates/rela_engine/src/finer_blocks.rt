@@ -34,7 +34,11 @@ pub(crate) fn finer_blocks(
 }
 
 /// Appends the location of each node.
-fn push_locations(symbols: &mut Vec<Symbol>, nodes: &[Node], level: Level) -> Result<(), AllocError>
+pub(crate) fn push_locations(
+    symbols: &mut Vec<Symbol>,
+    nodes: &[Node],
+    level: Level,
+) -> Result<(), AllocError>
     ensures { IfOk result (λ _. symbols.new.items ≡ symbols.old.items
         ++ map (symbol_at level) nodes.now) }
 {

@@ -2,20 +2,38 @@
 //! check as transducers, whose letters are blocks of the check's symbols.
 #![tactic(auto)]
 
+mod assertion;
+mod automaton_lines;
 mod blocks;
 mod compiled;
 mod decision;
 mod finer_blocks;
+mod flow_paths;
+mod leaf;
+mod letter_targets;
 mod limited;
 mod markers;
+mod named;
 mod offence;
+mod plain_blocks;
 mod relation;
 mod relations;
 mod row_laws;
 mod seen;
 mod sides;
+mod state_lines;
+mod symbol_laws;
+mod symbol_targets;
+mod terms;
 mod witnesses;
+mod zone;
+mod zone_laws;
 
+pub use assertion::decide_assertion;
 pub use compiled::{Compiled, compile};
 pub use decision::{decide, decide_compiled};
+pub use leaf::Leaf;
 pub use row_laws::{TwoPathSets, rows_carry_over};
+pub use symbol_laws::{symbols_in_path_terms, symbols_in_rel_terms};
+pub use zone::zone_text;
+pub use zone_laws::zone_texts_are_one;

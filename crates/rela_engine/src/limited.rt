@@ -2,7 +2,7 @@
 ghost use Rattle.std.specs.Prelude.{◌≡◌, ℕ, ◌+◌, ◌≤◌, ◌↔◌, IfOk, IfErr, List, length};
 ghost use Rattle.rela_minimise.specs.Classes.{IsMinimal};
 ghost use Rattle.rela_nfa.specs.Runs.{Accepts};
-ghost use Rattle.rela_subset.specs.Deterministic.{IsAccepted, IsOver, state_after};
+ghost use Rattle.rela_subset.specs.Deterministic.{IsAccepted, IsByArrival, IsOver, IsReachable, state_after};
 ghost use Rattle.rela_subset.specs.Subsets.{KeepsApart, ReachSame, ReachSets};
 ghost use Rattle.rela_engine.specs.Least.{IsLeast};
 ghost use Rattle.rela_engine.specs.Telling.{TellsWords};
@@ -64,7 +64,7 @@ impl Complements for Limited {
 /// no more than the limit. Where words reach no more sets of states than there are states, as those of
 /// listed words do, the sets are made as they are. Else the automaton is reduced first, so that words reach
 /// fewer of them: that costs more than so many sets.
-fn least_over(
+pub(crate) fn least_over(
     alloc: Global,
     a: &Nfa<WideSet>,
     over: &WideSet,
@@ -78,7 +78,10 @@ fn least_over(
     ensures alike { IfOk result (λ dfa. (v w : List ℕ) → IsOver over.now v → IsOver over.now w →
         ReachSame a.now v w → state_after dfa v ≡ state_after dfa w) }
     ensures told { IfOk result (KeepsApart a.now over.now) }
+    ensures start { IfOk result (λ dfa. dfa.start ≡ 0) }
+    ensures reached { IfOk result IsReachable }
     ensures minimal { IfOk result IsMinimal }
+    ensures arrival { IfOk result IsByArrival }
     ensures within { IfOk result (λ _. ¬ TellsWords a.now over.now (limit + 1)) }
     ensures past { IfErr result (λ e. e ≡ BuildError.Limit → ReachSets a.now over.now (limit + 1)) }
 {
@@ -104,7 +107,10 @@ fn least_by_fewer_sets(
     requires letters { length over.now ≡ a.now.letters }
     requires limit { 1 ≤ limit }
     ensures least { IfOk result (IsLeast over.now a.now) }
+    ensures start { IfOk result (λ dfa. dfa.start ≡ 0) }
+    ensures reached { IfOk result IsReachable }
     ensures minimal { IfOk result IsMinimal }
+    ensures arrival { IfOk result IsByArrival }
     ensures within { IfOk result (λ _. ¬ TellsWords a.now over.now (limit + 1)) }
     ensures past { IfErr result (λ e. e ≡ BuildError.Limit → ReachSets a.now over.now (limit + 1)) }
 {
@@ -123,7 +129,10 @@ fn least_by_sets(
     requires letters { length over.now ≡ a.now.letters }
     requires limit { 1 ≤ limit }
     ensures least { IfOk result (IsLeast over.now a.now) }
+    ensures start { IfOk result (λ dfa. dfa.start ≡ 0) }
+    ensures reached { IfOk result IsReachable }
     ensures minimal { IfOk result IsMinimal }
+    ensures arrival { IfOk result IsByArrival }
     ensures within { IfOk result (λ _. ¬ TellsWords a.now over.now (limit + 1)) }
     ensures past { IfErr result (λ e. e ≡ BuildError.Limit → ReachSets a.now over.now (limit + 1)) }
 {

@@ -39,7 +39,11 @@ pub(crate) fn violated_row<L: LabelSet>(
 
 /// For each letter the least symbol of its block: of the words that are read as these letters, the
 /// first. The only error is want of memory.
-fn least_symbols(alloc: Global, blocks: &Partition, letters: &[u32]) -> Result<Word, AllocError>
+pub(crate) fn least_symbols(
+    alloc: Global,
+    blocks: &Partition,
+    letters: &[u32],
+) -> Result<Word, AllocError>
     requires { All (λ k. k < block_count blocks.now) letters.now }
     ensures { IfOk result (AreLeast blocks.now letters.now) }
 {
