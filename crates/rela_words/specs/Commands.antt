@@ -2,12 +2,17 @@
 use Rattle.std.specs.Prelude.{string_bytes}
 use Rattle.rela_words.specs.declared.command.Command as declared
 use Rattle.rela_words.specs.declared.command.Command.TheVariants as asked
-use Rattle.rela_words.specs.Words.{Command, Check, Fmt, Fib}
+use Rattle.rela_words.specs.Words.{Command, Check, Fmt, Fib, Zone, Rir, Demo}
 
 -- with the names as their bytes
 abbrev pub command_of : declared.Command → Command
 command_of (asked.Check c) = Check (string_bytes c.before) (string_bytes c.after)
-    (string_bytes c.locations) (string_bytes c.spec) c.states
+    (string_bytes c.locations) (string_bytes c.spec) c.states c.blame
 command_of (asked.Fmt c) = Fmt (string_bytes c.spec)
 command_of (asked.Fib c) =
     Fib (string_bytes c.tables) (string_bytes c.other) (string_bytes c.locations)
+command_of (asked.Zone c) =
+    Zone (string_bytes c.locations) (string_bytes c.spec) (string_bytes c.name) c.states
+command_of (asked.Rir c) = Rir (string_bytes c.before) (string_bytes c.after)
+    (string_bytes c.locations) (string_bytes c.assertions) c.states
+command_of (asked.Demo c) = Demo c.layers

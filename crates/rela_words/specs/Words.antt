@@ -6,12 +6,17 @@ use Rattle.std.specs.Fmt.{decimal}
 
 -- ---- commands
 
--- What the words ask for, with the names of the files: to check a change, to write the canonical
--- text of a specification, or to write the snapshot that tables give.
+-- What the words ask for, with the names of the files: to check a change, and to say by which
+-- branch where the flag is given; to write the canonical text of a specification; to write the
+-- snapshot that tables give; to write the automaton of the zone of the check of this name; to look
+-- whether assertions hold of a change; or to check the layered input of so many layers.
 pub data Command : Type 0 where
-  Check : (before after locations spec : List ℕ) (states : ℕ) → Command
+  Check : (before after locations spec : List ℕ) (states : ℕ) (blame : Bool) → Command
   Fmt : (spec : List ℕ) → Command
   Fib : (tables other locations : List ℕ) → Command
+  Zone : (locations spec name : List ℕ) (states : ℕ) → Command
+  Rir : (before after locations assertions : List ℕ) (states : ℕ) → Command
+  Demo : (layers : ℕ) → Command
 
 -- How a command is asked for: its name, its operands in order, its state limit where it takes one,
 -- and whether its flag is given where it takes that.
@@ -22,11 +27,11 @@ pub record Row : Type 0 where
   pub blame : Option Bool
 
 abbrev pub row_of : Command → Row
-row_of (Check before after locations spec states) = record {
+row_of (Check before after locations spec states blame) = record {
   name = codes "check";
   operands = before ∷ after ∷ locations ∷ spec ∷ [];
   states = Some states;
-  blame = None;
+  blame = Some blame;
 }
 row_of (Fmt spec) = record {
   name = codes "fmt";
@@ -40,16 +45,37 @@ row_of (Fib tables other locations) = record {
   states = None;
   blame = None;
 }
+row_of (Zone locations spec name states) = record {
+  name = codes "zone";
+  operands = locations ∷ spec ∷ name ∷ [];
+  states = Some states;
+  blame = None;
+}
+row_of (Rir before after locations assertions states) = record {
+  name = codes "rir";
+  operands = before ∷ after ∷ locations ∷ assertions ∷ [];
+  states = Some states;
+  blame = None;
+}
+row_of (Demo layers) = record {
+  name = codes "demo";
+  operands = decimal layers ∷ [];
+  states = None;
+  blame = None;
+}
 
 -- the number is from 1 to this one
 abbrev pub IsUpTo : ℕ → ℕ → Type 0
 IsUpTo most n = (1 ≤ n) × (n ≤ most)
 
--- the numbers of a command: a state limit from 1 to 4,000,000
+-- the numbers of a command: a state limit from 1 to 4,000,000, and from 1 to 200 layers
 abbrev pub HasNumbers : Command → Type 0
-HasNumbers (Check before after locations spec states) = IsUpTo 4000000 states
+HasNumbers (Check before after locations spec states blame) = IsUpTo 4000000 states
 HasNumbers (Fmt spec) = Unit {0}
 HasNumbers (Fib tables other locations) = Unit {0}
+HasNumbers (Zone locations spec name states) = IsUpTo 4000000 states
+HasNumbers (Rir before after locations assertions states) = IsUpTo 4000000 states
+HasNumbers (Demo layers) = IsUpTo 200 layers
 
 -- ---- words
 

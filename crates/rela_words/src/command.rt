@@ -6,6 +6,9 @@ pub const DEFAULT_STATES: usize = 100_000;
 /// The greatest state limit that the words may give.
 pub const MAX_STATES: usize = 4_000_000;
 
+/// The greatest number of layers that the words may give.
+pub const MAX_LAYERS: usize = 200;
+
 /// To check a change.
 #[derive(Debug, Drop)]
 pub struct Check {
@@ -19,6 +22,8 @@ pub struct Check {
     pub spec: String,
     /// The state limit of each verdict, from 1 to [`MAX_STATES`].
     pub states: usize,
+    /// Whether each violated row tells the alternative that its path falls under.
+    pub blame: bool,
 }
 
 /// To write the canonical text of a specification.
@@ -39,13 +44,54 @@ pub struct Fib {
     pub locations: String,
 }
 
+/// To write the automaton of the zone of a check.
+#[derive(Debug, Drop)]
+pub struct Zone {
+    /// The name of the file with the locations.
+    pub locations: String,
+    /// The name of the file with the specification.
+    pub spec: String,
+    /// The name of the check.
+    pub name: String,
+    /// The state limit, from 1 to [`MAX_STATES`].
+    pub states: usize,
+}
+
+/// To tell which assertions hold of a change.
+#[derive(Debug, Drop)]
+pub struct Rir {
+    /// The name of the file with the snapshot before the change.
+    pub before: String,
+    /// The name of the file with the snapshot after the change.
+    pub after: String,
+    /// The name of the file with the locations.
+    pub locations: String,
+    /// The name of the file with the assertions.
+    pub assertions: String,
+    /// The state limit of each assertion, from 1 to [`MAX_STATES`].
+    pub states: usize,
+}
+
+/// To check the change of a layered input that is made.
+#[derive(Clone, Copy, Debug)]
+pub struct Demo {
+    /// How many layers the input has, from 1 to [`MAX_LAYERS`].
+    pub layers: usize,
+}
+
 /// What the words ask for.
 #[derive(Debug, Drop)]
 pub enum Command {
-    /// `check [--states N] BEFORE AFTER LOCATIONS SPEC`
+    /// `check [--states N] [--blame] BEFORE AFTER LOCATIONS SPEC`
     Check(Check),
     /// `fmt SPEC`
     Fmt(Fmt),
     /// `fib TABLES OTHER LOCATIONS`
     Fib(Fib),
+    /// `zone [--states N] LOCATIONS SPEC NAME`
+    Zone(Zone),
+    /// `rir [--states N] BEFORE AFTER LOCATIONS ASSERTIONS`
+    Rir(Rir),
+    /// `demo N`
+    Demo(Demo),
 }

@@ -4,12 +4,13 @@ ghost use Rattle.std.specs.Prelude.{◌≡◌, IfOk, IfErr, codes, string_bytes,
 ghost use Rattle.rela_words.specs.Commands.{command_of};
 ghost use Rattle.rela_words.specs.Parts.{FitJust, FitNothing, parts_of};
 
-use crate::command::{Check, Command, Fib, Fmt};
+use crate::command::{Check, Command, Demo, Fib, Fmt, MAX_LAYERS, Rir, Zone};
 use crate::errors::WordsError;
+use crate::number::number_of;
 use crate::parts::Parts;
 use std::alloc::Global;
 
-/// `check`: four operands and a state limit.
+/// `check`: four operands, a state limit and the flag.
 ///
 /// # Errors
 ///
@@ -20,9 +21,6 @@ pub(crate) fn read_check(alloc: Global, parts: &Parts<'_>) -> Result<Command, Wo
         → FitNothing (codes "check") (parts_of parts.now)) }
 {
     let states = parts.states().ok_or(WordsError::Bad)?;
-    if parts.blame {
-        return Err(WordsError::Bad);
-    }
     let Some([before, after, locations, spec]) = parts.operands() else {
         return Err(WordsError::Bad);
     };
@@ -32,6 +30,7 @@ pub(crate) fn read_check(alloc: Global, parts: &Parts<'_>) -> Result<Command, Wo
         locations: String::from_str(alloc, locations)?,
         spec: String::from_str(alloc, spec)?,
         states,
+        blame: parts.blame,
     }))
 }
 
@@ -77,4 +76,69 @@ pub(crate) fn read_fib(alloc: Global, parts: &Parts<'_>) -> Result<Command, Word
         other: String::from_str(alloc, other)?,
         locations: String::from_str(alloc, locations)?,
     }))
+}
+
+/// `zone`: three operands and a state limit.
+///
+/// # Errors
+///
+/// `Bad` where the parts aren't those of such a command.
+pub(crate) fn read_zone(alloc: Global, parts: &Parts<'_>) -> Result<Command, WordsError>
+    ensures fits { IfOk result (λ c. FitJust (codes "zone") (parts_of parts.now) (command_of c)) }
+    ensures bad { IfErr result (λ e. e ≡ WordsError.Bad
+        → FitNothing (codes "zone") (parts_of parts.now)) }
+{
+    let states = parts.states_without_flag().ok_or(WordsError::Bad)?;
+    let Some([locations, spec, name]) = parts.operands() else {
+        return Err(WordsError::Bad);
+    };
+    Ok(Command::Zone(Zone {
+        locations: String::from_str(alloc, locations)?,
+        spec: String::from_str(alloc, spec)?,
+        name: String::from_str(alloc, name)?,
+        states,
+    }))
+}
+
+/// `rir`: four operands and a state limit.
+///
+/// # Errors
+///
+/// `Bad` where the parts aren't those of such a command.
+pub(crate) fn read_rir(alloc: Global, parts: &Parts<'_>) -> Result<Command, WordsError>
+    ensures fits { IfOk result (λ c. FitJust (codes "rir") (parts_of parts.now) (command_of c)) }
+    ensures bad { IfErr result (λ e. e ≡ WordsError.Bad
+        → FitNothing (codes "rir") (parts_of parts.now)) }
+{
+    let states = parts.states_without_flag().ok_or(WordsError::Bad)?;
+    let Some([before, after, locations, assertions]) = parts.operands() else {
+        return Err(WordsError::Bad);
+    };
+    Ok(Command::Rir(Rir {
+        before: String::from_str(alloc, before)?,
+        after: String::from_str(alloc, after)?,
+        locations: String::from_str(alloc, locations)?,
+        assertions: String::from_str(alloc, assertions)?,
+        states,
+    }))
+}
+
+/// `demo`: one operand, a number.
+///
+/// # Errors
+///
+/// `Bad` where the parts aren't those of such a command.
+pub(crate) fn read_demo(parts: &Parts<'_>) -> Result<Command, WordsError>
+    ensures fits { IfOk result (λ c. FitJust (codes "demo") (parts_of parts.now) (command_of c)) }
+    ensures bad { IfErr result (λ e. e ≡ WordsError.Bad
+        → FitNothing (codes "demo") (parts_of parts.now)) }
+{
+    if !parts.have_no_options() {
+        return Err(WordsError::Bad);
+    }
+    let Some([layers]) = parts.operands() else {
+        return Err(WordsError::Bad);
+    };
+    let layers = number_of(layers, MAX_LAYERS).ok_or(WordsError::Bad)?;
+    Ok(Command::Demo(Demo { layers }))
 }

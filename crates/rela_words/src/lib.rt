@@ -8,6 +8,8 @@ mod number;
 mod parts;
 mod reading;
 
-pub use command::{Check, Command, DEFAULT_STATES, Fib, Fmt, MAX_STATES};
+pub use command::{
+    Check, Command, DEFAULT_STATES, Demo, Fib, Fmt, MAX_LAYERS, MAX_STATES, Rir, Zone,
+};
 pub use errors::WordsError;
 pub use reading::read_words;

@@ -1,6 +1,6 @@
 //! The words behind a command's name, read by `clap`: operands, options and the flag.
 
-ghost use Rattle.std.specs.Prelude.{◌≡◌, ◌↔◌, ℕ, Some, IfOk, IfErr, IsTrue, map, string_bytes};
+ghost use Rattle.std.specs.Prelude.{◌≡◌, ◌↔◌, ℕ, false, Some, IfOk, IfErr, IsTrue, map, string_bytes};
 ghost use Rattle.clap.specs.Words.{app_of};
 ghost use Rattle.rela_words.specs.Parts.{GiveJust, GiveNothing, HaveNoOptions, IsLimitUpTo};
 ghost use Rattle.rela_words.specs.Parts.{options_app, parts_of, words_of};
@@ -54,6 +54,15 @@ impl<'w> Parts<'w> {
             Some([word]) => number_of(word, MAX_STATES),
             Some(_) => None,
         }
+    }
+
+    /// The state limit, for a command that takes no flag. `None` where the flag is given, or where
+    /// there is no such limit.
+    pub(crate) fn states_without_flag(&self) -> Option<usize>
+        ensures { (n : ℕ) → (result ≡ Some n)
+            ↔ (IsLimitUpTo 4000000 (parts_of self.now).limits n × (self.now.blame ≡ false)) }
+    {
+        if self.blame { None } else { self.states() }
     }
 }
 

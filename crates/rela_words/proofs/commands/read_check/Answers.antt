@@ -1,4 +1,4 @@
-use Rattle.std.proofs.Common.{rules, string_bytes, sym, ◌∙◌}
+use Rattle.std.proofs.Common.{string_bytes, sym, ◌∙◌}
 use Rattle.rela_words.specs.Parts.{IsLimitUpTo, parts_of}
 use Rattle.rela_words.proofs.Fits.{if_bad, just_read, none_read, check_just, check_unlimited}
 use Rattle.rela_words.proofs.Operands.{four_words}
@@ -15,4 +15,4 @@ returns-clause-fits c =
     (sym c.operands.ensures
     ∙ four_words c.operands.result c.in-Some-len4.field-0 c.in-Some-len4.is (string_bytes c.in_ok-from_str.field-0) (string_bytes c.in_ok-from_str-2.field-0) (string_bytes c.in_ok-from_str-3.field-0) (string_bytes c.in_ok-from_str-4.field-0)
     _ _ _ _ c.in-Some-len4.len_at_least c.in-Some-len4.len_below c.in_ok-from_str.ensures.ok c.in_ok-from_str-2.ensures.ok c.in_ok-from_str-3.ensures.ok c.in_ok-from_str-4.ensures.ok)
-    (just_read (IsLimitUpTo 4000000 (parts_of c.args.parts.now).limits) c.states.result c.states.ensures c.in_ok-states.states c.in_ok-states.ensures.ok_part) (search rules)
+    (just_read (IsLimitUpTo 4000000 (parts_of c.args.parts.now).limits) c.states.result c.states.ensures c.in_ok-states.states c.in_ok-states.ensures.ok_part)

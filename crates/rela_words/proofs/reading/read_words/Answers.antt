@@ -73,3 +73,66 @@ returns-in-fib-clause-numbers c =
     (ap (map string_bytes) c.in-Some.ensures.cases.0)
     (parts_of c.in_ok-parts.parts) c.in_ok-parts.ensures.parts (codes "fib") (sym c.as_str.ensures.value ∙ c.in-fib.is) c.read_fib.result
     c.read_fib.ensures.fits
+
+pub returns-in-zone-clause-asked : goal.returns-in-zone-clause-asked
+returns-in-zone-clause-asked c =
+    ok_asked (map string_bytes c.args.words.now) (string_bytes c.in-Some.name.now) (map string_bytes c.in-Some.rest.now)
+    (ap (map string_bytes) c.in-Some.ensures.cases.0)
+    (parts_of c.in_ok-parts.parts) c.in_ok-parts.ensures.parts (codes "zone") (sym c.as_str.ensures.value ∙ c.in-zone.is) c.read_zone.result
+    c.read_zone.ensures.fits
+
+pub returns-in-zone-clause-bad : goal.returns-in-zone-clause-bad
+returns-in-zone-clause-bad c =
+    err_asked (map string_bytes c.args.words.now) (string_bytes c.in-Some.name.now) (map string_bytes c.in-Some.rest.now)
+    (ap (map string_bytes) c.in-Some.ensures.cases.0)
+    (parts_of c.in_ok-parts.parts) c.in_ok-parts.ensures.parts (codes "zone") (sym c.as_str.ensures.value ∙ c.in-zone.is) c.read_zone.result
+    c.read_zone.ensures.bad
+
+pub returns-in-zone-clause-numbers : goal.returns-in-zone-clause-numbers
+returns-in-zone-clause-numbers c =
+    numbers_asked (map string_bytes c.args.words.now) (string_bytes c.in-Some.name.now) (map string_bytes c.in-Some.rest.now)
+    (ap (map string_bytes) c.in-Some.ensures.cases.0)
+    (parts_of c.in_ok-parts.parts) c.in_ok-parts.ensures.parts (codes "zone") (sym c.as_str.ensures.value ∙ c.in-zone.is) c.read_zone.result
+    c.read_zone.ensures.fits
+
+pub returns-in-rir-clause-asked : goal.returns-in-rir-clause-asked
+returns-in-rir-clause-asked c =
+    ok_asked (map string_bytes c.args.words.now) (string_bytes c.in-Some.name.now) (map string_bytes c.in-Some.rest.now)
+    (ap (map string_bytes) c.in-Some.ensures.cases.0)
+    (parts_of c.in_ok-parts.parts) c.in_ok-parts.ensures.parts (codes "rir") (sym c.as_str.ensures.value ∙ c.in-rir.is) c.read_rir.result
+    c.read_rir.ensures.fits
+
+pub returns-in-rir-clause-bad : goal.returns-in-rir-clause-bad
+returns-in-rir-clause-bad c =
+    err_asked (map string_bytes c.args.words.now) (string_bytes c.in-Some.name.now) (map string_bytes c.in-Some.rest.now)
+    (ap (map string_bytes) c.in-Some.ensures.cases.0)
+    (parts_of c.in_ok-parts.parts) c.in_ok-parts.ensures.parts (codes "rir") (sym c.as_str.ensures.value ∙ c.in-rir.is) c.read_rir.result
+    c.read_rir.ensures.bad
+
+pub returns-in-rir-clause-numbers : goal.returns-in-rir-clause-numbers
+returns-in-rir-clause-numbers c =
+    numbers_asked (map string_bytes c.args.words.now) (string_bytes c.in-Some.name.now) (map string_bytes c.in-Some.rest.now)
+    (ap (map string_bytes) c.in-Some.ensures.cases.0)
+    (parts_of c.in_ok-parts.parts) c.in_ok-parts.ensures.parts (codes "rir") (sym c.as_str.ensures.value ∙ c.in-rir.is) c.read_rir.result
+    c.read_rir.ensures.fits
+
+pub returns-in-demo-clause-asked : goal.returns-in-demo-clause-asked
+returns-in-demo-clause-asked c =
+    ok_asked (map string_bytes c.args.words.now) (string_bytes c.in-Some.name.now) (map string_bytes c.in-Some.rest.now)
+    (ap (map string_bytes) c.in-Some.ensures.cases.0)
+    (parts_of c.in_ok-parts.parts) c.in_ok-parts.ensures.parts (codes "demo") (sym c.as_str.ensures.value ∙ c.in-demo.is) c.read_demo.result
+    c.read_demo.ensures.fits
+
+pub returns-in-demo-clause-bad : goal.returns-in-demo-clause-bad
+returns-in-demo-clause-bad c =
+    err_asked (map string_bytes c.args.words.now) (string_bytes c.in-Some.name.now) (map string_bytes c.in-Some.rest.now)
+    (ap (map string_bytes) c.in-Some.ensures.cases.0)
+    (parts_of c.in_ok-parts.parts) c.in_ok-parts.ensures.parts (codes "demo") (sym c.as_str.ensures.value ∙ c.in-demo.is) c.read_demo.result
+    c.read_demo.ensures.bad
+
+pub returns-in-demo-clause-numbers : goal.returns-in-demo-clause-numbers
+returns-in-demo-clause-numbers c =
+    numbers_asked (map string_bytes c.args.words.now) (string_bytes c.in-Some.name.now) (map string_bytes c.in-Some.rest.now)
+    (ap (map string_bytes) c.in-Some.ensures.cases.0)
+    (parts_of c.in_ok-parts.parts) c.in_ok-parts.ensures.parts (codes "demo") (sym c.as_str.ensures.value ∙ c.in-demo.is) c.read_demo.result
+    c.read_demo.ensures.fits
