@@ -1,7 +1,9 @@
-//! Tests of the checks that specifications are expanded to and of the terms that these are translated to, by
-//! public calls alone.
+//! Tests of the checks that specifications are expanded to, of the claims that assertion files are
+//! resolved to, and of terms, by public calls alone.
 #![tactic(auto)]
 
+#[cfg(test)]
+mod claims;
 #[cfg(test)]
 mod expansion;
 #[cfg(test)]

@@ -1,0 +1,14 @@
+pub mod CountForms
+pub mod Fitting
+pub mod FreeNames
+pub mod Keys
+pub mod Making
+pub mod Members
+pub mod MentionForms
+pub mod Numbering
+pub mod PlainForms
+pub mod SizeForms
+pub mod Steps
+pub mod TermForms
+pub mod TreeForms
+pub mod Views
