@@ -1,0 +1,11 @@
+mod Members
+mod Marks
+mod Chains
+mod Eaches
+mod Led
+mod Steps
+mod Forms
+mod Told
+mod Ends
+mod Blames
+mod Sizes
