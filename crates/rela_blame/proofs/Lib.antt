@@ -4,3 +4,6 @@ mod Counts
 mod Readings
 mod Walks
 mod Openings
+mod Expanded
+mod Files
+mod Zoned

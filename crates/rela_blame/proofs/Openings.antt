@@ -360,7 +360,7 @@ fold_from : (a : ℕ) (xs : List ℕ) → fold ◌+◌ a xs ≡ a + fold ◌+◌
 fold_from a [] = omega arith
 fold_from a (x ∷ xs) = let h = fold_from (a + x) xs in let k = fold_from (0 + x) xs in omega arith
 
-sum_more : (x : ℕ) (xs : List ℕ) → sum (x ∷ xs) ≡ x + sum xs
+pub sum_more : (x : ℕ) (xs : List ℕ) → sum (x ∷ xs) ≡ x + sum xs
 sum_more x xs = let h = fold_from (0 + x) xs in omega arith
 
 many_units : {A : Type 0} (count : A → ℕ) (R : Phrase A) → AllUnits count R → AllUnits (λ vs. sum (map count vs)) (many R)

@@ -3,3 +3,4 @@ pub mod Alternatives
 pub mod Written
 pub mod Leads
 pub mod Tables
+pub mod Zones
