@@ -82,7 +82,7 @@ fn is_listed(set: &SymbolSet, alphabet: &Alphabet) -> bool
 }
 
 /// Whether those of each set are.
-fn are_listed(sets: &[SymbolSet], alphabet: &Alphabet) -> bool
+pub(crate) fn are_listed(sets: &[SymbolSet], alphabet: &Alphabet) -> bool
     ensures { OnTrue result (All (λ set. All (λ s. s < path_symbols alphabet.now)
         set.members) sets.now) }
 {

@@ -19,3 +19,5 @@ mod rows;
 mod runs;
 #[cfg(test)]
 mod tables;
+#[cfg(test)]
+mod zones;

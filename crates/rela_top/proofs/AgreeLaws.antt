@@ -29,6 +29,7 @@ use Rattle.rela_top.specs.Given.{Agrees}
 use Rattle.rela_top.specs.Loaded.{Loaded, SameLoaded, names_of}
 use Rattle.rela_top.specs.Rows.{IsDecided, IsUnder, IsAlone, IsRowOf, AreRowsOf, AgreeInRow, AgreeInRows}
 use Rattle.rela_top.specs.SameFlows.{SameGraph, SamePair, SamePairs}
+use Rattle.rela_top.specs.Specified.{SameSpecified, Specified}
 use Rattle.rela_top.specs.declared.refusal.Refusal.{Refusal}
 use Rattle.rela_top.proofs.PairLaws.{graph_flipped}
 use Rattle.rela_top.proofs.PathLaws.{paths}
@@ -94,6 +95,15 @@ checks_same level other (a ∷ xs) (b ∷ ys) same outcomes here there =
     let one : a ≡ b = check_same a b first levels in
     let more : xs ≡ ys = checks_same level other xs ys same rest (All-tail (λ (c : Check). c.level ≡ level) a xs here) (All-tail (λ (c : Check). c.level ≡ other) b ys there) in
     cc
+
+abbrev specified_of : (level : Level) (checks : List Check) → Specified
+specified_of level checks = record { level = level; checks = checks }
+
+-- what no file can tell apart is asked for alike
+pub specified_same : (a b : Specified) → SameSpecified a b → a ≡ b
+specified_same a b same =
+    let checks : a.checks ≡ b.checks = checks_same a.level b.level a.checks b.checks same.level same.checks same.levels same.others in
+    ap (λ (l : Level). specified_of l a.checks) same.level ∙ ap (λ (cs : List Check). specified_of b.level cs) checks
 
 -- ---- one plan
 
@@ -260,6 +270,14 @@ module _ (states : ℕ) (change other : Loaded) (same : SameLoaded change other)
   moved rows are =
       subst (λ (ns : List (List ℕ)). AreRowsOf ns states change.specified.checks other.pairs rows) (sym names_same)
       (subst (λ (cs : List Check). AreRowsOf (names_of other) states cs other.pairs rows) (sym the_checks) are)
+
+  pub names_agree : names_of change ≡ names_of other
+  names_agree = names_same
+
+  -- the rows of the two agree
+  pub made_rows_agree : (rows others : List ReportRow) → AreRowsOf (names_of change) states change.specified.checks change.pairs rows
+      → AreRowsOf (names_of other) states other.specified.checks other.pairs others → AgreeInRows rows others
+  made_rows_agree rows others one two = all_rows_agree (names_of change) states change.specified.checks change.pairs other.pairs rows others same.pairs one (moved others two)
 
   pub reports_agree : (steady : Bool) (answer : Answer) (x : Result Answer Refusal) → Reports states change (Ok answer) → Reports states other x → Agrees steady SameReports (Ok answer) x
   unfolding Reports

@@ -1,9 +1,10 @@
 -- What a command gives rise to, and how it is answered.
-use Rattle.std.proofs.Common.{◌≡◌, ℕ, ◌≤◌, nat_lt, false, Bool, true, is_some, IsTrue, List, Option, Some, Result, Ok, Err, IfOk, inr, refl, sym, ap, subst, rules}
+use Rattle.std.proofs.Common.{◌≡◌, ℕ, ◌≤◌, nat_lt, false, Bool, is_some, IsTrue, List, Option, Result, Ok, Err, IfOk, inr, refl, sym, ap, subst, rules}
 use Rattle.rela_io.specs.Held.{FilesByName}
 use Rattle.rela_top.specs.Answer.{Answer, Delivers}
 use Rattle.rela_top.specs.Given.{Agrees, IsGiven}
-use Rattle.rela_top.specs.Outcome.{Outcome, SameAnswer, SameOutcome, answer_of, GivenBy, IsSameAnswer, Completes}
+use Rattle.rela_top.specs.Operands.{given_to}
+use Rattle.rela_top.specs.Outcome.{Outcome, SameAnswer, SameOutcome, GivenBy, IsSameAnswer, Completes}
 use Rattle.rela_top.specs.Reading.{is_too_long, max_file_bytes}
 use Rattle.rela_top.specs.Refusal.{refusal_line}
 use Rattle.rela_words.specs.Words.{Command, Ask, AskJust}
@@ -27,9 +28,9 @@ module _ (holds : Option FilesByName) (steady : Bool) (command : Command) where
   refused_same refusal (Err other) agrees = agrees
 
   -- what is made, where the file opened last isn't too long
-  pub GivenBy-made : (given : ℕ) (answer : Answer) → IsAnswered (Ok answer) → given ≤ max_file_bytes → GivenBy holds command given answer
+  pub GivenBy-made : (given : ℕ) (answer : Answer) → IsAnswered (Ok answer) → given_to command given ≤ max_file_bytes → GivenBy holds command given answer
   GivenBy-made given answer is few =
-      let short : nat_lt max_file_bytes given ≡ false = search rules in
+      let short : nat_lt max_file_bytes (given_to command given) ≡ false = search rules in
       record {
         outcome = Ok answer;
         is_outcome = is.told_by;
@@ -39,7 +40,7 @@ module _ (holds : Option FilesByName) (steady : Bool) (command : Command) where
       }
 
   -- the line of a refusal
-  pub GivenBy-refusing : (given : ℕ) (text : List ℕ) (refusal : Refusal) → IsAnswered (Err (Refused refusal)) → is_too_long refusal ≡ nat_lt max_file_bytes given → text ≡ refusal_line refusal
+  pub GivenBy-refusing : (given : ℕ) (text : List ℕ) (refusal : Refusal) → IsAnswered (Err (Refused refusal)) → is_too_long refusal ≡ nat_lt max_file_bytes (given_to command given) → text ≡ refusal_line refusal
       → GivenBy holds command given (record { text = text; status = 4 })
   GivenBy-refusing given text refusal is long is_line = record {
     outcome = Err refusal;

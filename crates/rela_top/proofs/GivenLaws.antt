@@ -119,14 +119,6 @@ module _ {A : Type 0} where
   unfolding Gives
   text_stopped told steady Same Bytes Reads halt given = stopped told steady Equals Same Bytes Reads halt given
 
-  -- the bytes are there, and read
-  pub text_read : (Same : A → A → Type 0) (Reads : List ℕ → Result A Refusal → Type 0) (bytes : List ℕ) (r : Result A Halt)
-      → IsRead Same (Reads bytes) r → IsRead Same (Gives (Is (Ok bytes)) Reads) r
-  text_read Same Reads bytes r read = record {
-    given = text_given true true Same (Is (Ok bytes)) Reads bytes bytes r (has_value true true bytes) refl read;
-    halts = read.halts;
-  }
-
   -- ---- how a call ends
 
   -- a call that opens no file, after one that was given bytes
@@ -159,10 +151,6 @@ ends_stopped old new given halt ends = record { ok_keeps_count = tt; ok_given = 
 pub halts_seen : {A B : Type 0} (view : A → B) (r : Result A Halt) → IfErr (seen view r) HaltsInside → IfErr r HaltsInside
 halts_seen view (Ok a) halts = tt
 halts_seen view (Err halt) halts = halts
-
-pub seen_halts : {A B : Type 0} (view : A → B) (r : Result A Halt) → IfErr r HaltsInside → IfErr (seen view r) HaltsInside
-seen_halts view (Ok a) halts = tt
-seen_halts view (Err halt) halts = halts
 
 -- ---- want of memory alone
 

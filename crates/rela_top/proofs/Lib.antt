@@ -16,4 +16,9 @@ pub mod AgreeLaws
 pub mod DrawLaws
 pub mod FormatLaws
 pub mod TreeLaws
+pub mod LayerChecks
+pub mod LayerLaws
 pub mod Shared
+pub mod ZoneLaws
+pub mod BlameLaws
+pub mod ClaimLaws

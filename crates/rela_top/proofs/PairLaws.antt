@@ -1,7 +1,7 @@
 -- What two snapshots give, whichever of the flows that no file can tell apart stand for them.
-use Rattle.std.proofs.Common.{◌≡◌, ◌≢◌, ◌∙◌, ℕ, zero, suc, ◌⊎◌, inl, inr, Bool, true, false, cond, not, List, [], ◌∷◌, ◌++◌, map, take, filter, Option, None, Some, Result, Ok, Err, IsTrue, refl, sym, ap, subst}
+use Rattle.std.proofs.Common.{◌≡◌, ◌≢◌, ◌∙◌, ℕ, zero, suc, ◌⊎◌, inl, inr, Bool, true, false, cond, not, List, [], ◌∷◌, ◌++◌, map, take, Option, None, Some, Result, Ok, Err, IsTrue, refl, sym, ap, subst}
 use Rattle.std.specs.Prelude.{slice_get}
-use Rattle.std.specs.List.{All, AllZip}
+use Rattle.std.specs.List.{All}
 use Rattle.std.specs.Str.{bytes_eq}
 use Rattle.std.specs.Result.{IfErr}
 use Rattle.std.proofs.lemmas.List.Elements.{All-nil, All-cons, All-head, All-tail}
@@ -192,7 +192,7 @@ joined_same [] (q ∷ qs) rs ss same more = absurd same
 joined_same (p ∷ ps) [] rs ss same more = absurd same
 joined_same (p ∷ ps) (q ∷ qs) rs ss same more = (same.0, joined_same ps qs rs ss same.1 more)
 
-pairs_same : (fs gs ls ms : List Flow) → SameFlows fs gs → SameFlows ls ms → SamePairs (pairs_of fs ls) (pairs_of gs ms)
+pub pairs_same : (fs gs ls ms : List Flow) → SameFlows fs gs → SameFlows ls ms → SamePairs (pairs_of fs ls) (pairs_of gs ms)
 pairs_same fs gs ls ms earlier later =
     subst (λ (names : List (List ℕ)). SamePairs (pairs_of fs ls) (map (pair_before ms) gs ++ map pair_after (flows_without names ms))) (names_same fs gs earlier)
     (joined_same (map (pair_before ls) fs) (map (pair_before ms) gs) (map pair_after (flows_without (names_of fs) ls)) (map pair_after (flows_without (names_of fs) ms))

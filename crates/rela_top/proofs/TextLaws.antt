@@ -1,6 +1,5 @@
 -- What the text of an input gives, by what its decoder answers.
-use Rattle.std.proofs.Common.{◌≡◌, ◌≢◌, ◌∙◌, ℕ, ◌⊎◌, inl, inr, false, true, List, [], ◌∷◌, Result, Ok, Err, refl, sym, ap, subst}
-use Rattle.std.specs.List.{AllZip}
+use Rattle.std.proofs.Common.{◌≡◌, ◌≢◌, ◌∙◌, ℕ, ◌⊎◌, inl, inr, true, List, [], ◌∷◌, Result, Ok, Err, refl, sym, ap, subst}
 use Rattle.rela_json.specs.declared.error.LoadError.{LoadError}
 use Rattle.rela_json.specs.declared.error.LoadError.TheVariants as load
 use Rattle.rela_locations.specs.Load as locations
@@ -14,12 +13,11 @@ use Rattle.rela_snapshot.specs.Steps.{IsAnswer}
 use Rattle.rela_snapshot.specs.declared.snapshot.Flow.{Flow}
 use Rattle.rela_tables.specs.Forwarding.{Forwarding}
 use Rattle.rela_tables.specs.Load.{LoadTables}
-use Rattle.rela_top.specs.Given.{Equals, Agrees, IsGiven, IsRead}
+use Rattle.rela_top.specs.Given.{Equals, Agrees, IsRead}
 use Rattle.rela_top.specs.Halts.{load_halt, refused}
 use Rattle.rela_top.specs.Inputs.{load_of, AreReadFlows, ReadsNetwork, ReadsFlows, ReadsTables}
 use Rattle.rela_top.specs.SameFlows.{SameGraph, SameFlow, SameFlows}
 use Rattle.rela_top.specs.declared.reading.Halt.{Halt}
-use Rattle.rela_top.specs.declared.reading.Halt.TheVariants.{Memory}
 use Rattle.rela_top.specs.declared.refusal.Input.{Input}
 use Rattle.rela_top.specs.declared.refusal.Input.TheVariants.{Locations}
 use Rattle.rela_top.specs.declared.refusal.Reason.TheVariants.{Load}
@@ -81,7 +79,7 @@ graph_same l g h x y = record {
 flow_same : (l : ListedFlow) (f g : Flow) → IsFlowOf l f → IsFlowOf l g → SameFlow f g
 flow_same l f g x y = record { class = x.class ∙ sym y.class; graph = graph_same l.graph f.graph g.graph x.graph y.graph }
 
-flows_same : (ls : List ListedFlow) (fs gs : List Flow) → AreFlowsOf ls fs → AreFlowsOf ls gs → SameFlows fs gs
+pub flows_same : (ls : List ListedFlow) (fs gs : List Flow) → AreFlowsOf ls fs → AreFlowsOf ls gs → SameFlows fs gs
 flows_same [] [] [] x y = tt
 flows_same [] [] (g ∷ gs) x y = absurd y
 flows_same [] (f ∷ fs) gs x y = absurd x

@@ -4,7 +4,7 @@ use Rattle.rela_io.specs.Held.{FilesByName}
 use Rattle.rela_report.specs.Status.{status_of}
 use Rattle.rela_report.specs.Text.{report_text}
 use Rattle.rela_report.specs.declared.rows.ReportRow.{ReportRow}
-use Rattle.rela_snapshot.specs.Steps.{Is, ◌>>=◌}
+use Rattle.rela_snapshot.specs.Steps.{◌>>=◌}
 use Rattle.rela_top.specs.Answer.{Answer}
 use Rattle.rela_top.specs.Inputs.{BytesOf}
 use Rattle.rela_top.specs.Loaded.{Loaded, Loads, names_of}
@@ -35,12 +35,6 @@ abbrev pub Checks : Option FilesByName → (before after locations spec : List �
 Checks holds before after locations spec states =
     ReportsBy (BytesOf holds before Before) (BytesOf holds after After)
     (BytesOf holds locations Locations) (BytesOf holds spec Spec) states
-
--- from these texts
-abbrev pub ReportsTexts : (before after locations spec : List ℕ) → ℕ →
-    Result Answer Refusal → Type 0
-ReportsTexts before after locations spec states =
-    ReportsBy (Is (Ok before)) (Is (Ok after)) (Is (Ok locations)) (Is (Ok spec)) states
 
 -- two reports whose rows differ at most where one of them leaves the verdict open
 pub record SameReports (x y : Answer) : Type 0 where

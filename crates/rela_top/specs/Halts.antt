@@ -8,7 +8,7 @@ use Rattle.rela_lex.specs.declared.error.SpecError.TheVariants as spec
 use Rattle.rela_snapshot.specs.declared.pairing.PairError.{PairError}
 use Rattle.rela_snapshot.specs.declared.pairing.PairError.TheVariants as pair
 use Rattle.rela_top.specs.declared.refusal.Input.{Input}
-use Rattle.rela_top.specs.declared.refusal.Input.TheVariants.{Pair, Spec, Tables}
+use Rattle.rela_top.specs.declared.refusal.Input.TheVariants.{Pair, Tables}
 use Rattle.rela_top.specs.declared.refusal.Reason.{Reason}
 use Rattle.rela_top.specs.declared.refusal.Reason.TheVariants.{Load, FlowDiffers, Specification, Snapshot}
 use Rattle.rela_top.specs.declared.reading.Halt.{Halt}
@@ -23,9 +23,9 @@ abbrev pub load_halt : Input → LoadError → Halt
 load_halt input load.Memory = Memory
 load_halt input error = refused input (Load error)
 
-abbrev pub spec_halt : SpecError → Halt
-spec_halt spec.Memory = Memory
-spec_halt error = refused Spec (Specification error)
+abbrev pub spec_halt : Input → SpecError → Halt
+spec_halt input spec.Memory = Memory
+spec_halt input error = refused input (Specification error)
 
 abbrev pub pair_halt : PairError → Halt
 pair_halt pair.Memory = Memory

@@ -12,6 +12,8 @@ use Rattle.rela_snapshot.specs.declared.snapshot.Flow.{Flow}
 use Rattle.rela_tables.specs.Forwarding.{Forwarding}
 use Rattle.rela_tables.specs.Load.{LoadTables}
 use Rattle.rela_top.specs.Reading.{max_file_bytes}
+use Rattle.rela_top.specs.declared.reading.Halt.{Halt}
+use Rattle.rela_top.specs.declared.reading.Halt.TheVariants.{Memory}
 use Rattle.rela_top.specs.declared.refusal.Input.{Input}
 use Rattle.rela_top.specs.declared.refusal.Input.TheVariants.{Locations}
 use Rattle.rela_top.specs.declared.refusal.Reason.TheVariants.{TooLong, Load}
@@ -62,6 +64,11 @@ AreReadFlows input (Err e) (Err refusal) = refusal ≡ record { input = input; r
 abbrev pub ReadsFlows : Input → Network → List ℕ → Result (List Flow) Refusal → Type 0
 ReadsFlows input network bytes r = (x : Result (List ListedFlow) LoadError)
     × snapshot.Load network bytes x × AreReadFlows input x r
+
+-- the flows that are listed, unless memory ran out
+abbrev pub IsListedAs : List ListedFlow → Result (List Flow) Halt → Type 0
+IsListedAs listed (Ok flows) = AreFlowsOf listed flows
+IsListedAs listed (Err halt) = halt ≡ Memory
 
 -- the tables that are listed, or the refusal of the input
 abbrev pub ReadsTables : Input → Network → List ℕ → Result Forwarding Refusal → Type 0

@@ -13,9 +13,14 @@ pub mod Sharing
 pub mod Paired
 pub mod Loaded
 pub mod Checks
+pub mod Zones
+pub mod Blames
+pub mod Asserted
+pub mod AssertReports
 pub mod Specifications
 pub mod Formats
 pub mod Draws
+pub mod Demos
 pub use Rattle.rela_io.specs.Count
 pub use Rattle.rela_io.specs.Bytes
 pub use Rattle.rela_io.specs.Held

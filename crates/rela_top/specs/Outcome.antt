@@ -3,27 +3,39 @@ use Rattle.std.specs.Prelude.{◌≡◌, ℕ, ◌⊎◌, Bool, false, nat_lt, Li
 use Rattle.rela_io.specs.Held.{FilesByName}
 use Rattle.rela_report.specs.Text.{line}
 use Rattle.rela_top.specs.Answer.{Answer, Delivers}
-use Rattle.rela_top.specs.Checks.{Checks, SameReports}
+use Rattle.rela_top.specs.AssertReports.{AnyReports, ReportsAssertions}
+use Rattle.rela_top.specs.Blames.{ReportsAs, SameAs}
+use Rattle.rela_top.specs.Checks.{SameReports}
+use Rattle.rela_top.specs.Demos.{Demos}
 use Rattle.rela_top.specs.Draws.{Draws, SameDrawings}
 use Rattle.rela_top.specs.Formats.{Formats}
 use Rattle.rela_top.specs.Given.{Equals}
+use Rattle.rela_top.specs.Operands.{given_to}
 use Rattle.rela_top.specs.Reading.{is_too_long, max_file_bytes}
 use Rattle.rela_top.specs.Refusal.{refusal_line}
-use Rattle.rela_words.specs.Words.{Command, Check, Fmt, Fib, Ask, AskNothing}
+use Rattle.rela_words.specs.Words.{Command, Check, Fmt, Fib, Zone, Rir, Demo, Ask, AskNothing}
+use Rattle.rela_top.specs.Zones.{SameZones, Zones}
 use Rattle.rela_top.specs.declared.refusal.Refusal.{Refusal}
 
 -- what the files of a command give: its answer, or the first refusal
 abbrev pub Outcome : Option FilesByName → Command → Result Answer Refusal → Type 0
-Outcome holds (Check before after locations spec states) =
-    Checks holds before after locations spec states
+Outcome holds (Check before after locations spec states blame) =
+    ReportsAs blame holds before after locations spec states
 Outcome holds (Fmt spec) = Formats holds spec
 Outcome holds (Fib tables other locations) = Draws holds tables other locations
+Outcome holds (Zone locations spec name states) = Zones holds locations spec name states
+Outcome holds (Rir before after locations assertions states) =
+    ReportsAssertions holds before after locations assertions states
+Outcome holds (Demo layers) = Demos layers
 
 -- how far the files settle the answer of a command
 abbrev pub SameAnswer : Command → Answer → Answer → Type 0
-SameAnswer (Check before after locations spec states) = SameReports
+SameAnswer (Check before after locations spec states blame) = SameAs blame
 SameAnswer (Fmt spec) = Equals
 SameAnswer (Fib tables other locations) = SameDrawings
+SameAnswer (Zone locations spec name states) = SameZones
+SameAnswer (Rir before after locations assertions states) = AnyReports
+SameAnswer (Demo layers) = SameReports
 
 -- the same refusal, or the same answer as far as the files settle it
 abbrev pub SameOutcome : Command → Result Answer Refusal → Result Answer Refusal → Type 0
@@ -42,15 +54,15 @@ abbrev pub says_too_long : Result Answer Refusal → Bool
 says_too_long (Ok answer) = false
 says_too_long (Err refusal) = is_too_long refusal
 
--- This is the answer to what the files of a command give: as too long exactly where the file opened last gave more bytes
--- than are allowed. Where the files are told, they give nothing else.
+-- This is the answer to what the files of a command give: as too long exactly where the file that it opened last gave
+-- more bytes than are allowed. Where the files are told, they give nothing else.
 pub record GivenBy (holds : Option FilesByName) (command : Command) (given : ℕ)
     (answer : Answer) : Type 0 where
   pub outcome : Result Answer Refusal
   pub is_outcome : Outcome holds command outcome
   pub alone : IsSome holds → (other : Result Answer Refusal) → Outcome holds command other →
       SameOutcome command outcome other
-  pub too_long : says_too_long outcome ≡ nat_lt max_file_bytes given
+  pub too_long : says_too_long outcome ≡ nat_lt max_file_bytes (given_to command given)
   pub is_answer : answer ≡ answer_of outcome
 
 -- the answer to words that ask for nothing

@@ -11,9 +11,9 @@ use Rattle.rela_flows.specs.Notation.{text_of}
 use Rattle.rela_flows.specs.declared.predicate.FlowClass.{FlowClass}
 use Rattle.rela_report.specs.Text.{line}
 use Rattle.rela_top.specs.declared.refusal.Input.{Input}
-use Rattle.rela_top.specs.declared.refusal.Input.TheVariants.{Locations, Before, After, Pair, Spec, Tables, Other}
+use Rattle.rela_top.specs.declared.refusal.Input.TheVariants.{Locations, Before, After, Pair, Spec, Tables, Other, Assertions, Words}
 use Rattle.rela_top.specs.declared.refusal.Reason.{Reason}
-use Rattle.rela_top.specs.declared.refusal.Reason.TheVariants.{TooLong, Load, FlowDiffers, Specification, Snapshot}
+use Rattle.rela_top.specs.declared.refusal.Reason.TheVariants.{TooLong, Load, FlowDiffers, Specification, Snapshot, UnknownCheck}
 use Rattle.rela_top.specs.declared.refusal.Refusal.{Refusal}
 
 abbrev pub input_text : Input → List ℕ
@@ -24,6 +24,8 @@ input_text Pair = codes "pair"
 input_text Spec = codes "spec"
 input_text Tables = codes "tables"
 input_text Other = codes "other"
+input_text Assertions = codes "assertions"
+input_text Words = codes "words"
 
 -- a refusal with the row that it stands in
 unfoldable pub in_row : List ℕ → ℕ → List ℕ
@@ -91,6 +93,7 @@ reason_text (Load error) = load_text error
 reason_text (FlowDiffers before after) = differs_text before after
 reason_text (Specification error) = spec_text error
 reason_text (Snapshot error) = fib_text error
+reason_text UnknownCheck = codes "33 UnknownName"
 
 abbrev pub refusal_line : Refusal → List ℕ
 refusal_line refusal = at_place (input_text refusal.input) (reason_text refusal.reason)

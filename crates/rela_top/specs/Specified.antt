@@ -8,6 +8,7 @@ use Rattle.rela_translate.specs.Checked.{Checked as Check}
 use Rattle.rela_expand.specs.Expand.{expanded, outcome_of}
 use Rattle.rela_top.specs.Specifications.{IsFaultOf, ReadsTree}
 use Rattle.rela_top.specs.declared.asking.Asked.{Asked}
+use Rattle.rela_top.specs.declared.refusal.Input.TheVariants.{Spec}
 use Rattle.rela_top.specs.declared.refusal.Refusal.{Refusal}
 
 -- the level of the locations, and the checks in their order
@@ -24,7 +25,7 @@ pub record IsSpecified (network : Network) (tree : SpecFile) (specified : Specif
 -- what a tree asks for over the network, or the first refusal as it is expanded
 abbrev pub AsksFor : Network → SpecFile → Result Specified Refusal → Type 0
 AsksFor network tree (Ok specified) = IsSpecified network tree specified
-AsksFor network tree (Err refusal) = IsFaultOf (λ e. expanded network tree ≡ Err e) refusal
+AsksFor network tree (Err refusal) = IsFaultOf Spec (λ e. expanded network tree ≡ Err e) refusal
 
 -- what a text asks for, or its first refusal: of its tokens, else of their tree, else as that is expanded
 unfoldable pub ReadsChecks : Network → List ℕ → Result Specified Refusal → Type 0

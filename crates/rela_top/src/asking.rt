@@ -6,13 +6,15 @@ ghost use Rattle.rela_spec.specs.Depth.{IsLow};
 ghost use Rattle.rela_spec.specs.Full.{IsFull};
 ghost use Rattle.rela_top.specs.Given.{Equals, IsRead, seen};
 ghost use Rattle.rela_top.specs.Rows.{ListsPathSymbols};
-ghost use Rattle.rela_top.specs.Specifications.{ReadsTree};
-ghost use Rattle.rela_top.specs.Specified.{ReadsChecks, SameSpecified, specified_by};
+ghost use Rattle.rela_spec.specs.Grammar.{Spells};
+ghost use Rattle.rela_top.specs.Specifications.{ReadsTree, ReadsWritten, written_by};
+ghost use Rattle.rela_top.specs.Specified.{AsksFor, IsSpecified, ReadsChecks, SameSpecified, specified_by};
 
 use crate::halts::spec_halt;
 use crate::reading::Halt;
+use crate::refusal::Input;
 use rela_expand::expand;
-use rela_lex::tokens;
+use rela_lex::{Token, tokens};
 use rela_locations::Locations;
 use rela_names::Level;
 use rela_spec::{SpecFile, parse};
@@ -43,11 +45,42 @@ pub fn read_tree(alloc: Global, text: &[u8]) -> Result<SpecFile, Halt>
 {
     let tokens = match tokens(alloc, text) {
         Ok(tokens) => tokens,
-        Err(error) => return Err(spec_halt(error)),
+        Err(error) => return Err(spec_halt(Input::Spec, error)),
     };
     match parse(alloc, tokens.as_slice(), text.len() as u32) {
         Ok(file) => Ok(file),
-        Err(error) => Err(spec_halt(error)),
+        Err(error) => Err(spec_halt(Input::Spec, error)),
+    }
+}
+
+/// A specification as it is written.
+#[derive(Drop)]
+pub struct Written {
+    /// Its tokens.
+    pub tokens: Vec<Token>,
+    /// The tree that they spell.
+    pub file: SpecFile,
+}
+
+/// The same tree, with the tokens that spell it.
+///
+/// # Errors
+///
+/// Those of [`read_tree`].
+pub fn read_written(alloc: Global, text: &[u8]) -> Result<Written, Halt>
+    requires { length text.now ≤ 33554432 }
+    ensures written { IsRead Equals (ReadsWritten text.now) (seen written_by result) }
+    ensures full { IfOk result (λ written. IsFull written.file) }
+    ensures low { IfOk result (λ written. All IsLow written.file.items) }
+    ensures spells { IfOk result (λ written. Spells written.tokens.items written.file) }
+{
+    let tokens = match tokens(alloc, text) {
+        Ok(tokens) => tokens,
+        Err(error) => return Err(spec_halt(Input::Spec, error)),
+    };
+    match parse(alloc, tokens.as_slice(), text.len() as u32) {
+        Ok(file) => Ok(Written { tokens, file }),
+        Err(error) => Err(spec_halt(Input::Spec, error)),
     }
 }
 
@@ -70,11 +103,32 @@ pub fn read_asked(alloc: Global, text: &[u8], locations: &Locations) -> Result<A
         All (λ check. check.level ≡ asked.level) asked.checks.items) }
 {
     let file = read_tree(alloc, text)?;
-    match expand(alloc, &file, locations) {
+    ask(alloc, &file, locations)
+}
+
+/// What a tree asks for over these locations. Time and space: linear in the tree and in the checks,
+/// whose names are written out.
+///
+/// # Errors
+///
+/// `Refused` with the first fault as the tree is expanded; `Memory`.
+pub(crate) fn ask(alloc: Global, file: &SpecFile, locations: &Locations) -> Result<Asked, Halt>
+    requires full { IsFull file.now }
+    requires low { All IsLow file.now.items }
+    ensures asked { IsRead SameSpecified (AsksFor locations.now file.now)
+        (seen specified_by result) }
+    ensures is_asked { IfOk result (λ asked. IsSpecified locations.now file.now
+        (specified_by asked)) }
+    ensures listed { IfOk result (λ asked.
+        All (ListsPathSymbols (alphabet_of asked.level locations.now)) asked.checks.items) }
+    ensures levels { IfOk result (λ asked.
+        All (λ check. check.level ≡ asked.level) asked.checks.items) }
+{
+    match expand(alloc, file, locations) {
         Ok(checks) => Ok(Asked {
             level: file.level,
             checks,
         }),
-        Err(error) => Err(spec_halt(error)),
+        Err(error) => Err(spec_halt(Input::Spec, error)),
     }
 }

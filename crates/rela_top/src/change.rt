@@ -1,19 +1,17 @@
 //! A change, loaded: what its four inputs stand for, before anything of it is decided.
 
-ghost use Rattle.std.specs.Prelude.{◌≡◌, ◌≢◌, ◌≤◌, Ok, Err, IsTrue, IfOk, is_some, length};
+ghost use Rattle.std.specs.Prelude.{◌≡◌, ◌≢◌, Err, IsTrue, IfOk, is_some};
 ghost use Rattle.rela_io.specs.Held.{HoldsName};
-ghost use Rattle.rela_snapshot.specs.Steps.{Is};
-ghost use Rattle.rela_top.specs.Given.{IsGiven, IsRead, seen};
+ghost use Rattle.rela_top.specs.Given.{IsGiven, seen};
 ghost use Rattle.rela_top.specs.Inputs.{BytesOf};
 ghost use Rattle.rela_top.specs.Loaded.{Loads, SameLoaded, loaded_by, names_of};
 ghost use Rattle.rela_top.specs.Reading.{Ends};
 ghost use Rattle.rela_top.specs.Rows.{AreChecksAt};
 ghost use Rattle.rela_top.specs.declared.refusal.Input.TheVariants as input;
 
-use crate::asking::{Asked, read_asked};
+use crate::asking::Asked;
 use crate::loading::{load_locations, load_pairs, load_spec};
 use crate::reading::Halt;
-use crate::texts::{read_locations, read_pairs};
 use rela_io::Files;
 use rela_locations::Locations;
 use rela_snapshot::FlowPair;
@@ -63,37 +61,6 @@ pub fn load_change<F: Files>(
     let locations = load_locations(alloc, files, locations)?;
     let pairs = load_pairs(alloc, files, before, after, &locations)?;
     let asked = load_spec(alloc, files, spec, &locations)?;
-    Ok(Loaded {
-        locations,
-        pairs,
-        asked,
-    })
-}
-
-/// The same of four texts of at most 32 MiB each.
-///
-/// # Errors
-///
-/// The first refusal or want of memory ends it.
-pub fn read_change(
-    alloc: Global,
-    before: &[u8],
-    after: &[u8],
-    locations: &[u8],
-    spec: &[u8],
-) -> Result<Loaded, Halt>
-    requires before { length before.now ≤ 33554432 }
-    requires after { length after.now ≤ 33554432 }
-    requires locations { length locations.now ≤ 33554432 }
-    requires spec { length spec.now ≤ 33554432 }
-    ensures loads { IsRead SameLoaded (Loads (Is (Ok before.now)) (Is (Ok after.now))
-        (Is (Ok locations.now)) (Is (Ok spec.now))) (seen loaded_by result) }
-    ensures checks { IfOk result (λ loaded. AreChecksAt (names_of (loaded_by loaded))
-        loaded.pairs.items loaded.asked.checks.items) }
-{
-    let locations = read_locations(alloc, locations)?;
-    let pairs = read_pairs(alloc, before, after, &locations)?;
-    let asked = read_asked(alloc, spec, &locations)?;
     Ok(Loaded {
         locations,
         pairs,

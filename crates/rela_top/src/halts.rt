@@ -11,7 +11,7 @@ use rela_lex::SpecError;
 use rela_snapshot::PairError;
 
 /// The refusal of an input.
-fn refused(input: Input, reason: Reason) -> Halt
+pub(crate) fn refused(input: Input, reason: Reason) -> Halt
     ensures { result ≡ refused input reason }
 {
     Halt::Refused(Refusal { input, reason })
@@ -27,13 +27,14 @@ pub(crate) fn load_halt(input: Input, error: LoadError) -> Halt
     }
 }
 
-/// What an error of the specification ends the command with: want of memory, or its refusal.
-pub(crate) fn spec_halt(error: SpecError) -> Halt
-    ensures { result ≡ spec_halt error }
+/// What an error of a text of tokens ends the command with: want of memory, or the refusal of this
+/// input.
+pub(crate) fn spec_halt(input: Input, error: SpecError) -> Halt
+    ensures { result ≡ spec_halt input error }
 {
     match error {
         SpecError::Memory => Halt::Memory,
-        error => refused(Input::Spec, Reason::Specification(error)),
+        error => refused(input, Reason::Specification(error)),
     }
 }
 

@@ -10,16 +10,20 @@ ghost use Rattle.rela_io.specs.Held.{HoldsName};
 ghost use Rattle.rela_spec.specs.Depth.{IsLow};
 ghost use Rattle.rela_spec.specs.Full.{IsFull};
 ghost use Rattle.rela_tables.specs.Located.{IsForwardingIn};
+ghost use Rattle.rela_assertions.specs.Rows.{IsClaimAt};
+ghost use Rattle.rela_top.specs.Asserted.{ReadsClaims, SameAsserted, asserted_by};
 ghost use Rattle.rela_top.specs.Given.{Equals, IsGiven, seen};
 ghost use Rattle.rela_top.specs.Inputs.{BytesOf, Gives, ReadsNetwork, ReadsFlows, ReadsTables};
 ghost use Rattle.rela_top.specs.Paired.{GivesPairs};
 ghost use Rattle.rela_top.specs.Reading.{Ends};
 ghost use Rattle.rela_top.specs.Rows.{ListsPathSymbols};
 ghost use Rattle.rela_top.specs.SameFlows.{SameFlows, SamePairs};
-ghost use Rattle.rela_top.specs.Specifications.{ReadsTree};
+ghost use Rattle.rela_spec.specs.Grammar.{Spells};
+ghost use Rattle.rela_top.specs.Specifications.{ReadsTree, ReadsWritten, written_by};
 ghost use Rattle.rela_top.specs.Specified.{ReadsChecks, SameSpecified, specified_by};
 
-use crate::asking::{Asked, read_asked, read_tree};
+use crate::asking::{Asked, Written, read_asked, read_tree, read_written};
+use crate::claiming::{Asserted, read_claims};
 use crate::reading::{Halt, read_input};
 use crate::refusal::Input;
 use crate::texts::{pair_flows, read_locations, read_snapshot, read_tables};
@@ -163,6 +167,30 @@ pub fn load_tree<F: Files>(alloc: Global, files: &mut F, name: &str) -> Result<S
     read_tree(alloc, text.as_slice())
 }
 
+/// The specification in the file of this name as it is written, as [`read_written`] gives it.
+///
+/// # Errors
+///
+/// `ReadFault` where the file can't be read; `Refused` where it is too long, or for its first
+/// fault; `Memory`.
+pub fn load_written<F: Files>(alloc: Global, files: &mut F, name: &str) -> Result<Written, Halt>
+    ensures given { IsGiven (is_some (F.holds files.old)) (F.steady files.old) Equals
+        (Gives (BytesOf (F.holds files.old) name.now Input.Spec) ReadsWritten)
+        (seen written_by result) }
+    ensures full { IfOk result (λ written. IsFull written.file) }
+    ensures low { IfOk result (λ written. All IsLow written.file.items) }
+    ensures spells { IfOk result (λ written. Spells written.tokens.items written.file) }
+    ensures ends { Ends (F.faults files.old) (F.faults files.new) (F.given files.new) result }
+    ensures steady_is_no_fault { IsTrue (F.steady files.old) →
+        HoldsName (F.holds files.old) name.now →
+        result ≢ Err Halt.ReadFault }
+    ensures same_holds { F.holds files.new ≡ F.holds files.old }
+    ensures same_steady { F.steady files.new ≡ F.steady files.old }
+{
+    let text = read_input(alloc, files, Input::Spec, name)?;
+    read_written(alloc, text.as_slice())
+}
+
 /// What the specification in the file of this name asks for over these locations.
 ///
 /// # Errors
@@ -191,4 +219,32 @@ pub fn load_spec<F: Files>(
 {
     let text = read_input(alloc, files, Input::Spec, name)?;
     read_asked(alloc, text.as_slice(), locations)
+}
+
+/// What the assertion file of this name asks for over these locations.
+///
+/// # Errors
+///
+/// `ReadFault` where the file can't be read; `Refused` where it is too long, or for its first
+/// fault; `Memory`.
+pub fn load_claims<F: Files>(
+    alloc: Global,
+    files: &mut F,
+    name: &str,
+    locations: &Locations,
+) -> Result<Asserted, Halt>
+    ensures given { IsGiven (is_some (F.holds files.old)) (F.steady files.old) SameAsserted
+        (Gives (BytesOf (F.holds files.old) name.now Input.Assertions) (ReadsClaims locations.now))
+        (seen asserted_by result) }
+    ensures claims { IfOk result (λ asserted.
+        All (IsClaimAt (alphabet_of asserted.level locations.now)) asserted.claims.items) }
+    ensures ends { Ends (F.faults files.old) (F.faults files.new) (F.given files.new) result }
+    ensures steady_is_no_fault { IsTrue (F.steady files.old) →
+        HoldsName (F.holds files.old) name.now →
+        result ≢ Err Halt.ReadFault }
+    ensures same_holds { F.holds files.new ≡ F.holds files.old }
+    ensures same_steady { F.steady files.new ≡ F.steady files.old }
+{
+    let text = read_input(alloc, files, Input::Assertions, name)?;
+    read_claims(alloc, text.as_slice(), locations)
 }

@@ -26,6 +26,10 @@ pub enum Input {
     Tables,
     /// The table file whose routes cut the flows too.
     Other,
+    /// The file with assertions.
+    Assertions,
+    /// The words of the command line.
+    Words,
 }
 
 /// Which input is refused, and why.
@@ -46,10 +50,12 @@ pub enum Reason {
     Load(LoadError),
     /// The two snapshots give a flow of one name different prefixes or classes.
     FlowDiffers { before: FlowClass, after: FlowClass },
-    /// The first fault of the text of a specification. It isn't want of memory.
+    /// The first fault of the text of a specification or of assertions. It isn't want of memory.
     Specification(SpecError),
     /// Why tables give no snapshot. It isn't want of memory.
     Snapshot(FibError),
+    /// No check has the name that the words give.
+    UnknownCheck,
 }
 
 /// The line that a refused input gets, with its line feed: `refused`, the place, the number and
@@ -75,6 +81,7 @@ fn reason_text(alloc: Global, reason: &Reason) -> Result<Vec<u8>, AllocError>
         Reason::FlowDiffers { before, after } => differs_text(alloc, before, after),
         Reason::Specification(error) => Ok(spec_text(alloc, error)?.into_bytes()),
         Reason::Snapshot(error) => Ok(fib_text(alloc, error)?.into_bytes()),
+        Reason::UnknownCheck => Vec::from_slice(alloc, b"33 UnknownName"),
     }
 }
 
@@ -90,6 +97,8 @@ fn input_text(input: Input) -> &'static str
         Input::Spec => "spec",
         Input::Tables => "tables",
         Input::Other => "other",
+        Input::Assertions => "assertions",
+        Input::Words => "words",
     }
 }
 

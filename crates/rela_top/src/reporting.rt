@@ -1,16 +1,16 @@
 //! From the two snapshots, the locations and the specification to the report.
 
-ghost use Rattle.std.specs.Prelude.{◌≢◌, ◌≤◌, Ok, Err, IsTrue, IfOk, is_some, length};
+ghost use Rattle.std.specs.Prelude.{◌≢◌, ◌≤◌, Ok, Err, IsTrue, IfOk, is_some};
 ghost use Rattle.rela_io.specs.Held.{HoldsName};
 ghost use Rattle.rela_top.specs.Answer.{answer_by, IsOutcomeStatus};
-ghost use Rattle.rela_top.specs.Checks.{Checks, Reports, ReportsTexts, SameReports};
-ghost use Rattle.rela_top.specs.Given.{IsGiven, IsRead, seen};
+ghost use Rattle.rela_top.specs.Checks.{Checks, Reports, SameReports};
+ghost use Rattle.rela_top.specs.Given.{IsGiven, seen};
 ghost use Rattle.rela_top.specs.Loaded.{loaded_by, names_of};
 ghost use Rattle.rela_top.specs.Reading.{Ends};
 ghost use Rattle.rela_top.specs.Rows.{AreChecksAt};
 
 use crate::answer::Answer;
-use crate::change::{Loaded, load_change, read_change};
+use crate::change::{Loaded, load_change};
 use crate::reading::Halt;
 use crate::rows::rows_of;
 use rela_io::Files;
@@ -49,40 +49,12 @@ pub fn report<F: Files>(
     Ok(report_on(alloc, &loaded, states)?)
 }
 
-/// The report on the change in these texts, of at most 32 MiB each: what [`report`] makes of files
-/// that hold them.
-///
-/// # Errors
-///
-/// The first refusal or want of memory ends it.
-pub fn report_texts(
-    alloc: Global,
-    before: &[u8],
-    after: &[u8],
-    locations: &[u8],
-    spec: &[u8],
-    states: usize,
-) -> Result<Answer, Halt>
-    requires some { 1 ≤ states }
-    requires before { length before.now ≤ 33554432 }
-    requires after { length after.now ≤ 33554432 }
-    requires locations { length locations.now ≤ 33554432 }
-    requires spec { length spec.now ≤ 33554432 }
-    ensures reports { IsRead SameReports
-        (ReportsTexts before.now after.now locations.now spec.now states)
-        (seen answer_by result) }
-    ensures status { IfOk result (λ answer. IsOutcomeStatus answer.status) }
-{
-    let loaded = read_change(alloc, before, after, locations, spec)?;
-    Ok(report_on(alloc, &loaded, states)?)
-}
-
 /// The report on a loaded change, made whole.
 ///
 /// # Errors
 ///
 /// Only where memory is wanted.
-fn report_on(alloc: Global, loaded: &Loaded, states: usize) -> Result<Answer, AllocError>
+pub(crate) fn report_on(alloc: Global, loaded: &Loaded, states: usize) -> Result<Answer, AllocError>
     requires some { 1 ≤ states }
     requires checks { AreChecksAt (names_of (loaded_by loaded.now)) loaded.now.pairs.items
         loaded.now.asked.checks.items }

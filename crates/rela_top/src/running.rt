@@ -1,9 +1,9 @@
 //! The one call that the program makes.
 
-ghost use Rattle.std.specs.Prelude.{◌≡◌, ◌≢◌, ◌<◌, ◌⊎◌, Err, IsTrue, IfOk, OnOk, is_some, map, string_bytes};
+ghost use Rattle.std.specs.Prelude.{◌≡◌, ◌≢◌, ◌<◌, ◌⊎◌, Err, IsTrue, IfOk, OnOk, [], is_some, map, string_bytes};
 ghost use Rattle.rela_io.specs.Count.{Rose};
 ghost use Rattle.rela_words.specs.Words.{AskNothing, HasNumbers};
-ghost use Rattle.rela_top.specs.Operands.{HoldsAsked, HoldsFiles};
+ghost use Rattle.rela_top.specs.Operands.{AskForNoFile, HoldsAsked, HoldsFiles, given_to, operands_of};
 ghost use Rattle.rela_top.specs.Answer.{answer_by, IsOutcomeStatus};
 ghost use Rattle.rela_top.specs.Given.{IsGiven, seen};
 ghost use Rattle.rela_top.specs.Outcome.{Answers, AnswersAll, CompletesAll, GivenBy, GivesNothing, Outcome, SameAnswer};
@@ -11,11 +11,14 @@ ghost use Rattle.rela_top.specs.Reading.{Ends};
 ghost use Rattle.rela_words.specs.Commands.{command_of};
 
 use crate::answer::{Answer, BAD_WORDS, NO_MEMORY, READ_FAULT, REFUSED, WRITE_FAULT, deliver};
+use crate::asserting::report_assertions;
+use crate::checking::report_asked;
+use crate::demonstrating::demonstrate;
 use crate::drawing::draw;
 use crate::formatting::format;
 use crate::reading::Halt;
 use crate::refusal::refusal_line;
-use crate::reporting::report;
+use crate::zoning::show_zone;
 use rela_io::{Files, Sink};
 use rela_words::{Command, WordsError, read_words};
 use std::alloc::Global;
@@ -32,6 +35,8 @@ pub fn run<F: Files, K: Sink>(alloc: Global, words: &[String], files: &mut F, ou
     ensures unread_words { AskNothing (map string_bytes words.now) → result ≢ NO_MEMORY →
         (result ≡ BAD_WORDS) ⊎ (result ≡ WRITE_FAULT) }
     ensures unread_words_open_nothing { AskNothing (map string_bytes words.now) →
+        files.new ≡ files.old }
+    ensures no_file_asked_opens_nothing { AskForNoFile (map string_bytes words.now) →
         files.new ≡ files.old }
 
     // A read fault, exactly where one was counted.
@@ -100,6 +105,7 @@ fn answer<F: Files>(alloc: Global, files: &mut F, command: &Command) -> Result<A
         AnswersAll (F.holds files.old) (command_of command.now) (answer_by answer)) }
     ensures fault_gives_nothing { IsTrue (F.steady files.old) → result ≡ Err Stop.ReadFault →
         GivesNothing (F.holds files.old) (command_of command.now) }
+    ensures opens_nothing { operands_of (command_of command.now) ≡ [] → files.new ≡ files.old }
 {
     match carry_out(alloc, files, command) {
         Ok(answer) => Ok(answer),
@@ -126,21 +132,15 @@ fn carry_out<F: Files>(alloc: Global, files: &mut F, command: &Command) -> Resul
         (SameAnswer (command_of command.now))
         (Outcome (F.holds files.old) (command_of command.now)) (seen answer_by result) }
     ensures status { IfOk result (λ answer. IsOutcomeStatus answer.status) }
-    ensures ends { Ends (F.faults files.old) (F.faults files.new) (F.given files.new) result }
+    ensures ends { Ends (F.faults files.old) (F.faults files.new)
+        (given_to (command_of command.now) (F.given files.new)) result }
+    ensures opens_nothing { operands_of (command_of command.now) ≡ [] → files.new ≡ files.old }
     ensures steady_is_no_fault { IsTrue (F.steady files.old) →
         HoldsFiles (F.holds files.old) (command_of command.now) →
         result ≢ Err Halt.ReadFault }
 {
     match command {
-        Command::Check(check) => report(
-            alloc,
-            files,
-            check.before.as_str(),
-            check.after.as_str(),
-            check.locations.as_str(),
-            check.spec.as_str(),
-            check.states,
-        ),
+        Command::Check(check) => report_asked(alloc, files, check),
         Command::Fmt(fmt) => format(alloc, files, fmt.spec.as_str()),
         Command::Fib(fib) => draw(
             alloc,
@@ -149,5 +149,23 @@ fn carry_out<F: Files>(alloc: Global, files: &mut F, command: &Command) -> Resul
             fib.other.as_str(),
             fib.locations.as_str(),
         ),
+        Command::Zone(zone) => show_zone(
+            alloc,
+            files,
+            zone.locations.as_str(),
+            zone.spec.as_str(),
+            zone.name.as_str(),
+            zone.states,
+        ),
+        Command::Rir(rir) => report_assertions(
+            alloc,
+            files,
+            rir.before.as_str(),
+            rir.after.as_str(),
+            rir.locations.as_str(),
+            rir.assertions.as_str(),
+            rir.states,
+        ),
+        Command::Demo(demo) => demonstrate(alloc, demo.layers as u32),
     }
 }

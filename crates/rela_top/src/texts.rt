@@ -3,14 +3,15 @@
 ghost use Rattle.std.specs.Prelude.{◌≤◌, ℕ, List, Ok, IfOk, length};
 ghost use Rattle.rela_names.specs.declared.level.Level.{Level};
 ghost use Rattle.rela_locations.specs.Network.{alphabet_of};
+ghost use Rattle.rela_snapshot.specs.FlowEntry.{ListedFlow};
+ghost use Rattle.rela_snapshot.specs.Load.{Load};
 ghost use Rattle.rela_snapshot.specs.Located.{AreLocated};
 ghost use Rattle.rela_snapshot.specs.PairsLocated.{ArePairsLocated};
-ghost use Rattle.rela_snapshot.specs.Steps.{Is};
 ghost use Rattle.rela_tables.specs.Located.{IsForwardingIn};
 ghost use Rattle.rela_top.specs.Given.{Equals, IsRead, seen};
-ghost use Rattle.rela_top.specs.Inputs.{ReadsNetwork, ReadsFlows, ReadsTables};
-ghost use Rattle.rela_top.specs.Paired.{ArePaired, GivesPairs};
-ghost use Rattle.rela_top.specs.SameFlows.{SameFlows, SamePairs};
+ghost use Rattle.rela_top.specs.Inputs.{IsListedAs, ReadsNetwork, ReadsFlows, ReadsTables};
+ghost use Rattle.rela_top.specs.Paired.{ArePaired};
+ghost use Rattle.rela_top.specs.SameFlows.{SameFlows};
 
 use crate::halts::{load_halt, pair_halt};
 use crate::reading::Halt;
@@ -50,6 +51,8 @@ pub fn read_snapshot(
 ) -> Result<Snapshot, Halt>
     requires { length text.now ≤ 33554432 }
     ensures flows { IsRead SameFlows (ReadsFlows input locations.now text.now) result }
+    ensures listed { (listed : List ListedFlow) → Load locations.now text.now (Ok listed) →
+        IsListedAs listed result }
     ensures located { IfOk result (λ snapshot.
         (level : Level) → AreLocated (alphabet_of level locations.now) level snapshot) }
 {
@@ -96,30 +99,4 @@ pub fn pair_flows(alloc: Global, before: Snapshot, after: Snapshot) -> Result<Ve
         Ok(pairs) => Ok(pairs),
         Err(error) => Err(pair_halt(error)),
     }
-}
-
-/// The flows of the snapshots in two texts of at most 32 MiB, side by side. Their graphs lie in the
-/// locations.
-///
-/// # Errors
-///
-/// That of the snapshot before, or else of the one after, as [`read_snapshot`] gives it; else
-/// `Refused` where a flow differs between them; `Memory`.
-pub fn read_pairs(
-    alloc: Global,
-    before: &[u8],
-    after: &[u8],
-    locations: &Locations,
-) -> Result<Vec<FlowPair>, Halt>
-    requires before { length before.now ≤ 33554432 }
-    requires after { length after.now ≤ 33554432 }
-    ensures pairs { IsRead SamePairs
-        (GivesPairs locations.now (Is (Ok before.now)) (Is (Ok after.now)))
-        (seen (λ pairs. pairs.items) result) }
-    ensures located { IfOk result (λ pairs. (level : Level) →
-        ArePairsLocated (alphabet_of level locations.now) level pairs.items) }
-{
-    let earlier = read_snapshot(alloc, Input::Before, before, locations)?;
-    let later = read_snapshot(alloc, Input::After, after, locations)?;
-    pair_flows(alloc, earlier, later)
 }

@@ -1,12 +1,14 @@
 use Rattle.std.proofs.Common.{◌≡◌, ◌∙◌, List, length, sym, subst, arith}
 use Rattle.rela_lex.specs.Spells as lex
 use Rattle.rela_lex.specs.declared.token.Token.{Token}
-use Rattle.rela_top.proofs.TreeLaws.{AreTokens, no_tokens, no_tree, tree_read}
+use Rattle.rela_spec.specs.Grammar as grammar
+use Rattle.rela_top.specs.declared.refusal.Input.TheVariants.{Spec}
+use Rattle.rela_top.proofs.TreeLaws.{AreTokens, no_fault, no_tokens, no_tree, one_fault, tree_read}
 use Rattle.rela_top.proofs.asking.read_tree.Goals as goal
 
 pub returns-in-Err-clause-tree : goal.returns-in-Err-clause-tree
 returns-in-Err-clause-tree c =
-    no_tokens _ c.in-Err.error _ c.spec_halt.ensures (record { fault = c.in-Err.ensures.fault; spelled = c.in-Err.ensures.spelled; bad = c.in-Err.ensures.bad })
+    no_tokens Spec grammar.Spells grammar.IsFault _ c.in-Err.error _ c.spec_halt.ensures (record { fault = c.in-Err.ensures.fault; spelled = c.in-Err.ensures.spelled; bad = c.in-Err.ensures.bad })
 
 pub returns-in-Ok-parse-clause-tree : goal.returns-in-Ok-parse-clause-tree
 returns-in-Ok-parse-clause-tree c =
@@ -16,8 +18,8 @@ returns-in-Ok-parse-clause-tree c =
       alone = λ others spells. is ∙ c.in-Ok.ensures.spelled others spells;
       good = λ at bad. c.in-Ok.ensures.bad at bad;
     } in
-    tree_read _ _ are _ c.in-Ok-parse.file (grind arith) c.in-Ok-parse.ensures.tree c.in-Ok-parse.ensures.spelled c.in-Ok-parse.ensures.syntax
-    c.in-Ok-parse.ensures.too_deep c.in-Ok-parse.ensures.bad_number
+    tree_read Spec grammar.Spells grammar.IsFault _ _ are _ c.in-Ok-parse.file (grind arith) c.in-Ok-parse.ensures.tree c.in-Ok-parse.ensures.spelled
+    (no_fault _ _ c.in-Ok-parse.ensures.syntax c.in-Ok-parse.ensures.too_deep c.in-Ok-parse.ensures.bad_number)
 
 pub returns-clause-tree : goal.returns-clause-tree
 returns-clause-tree c =
@@ -27,5 +29,6 @@ returns-clause-tree c =
       alone = λ others spells. is ∙ c.in-Ok.ensures.spelled others spells;
       good = λ at bad. c.in-Ok.ensures.bad at bad;
     } in
-    no_tree _ _ are _ c.in-Err-parse.error _ (grind arith) c.spec_halt-in-Err-parse.ensures c.in-Err-parse.ensures.fault c.in-Err-parse.ensures.spelled
-    c.in-Err-parse.ensures.syntax c.in-Err-parse.ensures.too_deep c.in-Err-parse.ensures.bad_number
+    no_tree Spec grammar.Spells grammar.IsFault _ _ are _ c.in-Err-parse.error _ (grind arith) c.spec_halt-in-Err-parse.ensures c.in-Err-parse.ensures.fault
+    c.in-Err-parse.ensures.spelled
+    (one_fault _ _ c.in-Err-parse.error c.in-Err-parse.ensures.syntax c.in-Err-parse.ensures.too_deep c.in-Err-parse.ensures.bad_number)

@@ -1,8 +1,9 @@
-use Rattle.std.proofs.Common.{◌≡◌, map, inl, refl, sym, subst, rules}
+use Rattle.std.proofs.Common.{◌≡◌, [], map, inl, refl, sym, subst, rules}
 use Rattle.std.specs.Prelude.{string_bytes}
 use Rattle.rela_words.specs.Commands.{command_of}
 use Rattle.rela_words.specs.Words.{Command}
 use Rattle.rela_top.specs.Answer.{answer_by}
+use Rattle.rela_top.specs.Operands.{operands_of}
 use Rattle.rela_top.specs.Outcome.{Outcome, bad_words}
 use Rattle.rela_top.proofs.Given.{asked_of, only_asked, completes}
 use Rattle.rela_top.proofs.running.run.Goals as goal
@@ -46,3 +47,18 @@ returns-in-Err-Bad-clause-answers g c = λ read memory.
 pub returns-in-Err-Bad-clause-complete : goal.returns-in-Err-Bad-clause-complete
 returns-in-Err-Bad-clause-complete g c = λ steady command outcome ask given.
     absurd (c.in-Err-Bad.ensures.bad c.in-Err-Bad.field-0-is command ask)
+
+pub returns-in-Ok-answer-clause-no_file_asked_opens_nothing : goal.returns-in-Ok-answer-clause-no_file_asked_opens_nothing
+returns-in-Ok-answer-clause-no_file_asked_opens_nothing g c = λ asked.
+    c.in-Ok-answer.ensures.opens_nothing
+    (subst (λ (x : Command). operands_of x ≡ []) (sym (only_asked _ _ asked.0 c.in-Ok.ensures.asked asked.1)) asked.2)
+
+pub returns-in-Err-ReadFault-clause-no_file_asked_opens_nothing : goal.returns-in-Err-ReadFault-clause-no_file_asked_opens_nothing
+returns-in-Err-ReadFault-clause-no_file_asked_opens_nothing g c = λ asked.
+    c.in-Err-ReadFault.ensures.opens_nothing
+    (subst (λ (x : Command). operands_of x ≡ []) (sym (only_asked _ _ asked.0 c.in-Ok.ensures.asked asked.1)) asked.2)
+
+pub returns-clause-no_file_asked_opens_nothing : goal.returns-clause-no_file_asked_opens_nothing
+returns-clause-no_file_asked_opens_nothing g c = λ asked.
+    c.in-Err-Memory-answer.ensures.opens_nothing
+    (subst (λ (x : Command). operands_of x ≡ []) (sym (only_asked _ _ asked.0 c.in-Ok.ensures.asked asked.1)) asked.2)
