@@ -27,10 +27,16 @@ CHECK = "before.json", "after.json", "locations.json"
 RUNS = {
     "check": ("first-check", ["check", *CHECK, "keep-the-path.rela"]),
     "check of every modifier": ("first-steps", ["check", *CHECK, MODIFIERS]),
+    "check with blame": ("drain", ["check", "--blame", "before.json", "after-bad.json", "locations.json", "drain.rela"]),
     "check with undecided rows": ("first-steps", ["check", "--states=1", *CHECK, MODIFIERS]),
     "check of a file that is no specification": ("first-check", ["check", *CHECK, "before.json"]),
+    "rir": ("drain", ["rir", "before.json", "after-bad.json", "locations.json", "drain.assert"]),
+    "rir with undecided rows": ("drain", ["rir", "--states=1", "before.json", "after-bad.json", "locations.json", "drain.assert"]),
+    "zone": ("first-steps", ["zone", "locations.json", "step4.rela", "moved"]),
+    "zone that is undecided": ("first-steps", ["zone", "--states=1", "locations.json", "step4.rela", "moved"]),
     "fmt": ("first-check", ["fmt", "keep-the-path.rela"]),
     "fib": ("own-network", ["fib", "before.tables.json", "after-good.tables.json", "locations.json"]),
+    "demo": ("first-check", ["demo", "3"]),
     "words that ask for nothing": ("first-check", ["check"]),
 }
 # The kinds of fault, each with the status that tells it; None where it changes nothing.

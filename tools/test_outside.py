@@ -15,19 +15,26 @@ sys.dont_write_bytecode = True
 from outside import inputs, outputs
 from outside.faulty import WEB, refusals, snapshot
 from outside.outputs import BAD_WORDS
-from outside.program import Program, check, get, limit, refused
+from outside.program import FAILS, HOLDS, ZONE, Program, check, demo, get, limit, refused, rir, zone
 
 # How many flows a long snapshot has, and checks a long specification.
 FLOWS = 10_000
+# The commands with several inputs that may be refused, each with these in the order in which they are read.
+ORDERS = {check: ("locations", "before", "after", "spec"), rir: ("locations", "before", "after", "assertions"),
+          zone: ("locations", "spec")}
 # The most bytes of a word that Linux passes to a program.
 LONGEST = 131_071
-COMPLEMENT = b"check c : { !leaf1:up : preserve };"
 DIFFERS = "21 FlowDiffers web dst 10.1.0.0/24 src 0.0.0.0/0 class default dst 10.2.0.0/24 src 0.0.0.0/0 class default"
 NOT_LIMITS = "", "0", "01", "+1", "-1", " 1", "1 ", "1e3", "0x1", "4000001", "18446744073709551617", "\uff11", "--"
-BAD = [["zone"], ["Check"], ["--help"], ["-h"], ["--version"], [""], ["-"], ["--"], ["--", *check()], ["check"], ["fmt"],
+BAD = [["Check"], ["--help"], ["-h"], ["--version"], [""], ["-"], ["--"], ["--", *check()], ["check"], ["fmt"],
        check()[:-1], [*check(), "spec"], [*check(), ""], ["check", ""], ["fmt", "spec", "spec"], ["fmt", "fifo-spec", "spec"],
-       ["fmt", "--states=1", "spec"], ["fmt", "-x"], check("-x"), check("--state=1"), check("--states"), [*check(), "--states"],
+       ["fmt", "--states=1", "spec"], ["fmt", "-x"], ["Rir", *rir()[1:]], ["rir"], rir()[:-1], [*rir(), "assertions"],
+       rir("--states=0"), rir("--states=1", "--states=1"), rir("-x"), [*rir(), "--states"], ["Zone", *zone()[1:]], ["zone"],
+       check("--blame", "--blame"), check("--blame=1"), check("--Blame"), rir("--blame"), zone("--blame"), ["fmt", "--blame", "spec"],
+       zone()[:-1], [*zone(), "c"], zone("--states=0"), zone("--states=1", "--states=1"), zone("-x"), zone(name="-x"),
+       [*zone(), "--states"], check("-x"), check("--state=1"), check("--states"), [*check(), "--states"],
        check("--states=1", "--states=1"), check("--states=1", "--states", "1"), [*check("--states", "1"), "--states=2"],
+       *(["demo", it] for it in (*NOT_LIMITS, "201", "1000")), ["demo"], ["demo", "1", "1"], ["demo", "--states=1", "1"], ["Demo", "1"],
        *(check("--states", it) for it in NOT_LIMITS), *(check(f"--states={it}") for it in NOT_LIMITS),
        ["x" * LONGEST], check(f"--states={'9' * 100_000}"), ["check", *["x" * 100_000] * 10], ["check", *["x"] * 100_000]]
 NO_TEXTS = b"\xff", b"\xc3", b"\xc0\xaf", b"\xed\xa0\x80", b"\xf4\x90\x80\x80"
@@ -39,13 +46,26 @@ def statuses(it):
     """The statuses 0 to 5, and 8; 6 and 7 have tests of their own."""
     it.ends("no change", it.run(*check(after="before")), (0, it.same))
     it.ends("a change", it.run(*check()), (1, it.moved))
+    it.ends("no change with blame", it.run(*check("--blame", after="before")), (0, it.same))
+    it.ends("a change with blame", it.run(*check("--blame")), (1, it.blamed))
     it.ends("a text", it.run("fmt", "spec"), (0, b"level interface;\n" + it.texts["spec"]))
     it.ends("no words", it.run(), (2, BAD_WORDS))
-    it.put(COMPLEMENT)
     for states, status, row in (("1", 3, "undecided\ntotal 1 compliant 0 violated 0 undecided 1"),
                                 ("1000", 0, "compliant\ntotal 1 compliant 1 violated 0 undecided 0")):
-        found = it.run(*check("--states", states, after="before", spec="input"))
+        found = it.run(*check("--states", states, after="before", spec="complement"))
         it.ends(f"{states} states", found, (status, f"flow web check c {row} unselected 0\n".encode()))
+    it.ends("an assertion on no change", it.run(*rir(after="before")), (0, HOLDS))
+    it.ends("an assertion on a change", it.run(*rir()), (1, FAILS))
+    it.put(b"assert a = equal(complement(leaf1:up), star(all));")
+    for states, status, row in (("1", 3, "undecided\n  leaf 1: undecided\ntotal 1 holds 0 fails 0 undecided 1"),
+                                ("1000", 1, "fails\n  leaf 1: second: leaf1:up\ntotal 1 holds 0 fails 1 undecided 0")):
+        found = it.run(*rir("--states", states, assertions="input"))
+        it.ends(f"an assertion under {states} states", found, (status, f"flow web assert a {row}\n".encode()))
+    it.ends("a zone", it.run(*zone()), (0, ZONE))
+    it.ends("a zone under 2 states", it.run(*zone("--states", "2")), (3, b"undecided\n"))
+    it.ends("a zone under 1000 states", it.run(*zone("--states=1000")), (0, ZONE))
+    for layers in (1, 2, 3, 20, 200):
+        it.ends(f"{layers} layers", it.run("demo", str(layers)), (1, demo(layers)))
     it.ends("a faulty input", it.run(*check(spec="before")), refused("spec", "32 Syntax at 0"))
     it.ends("a missing file", it.run(*check(after="none")), (5, b""))
     it.ends("a word that is no text", it.run("fmt", b"\xff"), (8, b""))
@@ -55,32 +75,52 @@ def refusing(it):
     """Each refusal at each of its places, and the order of the places."""
     for operand, text, said in refusals(it.texts["locations"].decode()):
         it.put(text.encode())
-        it.ends(f"{operand} {said}", it.run(*check(**{operand: "input"})), refused(operand, said))
+        for command, in_order in ORDERS.items():
+            if operand in in_order:
+                found = it.run(*command(**{operand: "input"}))
+                it.ends(f"{operand} {said}, under {command.__name__}", found, refused(operand, said))
     it.put(b"?", "bad")
     for operand, flow in (("before", WEB), ("after", WEB.replace("10.1", "10.2"))):
         it.put(snapshot(flow).encode(), f"other-{operand}")
-    in_order = "locations", "before", "after", "spec"
-    for at, operand in enumerate(in_order[:3]):
-        rest = in_order[at + 1:]
-        found = it.run(*check(**{operand: "bad"}, **dict.fromkeys(rest, "none")))
-        it.ends(f"a faulty file as {operand} before missing ones", found, refused(operand, "11 NotJson"))
-        found = it.run(*check(**{operand: "none"}, **dict.fromkeys(rest, "bad")))
-        it.ends(f"a missing file as {operand} before faulty ones", found, (5, b""))
-    found = it.run(*check(before="other-before", after="other-after", spec="none"))
+    for command, in_order in ORDERS.items():
+        for at, operand in enumerate(in_order[:-1]):
+            rest, under = in_order[at + 1:], f"under {command.__name__}"
+            found = it.run(*command(**{operand: "bad"}, **dict.fromkeys(rest, "none")))
+            it.ends(f"a faulty file as {operand} before missing ones, {under}", found, refused(operand, "11 NotJson"))
+            found = it.run(*command(**{operand: "none"}, **dict.fromkeys(rest, "bad")))
+            it.ends(f"a missing file as {operand} before faulty ones, {under}", found, (5, b""))
+    differ = {"before": "other-before", "after": "other-after"}
+    found = it.run(*check(**differ, spec="none"))
     it.ends("flows that differ before a missing specification", found, refused("pair", DIFFERS))
+    it.ends("flows that differ before missing assertions", it.run(*rir(**differ, assertions="none")), refused("pair", DIFFERS))
+    for name in ("C", "none", "", "\u00e9", "x" * LONGEST):
+        it.ends(f"no check {name[:9]!r}", it.run(*zone(name=name)), refused("words", "33 UnknownName"))
+    it.ends("a faulty specification before no check", it.run(*zone(spec="bad", name="none")), refused("spec", "32 Syntax at 0"))
+    it.ends("a missing specification before no check", it.run(*zone(spec="none", name="none")), (5, b""))
 
 
 def command_lines(it):
     for some in BAD:
         it.ends(f"the words {str(some)[:100]}", it.run(*some), (2, BAD_WORDS))
     for word in NO_TEXTS:
-        for some in ([word], ["fmt", word], check("--", spec=word), [*check(), word]):
+        for some in ([word], ["fmt", word], check("--", spec=word), [*check(), word], rir(assertions=word), zone(name=word)):
             it.ends(f"the words {some}", it.run(*some), (8, b""))
     for name, options in NAMES.items():
         it.put(it.texts["spec"], name)
         it.ends(f"a file with the name {name!r}", it.run(*check(*options, spec=name)), (1, it.moved))
     for some in ([*check(), "--"], check("--states=4000000", "--"), ["check", "before", "--states", "1000", *check()[2:]]):
         it.ends(f"the words {some}", it.run(*some), (1, it.moved))
+    for some in ([*check(), "--blame"], check("--blame", "--states=1000", "--"), ["check", "before", "--blame", *check()[2:]]):
+        it.ends(f"the words {some}", it.run(*some), (1, it.blamed))
+    it.ends("a file with the name of the flag", it.run(*check("--", before="--blame")), (5, b""))
+    for some in ([*rir(), "--"], rir("--states=4000000", "--"), ["rir", "before", "--states", "1000", *rir()[2:]]):
+        it.ends(f"the words {some}", it.run(*some), (1, FAILS))
+    it.put(b"check -x : { .* : preserve };")
+    found = it.run(*zone("--", spec="input", name="-x"))
+    it.ends("a check with a dash before its name", found, (0, b"states 1\nstate 0 accept\n  else to 0\n"))
+    for some in ([*zone(), "--"], zone("--states=4000000", "--"), ["zone", "locations", "--states", "1000", *zone()[2:]]):
+        it.ends(f"the words {some}", it.run(*some), (0, ZONE))
+    it.ends("a number of layers behind --", it.run("demo", "--", "3"), (1, demo(3)))
     it.ends("the longest words as files", it.run("check", *["x" * LONGEST] * 4), (5, b""))
 
 

@@ -76,7 +76,7 @@ def shows_what_runs_gave(name):
         is_shown(text_of(f"{folder}/{it}"), page) or (*words, True) in known for it, words in reports.items()))
     files = files_below(folder)
     holds(f"each report of {name} has a run", {it for it in files if it.endswith(".report")} == {*reports})
-    specs = [it for it in files if it.endswith(".rela") and not it.startswith("mistakes/")]
+    specs = [it for it in files if it.endswith((".rela", ".assert")) and not it.startswith("mistakes/")]
     holds(f"{name} shows each specification", specs and all(is_shown(text_of(f"{folder}/{it}"), page) for it in specs))
     calls = re.findall(r"^\$ \.\./\.\./rela (fib .*) >(.*)$", page, re.M)
     made = [(" ".join(words), it) for it, _, *words in runs if words[0] == "fib"]
@@ -85,7 +85,7 @@ def shows_what_runs_gave(name):
     holds(f"{name} shows what is written by hand", all(is_shown(text_of(f"{folder}/{it}"), page) for it in files))
     for report, status, *words in runs:
         text = kept[" ".join(words)]
-        wanted = "4" if text.startswith("refused ") else "1" if " violated\n" in text else "0"
+        wanted = "4" if text.startswith("refused ") else "1" if " violated\n" in text or " fails\n" in text else "0"
         holds(f"the status of {name}/{report} fits it", status == wanted)
 
 

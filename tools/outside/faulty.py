@@ -7,6 +7,11 @@ IDS = ('{"name":"web","dst":"10.1.0.0/24","nodes":[{"id":"a","at":"leaf1:up"},{"
        '"edges":[["a","b"]],"starts":["a"],"delivered":["b"]}')
 MANY_INTERFACES = ",".join(f'"i{it}"' for it in range(100_001))
 MANY_NODES = ",".join(['"leaf1:up"'] * 10_000)
+# A set of 32,767 parts.
+MANY_PARTS = "pre"
+for _ in range(14):
+    MANY_PARTS = f"union({MANY_PARTS}, {MANY_PARTS})"
+MANY_ASSERTIONS = "".join(f"assert a{it} = equal(pre, post);\n" for it in range(200))
 MANY_CHECKS = "".join(f"check c{it} : {{ .* : preserve }};\n" for it in range(200))
 
 # A piece of a text, what stands in its place, and what is said then. In the example's locations leaf2:up is the third interface.
@@ -52,6 +57,19 @@ OF_SPECIFICATIONS = (
     ("check c : { .{~65} : preserve };", "37 BadNumber"),
     ("level device; check c : { interface(~leaf1:up) : preserve };", "38 FinerLevel"),
 )
+OF_ASSERTIONS = (
+    ("assert a = equal(~leaf9:up, pre);", "17 UnknownLocation"),
+    ("assert a = equal(pre, post); ~@", "31 BadToken"),
+    ("assert a = equal(pre~);", "32 Syntax"),
+    ("assert a = equal(pre, post)\n~", "32 Syntax"),
+    ("assert ~meet = equal(pre, post);", "32 Syntax"),
+    ("assert a = equal(star(~identity(all)), post);", "32 Syntax"),
+    ("assert a = equal(pre, post); assert ~a = equal(pre, leaf9:up);", "34 RepeatedName"),
+    (f"assert a = {'not(' * 100}equal~(", "35 TooDeep"),
+    (f"{MANY_ASSERTIONS}assert ~last = equal(pre, leaf9:up);", "36 TooLarge"),
+    (f"assert ~a = equal({MANY_PARTS}, post);", "36 TooLarge"),
+    ("level device; assert a = equal(interface(~leaf1:up), leaf9);", "38 FinerLevel"),
+)
 
 
 def snapshot(flow, version=1):
@@ -71,3 +89,5 @@ def refusals(locations):
             yield operand, snapshot(IDS.replace(piece, other, 1), 2), said
     for text, said in OF_SPECIFICATIONS:
         yield "spec", text.replace("~", ""), f"{said} at {text.index('~')}"
+    for text, said in OF_ASSERTIONS:
+        yield "assertions", text.replace("~", ""), f"{said} at {text.index('~')}"

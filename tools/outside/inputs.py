@@ -2,7 +2,7 @@
 import os
 import stat
 
-from outside.program import FILES, check, refused
+from outside.program import ASSERTION, COMPLEMENT, FAILS, FILES, ZONE, check, refused, rir, zone
 
 JSON = "before", "after", "locations"
 MOST_BYTES = 33_554_432
@@ -33,6 +33,9 @@ def cannot_be_read(it):
     for what, name in unreadable.items():
         for operand in FILES:
             it.ends(f"{what} as {operand}", it.run(*check(**{operand: name})), (5, b""))
+        for operand in ("locations", "spec"):
+            it.ends(f"{what} as {operand} of a zone", it.run(*zone(**{operand: name})), (5, b""))
+        it.ends(f"{what} as assertions", it.run(*rir(assertions=name)), (5, b""))
         it.ends(f"{what} as the text", it.run("fmt", name), (5, b""))
 
 
@@ -63,10 +66,18 @@ def other_kinds(it):
     fifos = {operand: f"fifo-{operand}" for operand in ("locations", "before", "after", "spec")}
     found = it.run_fed(check(**fifos), {fifo: [it.texts[operand]] for operand, fifo in fifos.items()})
     it.ends("a FIFO for each operand", found, (1, it.moved))
+    os.mkfifo(f"{it.room}/fifo-assertions")
+    fed = {fifo: [it.texts[operand]] for operand, fifo in fifos.items() if operand != "spec"} | {"fifo-assertions": [ASSERTION]}
+    found = it.run_fed(rir(**{fifo[5:]: fifo for fifo in fed}), fed)
+    it.ends("a FIFO for each operand, under rir", found, (1, FAILS))
+    fed = {"fifo-locations": [it.texts["locations"]], "fifo-spec": [COMPLEMENT]}
+    it.ends("a FIFO for each file of a zone", it.run_fed(zone(locations="fifo-locations", spec="fifo-spec"), fed), (0, ZONE))
     for operand in JSON:
         it.ends(f"/dev/null as {operand}", it.run(*check(**{operand: "/dev/null"})), refused(operand, "11 NotJson"))
     it.ends("/dev/null as spec", it.run(*check(spec="/dev/null")), (0, UNSELECTED))
     it.ends("/dev/null as the text", it.run("fmt", "/dev/null"), (0, b"level interface;\n"))
+    it.ends("/dev/null as assertions", it.run(*rir(assertions="/dev/null")), (0, b"total 0 holds 0 fails 0 undecided 0\n"))
+    it.ends("/dev/zero as assertions", it.run(*rir(assertions="/dev/zero")), refused("assertions", "2 TooLong"))
 
 
 def same_file(it):
@@ -90,6 +101,10 @@ def sizes(it):
         it.ends(f"the most bytes as {operand}", it.run(*check(**{operand: name})), (1, it.moved))
         append(b" ")(f"{it.room}/large")
         it.ends(f"a byte too many as {operand}", it.run(*check(**{operand: name})), refused(operand, "2 TooLong"))
+    name = it.put(ASSERTION.ljust(MOST_BYTES), "large")
+    it.ends("the most bytes as assertions", it.run(*rir(assertions=name)), (1, FAILS))
+    append(b" ")(f"{it.room}/large")
+    it.ends("a byte too many as assertions", it.run(*rir(assertions=name)), refused("assertions", "2 TooLong"))
 
 
 def append(text):

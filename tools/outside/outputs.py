@@ -4,15 +4,19 @@ import resource
 import socket
 import time
 
-from outside.program import check, get, limit, refused
+from outside.program import FAILS, ZONE, check, demo, get, limit, refused, rir, zone
 
 BAD_WORDS = b"rela: bad command line\n"
 
 
 def answers(it):
     """Returns the words of runs that write something, by what it is, each with its status and output."""
-    return {"a report": (check(), 1, it.moved), "a refusal": (check(spec="before"), *refused("spec", "32 Syntax at 0")),
-            "no words": ([], 2, BAD_WORDS), "a text": (["fmt", "spec"], 0, b"level interface;\n" + it.texts["spec"])}
+    return {"a report": (check(), 1, it.moved), "a report with blame": (check("--blame"), 1, it.blamed),
+            "a refusal": (check(spec="before"), *refused("spec", "32 Syntax at 0")),
+            "no words": ([], 2, BAD_WORDS), "a text": (["fmt", "spec"], 0, b"level interface;\n" + it.texts["spec"]),
+            "a report on assertions": (rir(), 1, FAILS), "a zone": (zone(), 0, ZONE),
+            "an undecided zone": (zone("--states=2"), 3, b"undecided\n"),
+            "the report on a made input": (["demo", "3"], 1, demo(3))}
 
 
 def to_nothing(it, words, signals=True):

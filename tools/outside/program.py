@@ -11,7 +11,33 @@ import time
 EXAMPLE = os.path.join(os.path.dirname(os.path.dirname(os.path.dirname(os.path.realpath(__file__)))), "examples/first-check")
 # The operands of check, which are the names of their files in the folder, and the files of the example.
 FILES = {"before": "before.json", "after": "after.json", "locations": "locations.json", "spec": "keep-the-path.rela"}
+# An assertion, and the reports on it: of no change, and of the example's.
+ASSERTION = b"assert a = equal(pre, post);"
+HOLDS = b"flow web assert a holds\ntotal 1 holds 1 fails 0 undecided 0\n"
+FAILS = b"""flow web assert a fails
+  leaf 1: first: leaf1:up spine1:down leaf2:up leaf2:host
+total 1 holds 0 fails 1 undecided 0
+"""
+# A specification of one check with a complement, and the text of its zone.
+COMPLEMENT = b"check c : { !leaf1:up : preserve };"
+ZONE = b"""states 3
+state 0 accept
+  to 2 : leaf1:up
+  else to 1
+state 1 accept
+  else to 1
+state 2
+  else to 1
+"""
 SECONDS = 120
+
+
+def demo(layers):
+    """Returns the report on the input of so many layers."""
+    rows = "".join(f"flow f{flow} check c{2 if flow == 7 else 1} compliant\n" for flow in range(1, 8))
+    path = " ".join(f"a{layer:03}" for layer in range(1, layers + 1))
+    rows += f"flow f8 check c1 violated\n  missing: {path}\n  before: {path}\n"
+    return f"{rows}total 8 compliant 7 violated 1 undecided 0 unselected 0\n".encode()
 
 
 def get(path):
@@ -22,6 +48,16 @@ def get(path):
 def check(*options, **others):
     """Returns the words that check the example, where some operands may have other files."""
     return ["check", *options, *(others.get(it, it) for it in FILES)]
+
+
+def rir(*options, **others):
+    """Returns the words that report on the assertion, where some operands may have other files."""
+    return ["rir", *options, *(others.get(it, it) for it in ("before", "after", "locations", "assertions"))]
+
+
+def zone(*options, **others):
+    """Returns the words that write the zone of the check with a complement, where some operands may be others."""
+    return ["zone", *options, *{"locations": "locations", "spec": "complement", "name": "c", **others}.values()]
 
 
 def refused(operand, said):
@@ -54,10 +90,13 @@ class Program:
     def __init__(self, path, room):
         self.path, self.room, self.results = os.path.abspath(path), os.path.realpath(room), []
         self.texts = {name: get(f"{EXAMPLE}/{file}") for name, file in FILES.items()}
+        self.texts |= {"assertions": ASSERTION, "complement": COMPLEMENT}
         for name, text in self.texts.items():
             self.put(text, name)
-        # The reports on the example: of the change, and of no change.
+        # The reports on the example: of the change, and of no change; and of the change with the branch that is to blame.
         self.moved, self.same = (get(f"{EXAMPLE}/{it}.report") for it in ("moved", "same"))
+        brace = self.texts["spec"].index(b"{")
+        self.blamed = self.moved.replace(b"total", b"  zone: 1 at %d\ntotal" % brace)
 
     def put(self, text, name="input"):
         """Writes a file in the folder, and returns its name."""
