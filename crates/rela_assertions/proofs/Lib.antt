@@ -1,3 +1,4 @@
 pub mod Zips
 pub mod ValueLaws
 pub mod RowLaws
+pub mod AgreementLaws

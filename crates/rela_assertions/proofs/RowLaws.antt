@@ -1,10 +1,9 @@
 -- The rows of flows, and the texts of what they show.
-use Rattle.std.proofs.Common.{◌≡◌, ◌∙◌, ℕ, ◌+◌, ◌<◌, List, [], ◌++◌, get_or, length, map, take, refl, sym, ap, subst}
+use Rattle.std.proofs.Common.{◌≡◌, ◌∙◌, ℕ, ◌+◌, ◌<◌, List, [], ◌++◌, get_or, length, map, take, sym, ap, subst}
 use Rattle.std.specs.List.{All, AllZip}
 use Rattle.rela_engine.specs.Leaves.{LeafOf, value_of}
 use Rattle.rela_engine.specs.declared.leaf.Leaf.{Leaf}
 use Rattle.rela_engine.specs.declared.leaf.Leaf.TheVariants.{Holds, Fails, Undecided}
-use Rattle.rela_compare.specs.declared.verdict.Which.{Which}
 use Rattle.rela_names.specs.declared.level.Level.{Level}
 use Rattle.rela_rir.specs.Assertions.{TellsAgainst}
 use Rattle.rela_rir.specs.Meaning.{Setting, IsPathWord}
@@ -13,7 +12,6 @@ use Rattle.rela_rir.specs.declared.assertion.Assertion.{Assertion}
 use Rattle.rela_rir.specs.declared.assertion.Assertion.TheVariants.{Equal, Included}
 use Rattle.rela_claims.specs.declared.claim.Claim.{Claim}
 use Rattle.rela_rir.specs.declared.set.SymbolSet.{SymbolSet}
-use Rattle.rela_rir.specs.declared.value.Value.{Value}
 use Rattle.rela_snapshot.specs.declared.pairing.FlowPair.{FlowPair}
 use Rattle.rela_assertions.specs.Rows.{Appended, AreRowsOf, IsDecided, IsRowOf, each_with_each, scene_for}
 use Rattle.rela_assertions.specs.Text.{LeafHasText, RowHasTexts}

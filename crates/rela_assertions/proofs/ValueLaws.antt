@@ -16,7 +16,7 @@ use Rattle.rela_claims.specs.declared.claim.Tree.TheOpen as T
 use Rattle.rela_claims.specs.declared.claim.Tree.TheViews.{roll-Tree}
 use Rattle.rela_claims.specs.declared.claim.Tree.TheFolds.{map-Tree, fold-roll-Tree, rec-roll-Tree}
 use Rattle.rela_assertions.specs.Rows.{IsDecided}
-use Rattle.rela_assertions.specs.Values.{HasValue, IsJoined, IsTurned, layer_leaves, layer_value, leaves_of}
+use Rattle.rela_assertions.specs.Values.{HasValue, IsJoined, layer_leaves, layer_value, leaves_of}
 use Rattle.rela_assertions.proofs.Zips.{zip_append}
 
 leaves_roll : (y : T.Tree-F Tree) → leaves_of (roll-Tree y) ≡ layer_leaves (map-Tree Tree (List Assertion) leaves_of y)
@@ -28,7 +28,8 @@ natural X v k (T.And a b) = refl
 natural X v k (T.Or a b) = refl
 natural X v k (T.Not a) = refl
 
-value_roll : (y : T.Tree-F Tree) → HasValue (roll-Tree y) ≡ layer_value HasValue y
+-- what a tree of a form has, by the form
+pub value_roll : (y : T.Tree-F Tree) → HasValue (roll-Tree y) ≡ layer_value HasValue y
 value_roll y = rec-roll-Tree (List Value → Value → Type 0) (λ X _ part layer. layer_value part layer) natural y
 
 -- what a tree of this form has

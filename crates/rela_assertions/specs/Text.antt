@@ -1,6 +1,5 @@
 -- The text of a run over assertions, and its exit status. `names` are the location names of the alphabet.
 use Rattle.std.specs.Prelude.{ℕ, ◌+◌, ◌<◌, Bool, true, false, List, [], ◌∷◌, ◌++◌, length, codes, count_by, All, ⊤, if◌then◌else◌}
-use Rattle.std.specs.Fmt.{decimal}
 use Rattle.std.specs.List.{flat_map, list_any}
 use Rattle.rela_compare.specs.declared.verdict.Which.{Which}
 use Rattle.rela_compare.specs.declared.verdict.Which.TheVariants.{First, Second}

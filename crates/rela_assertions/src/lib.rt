@@ -3,11 +3,13 @@
 #![tactic(auto)]
 
 mod deciding;
+mod laws;
 mod row;
 mod statuses;
 mod texts;
 
 pub use deciding::rows_of;
+pub use laws::right_rows_agree;
 pub use row::AssertionRow;
 pub use statuses::status;
 pub use texts::text;

@@ -1,6 +1,6 @@
 -- Reports on a change agree, whichever of the flows and checks that no file can tell apart stand for it.
-use Rattle.std.proofs.Common.{◌≡◌, ◌∙◌, ℕ, zero, suc, ◌+◌, ◌<◌, ◌⊎◌, inl, inr, Bool, List, [], ◌∷◌, length, map, Option, None, Some, Result, Ok, Err, refl, sym, ap, subst, arith}
-use Rattle.std.specs.Prelude.{slice_get, IsSomeAnd, slice_index_or}
+use Rattle.std.proofs.Common.{◌≡◌, ◌∙◌, ℕ, zero, suc, ◌<◌, ◌⊎◌, inl, inr, Bool, List, [], ◌∷◌, length, map, Option, None, Some, Result, Ok, Err, refl, sym, ap, subst, arith}
+use Rattle.std.specs.Prelude.{slice_get, IsSomeAnd}
 use Rattle.std.specs.List.{All, AllZip, AllPairs, Contains}
 use Rattle.std.specs.List.Sorted.{IsStrictlyIncreasing}
 use Rattle.std.proofs.lemmas.List.Elements.{All-head, All-tail, All-contains}
@@ -16,7 +16,6 @@ use Rattle.rela_flows.specs.declared.planning.PlannedRow.TheVariants as planned
 use Rattle.rela_locations.specs.Network.{Network, alphabet_of}
 use Rattle.rela_names.specs.declared.level.Level.{Level}
 use Rattle.rela_engine.specs.Scenes.{paths_of}
-use Rattle.rela_graph.specs.Topology.{Topology}
 use Rattle.rela_report.specs.declared.rows.ReportRow.{ReportRow}
 use Rattle.rela_report.specs.declared.rows.ReportRow.TheVariants.{Unselected, Checked}
 use Rattle.rela_rir.specs.declared.set.SymbolSet.{SymbolSet}
@@ -27,8 +26,8 @@ use Rattle.rela_top.specs.Answer.{Answer}
 use Rattle.rela_top.specs.Checks.{Reports, SameReports, report_of}
 use Rattle.rela_top.specs.Given.{Agrees}
 use Rattle.rela_top.specs.Loaded.{Loaded, SameLoaded, names_of}
-use Rattle.rela_top.specs.Rows.{IsDecided, IsUnder, IsAlone, IsRowOf, AreRowsOf, AgreeInRow, AgreeInRows}
-use Rattle.rela_top.specs.SameFlows.{SameGraph, SamePair, SamePairs}
+use Rattle.rela_top.specs.Rows.{IsUnder, IsAlone, IsRowOf, AreRowsOf, AgreeInRow, AgreeInRows}
+use Rattle.rela_top.specs.SameFlows.{SamePair, SamePairs}
 use Rattle.rela_top.specs.Specified.{SameSpecified, Specified}
 use Rattle.rela_top.specs.declared.refusal.Refusal.{Refusal}
 use Rattle.rela_top.proofs.PairLaws.{graph_flipped}
@@ -49,10 +48,9 @@ set_is negated members others same x y =
     (subst (λ (ms : List ℕ). (z : IsStrictlyIncreasing ms) → set_of negated members x ≡ set_of negated ms z) same
     (λ z. ap (set_of negated members) (ascending_prop members x z))) y
 
-set_same : (s t : SymbolSet) → listing_of s ≡ listing_of t → s ≡ t
-set_same s t same =
-    let sign : s.negated ≡ t.negated = ap (λ (l : Listing). l.negated) same in
-    let members : s.members ≡ t.members = ap (λ (l : Listing). l.members) same in
+-- two sets with the same sign and the same members are the same
+pub set_same : (s t : SymbolSet) → s.negated ≡ t.negated → s.members ≡ t.members → s ≡ t
+set_same s t sign members =
     subst (λ (b : Bool). s ≡ set_of b t.members t.ascending) sign (set_is s.negated s.members t.members members s.ascending t.ascending)
 
 sets_same : (ss ts : List SymbolSet) → map listing_of ss ≡ map listing_of ts → ss ≡ ts
@@ -62,7 +60,7 @@ sets_same (s ∷ ss) [] same = absurd (cc)
 sets_same (s ∷ ss) (t ∷ ts) same =
     let first : listing_of s ≡ listing_of t = cc in
     let rest : map listing_of ss ≡ map listing_of ts = cc in
-    let one : s ≡ t = set_same s t first in
+    let one : s ≡ t = set_same s t (ap (λ (l : Listing). l.negated) first) (ap (λ (l : Listing). l.members) first) in
     let more : ss ≡ ts = sets_same ss ts rest in
     cc
 

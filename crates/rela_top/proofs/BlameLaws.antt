@@ -1,5 +1,5 @@
 -- What a check gives whose violated rows say which alternative claimed their source, from what its steps give.
-use Rattle.std.proofs.Common.{◌≡◌, ◌∙◌, ℕ, zero, suc, ◌+◌, ◌<◌, Bool, true, false, List, [], ◌∷◌, length, map, filter, Option, Some, None, Result, Ok, Err, refl, sym, ap, subst, arith}
+use Rattle.std.proofs.Common.{◌≡◌, ◌∙◌, ℕ, zero, suc, Bool, true, false, List, [], ◌∷◌, length, map, filter, Option, Some, None, Result, Ok, Err, refl, sym, ap, subst, arith}
 use Rattle.std.specs.Prelude.{slice_get, IsSomeAnd, count_by}
 use Rattle.std.specs.List.{All, AllZip, Contains}
 use Rattle.std.proofs.lemmas.List.Elements.{All-cons, All-nil}
@@ -7,9 +7,9 @@ use Rattle.std.proofs.lemmas.List.Sums.{length-filter}
 use Rattle.rela_blame.specs.Alternatives.{check_leads}
 use Rattle.rela_blame.specs.Zones.{HasClaim, IsZoneOf}
 use Rattle.rela_branches.specs.Alternatives.{alternatives_of}
-use Rattle.rela_engine.specs.RowOf.{IsOffence, RowOf, relation_of}
+use Rattle.rela_engine.specs.RowOf.{IsOffence, relation_of}
 use Rattle.rela_engine.specs.Scenes.{paths_of}
-use Rattle.rela_expand.specs.Expand.{Expanded, expanded, outcome_of}
+use Rattle.rela_expand.specs.Expand.{Expanded, outcome_of}
 use Rattle.rela_flows.specs.declared.planning.PlannedRow.{PlannedRow}
 use Rattle.rela_flows.specs.declared.planning.PlannedRow.TheVariants as planned
 use Rattle.rela_io.specs.Held.{FilesByName}
@@ -19,7 +19,6 @@ use Rattle.rela_report.specs.Blamed.{blamed_text}
 use Rattle.rela_report.specs.Status.{is_violated, status_of}
 use Rattle.rela_report.specs.declared.rows.ReportRow.{ReportRow}
 use Rattle.rela_report.specs.declared.rows.ReportRow.TheVariants.{Checked, Unselected}
-use Rattle.rela_report.specs.declared.rows.Row.{Row}
 use Rattle.rela_report.specs.declared.rows.Row.TheVariants.{Compliant, Undecided, Violated}
 use Rattle.rela_report.specs.declared.rows.Side.{Side}
 use Rattle.rela_report.specs.declared.rows.Side.TheVariants as side
@@ -27,7 +26,6 @@ use Rattle.rela_report.specs.declared.zones.Zone.{Zone}
 use Rattle.rela_rir.specs.declared.set.SymbolSet.{SymbolSet}
 use Rattle.rela_snapshot.specs.Steps.{After, ◌>>=◌}
 use Rattle.rela_snapshot.specs.declared.pairing.FlowPair.{FlowPair}
-use Rattle.rela_spec.specs.Full.{IsFull}
 use Rattle.rela_spec.specs.declared.tree.SpecFile.{SpecFile}
 use Rattle.rela_translate.specs.Checked.{Checked as Check}
 use Rattle.rela_translate.specs.Zones as translate

@@ -1,8 +1,8 @@
 -- What a change gives, by what its steps give.
-use Rattle.std.proofs.Common.{◌≡◌, ◌∙◌, ℕ, Bool, true, IsTrue, List, Result, Ok, Err, refl, sym, ap, subst}
+use Rattle.std.proofs.Common.{◌≡◌, ◌∙◌, ℕ, Bool, List, Result, Ok, Err, refl, sym, ap, subst}
 use Rattle.std.specs.List.{All}
 use Rattle.std.proofs.lemmas.List.Elements.{All-weaker}
-use Rattle.rela_locations.specs.Network.{Network, alphabet_of}
+use Rattle.rela_locations.specs.Network.{Network}
 use Rattle.rela_names.specs.declared.level.Level.{Level}
 use Rattle.rela_report.specs.Status.{status_of}
 use Rattle.rela_report.specs.Text.{report_text}
@@ -13,7 +13,7 @@ use Rattle.rela_snapshot.specs.declared.pairing.FlowPair.{FlowPair}
 use Rattle.rela_translate.specs.Checked.{Checked as Check}
 use Rattle.rela_top.specs.Answer.{Answer}
 use Rattle.rela_top.specs.Checks.{Reports, ReportsBy, SameReports}
-use Rattle.rela_top.specs.Given.{Equals, Agrees, IsToldBy, IsGiven}
+use Rattle.rela_top.specs.Given.{Equals, Agrees, IsGiven}
 use Rattle.rela_top.specs.Inputs.{Gives, ReadsNetwork}
 use Rattle.rela_top.specs.Loaded.{Loaded, Loads, SameLoaded, names_of}
 use Rattle.rela_top.specs.Paired.{GivesPairs}

@@ -1,5 +1,5 @@
 -- What an assertion file gives, and what `rir` does, from what their steps give.
-use Rattle.std.proofs.Common.{◌≡◌, ◌≢◌, ◌∙◌, ℕ, ◌<◌, [], Bool, true, List, map, Option, Result, Ok, Err, refl, sym, ap, subst}
+use Rattle.std.proofs.Common.{◌≡◌, ◌≢◌, ◌∙◌, ℕ, Bool, true, List, map, Option, Result, Ok, Err, refl, sym, ap, subst}
 use Rattle.std.specs.List.{All}
 use Rattle.rela_assertions.specs.Rows.{AreRowsOf, IsClaimAt}
 use Rattle.rela_assertions.specs.Text.{assertions_text, status_of}
@@ -15,7 +15,7 @@ use Rattle.rela_rirfile.specs.declared.written.AssertFile.{AssertFile}
 use Rattle.rela_snapshot.specs.Steps.{After, ◌>>=◌}
 use Rattle.rela_snapshot.specs.declared.pairing.FlowPair.{FlowPair}
 use Rattle.rela_top.specs.Answer.{Answer}
-use Rattle.rela_top.specs.AssertReports.{AnyReports, ReportsAssertions, ReportsClaims}
+use Rattle.rela_top.specs.AssertReports.{ReportsAssertions, ReportsClaims, SameAssertReports}
 use Rattle.rela_top.specs.Asserted.{Asserted, Asserts, IsAsserted, ReadsClaims, SameAsserted}
 use Rattle.rela_top.specs.Given.{Equals, Agrees, IsGiven, IsRead}
 use Rattle.rela_top.specs.Halts.{spec_halt}
@@ -26,6 +26,7 @@ use Rattle.rela_top.specs.Specifications.{ReadsAssertions, refused_text}
 use Rattle.rela_top.specs.declared.reading.Halt.{Halt}
 use Rattle.rela_top.specs.declared.refusal.Input.TheVariants as input
 use Rattle.rela_top.specs.declared.refusal.Refusal.{Refusal}
+use Rattle.rela_top.proofs.ClaimReports.{RightRowsAgree, claims_agree}
 use Rattle.rela_top.proofs.GivenLaws.{continued, continued_equal, stopped}
 use Rattle.rela_top.proofs.TreeLaws.{text_refused}
 
@@ -107,11 +108,6 @@ claims_reported states network pairs flows asserted names claims rows text statu
     subst (λ (cs : List Claim). AreRowsOf (alphabet_of asserted.level network) asserted.level states pairs cs rows) all by_pairs in
     (rows, by_claims, report_is (alphabet_of asserted.level network) rows text status (subst (λ (ns : List (List ℕ)). text ≡ assertions_text ns rows) named is_text) is_status)
 
-any_report : (steady : Bool) (states : ℕ) (network : Network) (pairs : List FlowPair) (asserted : Asserted) (answer : Answer) (x : Result Answer Refusal)
-    → ReportsClaims states network pairs asserted x → Agrees steady AnyReports (Ok answer) x
-unfolding ReportsClaims
-any_report steady states network pairs asserted answer x reports = subst (λ (r : Result Answer Refusal). Agrees steady AnyReports (Ok answer) r) (sym reports.2) tt
-
 module _ (told steady : Bool) (holds : Option FilesByName) (before after locations assertions : List ℕ) (states : ℕ) where
   abbrev Places : Result Network Refusal → Type 0
   Places = Gives (BytesOf holds locations input.Locations) ReadsNetwork
@@ -131,38 +127,38 @@ module _ (told steady : Bool) (holds : Option FilesByName) (before after locatio
   abbrev Reported : Result Answer Refusal → Type 0
   Reported = ReportsAssertions holds before after locations assertions states
 
-  pub locations_stopped : (halt : Halt) → IsGiven told steady Equals Places (Err halt) → IsGiven told steady AnyReports Reported (Err halt)
+  pub locations_stopped : (halt : Halt) → IsGiven told steady Equals Places (Err halt) → IsGiven told steady SameAssertReports Reported (Err halt)
   unfolding ReportsAssertions
-  locations_stopped halt given = stopped told steady Equals AnyReports Places Next halt given
+  locations_stopped halt given = stopped told steady Equals SameAssertReports Places Next halt given
 
-  over : (network : Network) (r : Result Answer Halt) → IsGiven told steady Equals Places (Ok network) → IsGiven told steady AnyReports (Next network) r → IsGiven told steady AnyReports Reported r
+  over : (network : Network) (r : Result Answer Halt) → IsGiven told steady Equals Places (Ok network) → IsGiven told steady SameAssertReports (Next network) r → IsGiven told steady SameAssertReports Reported r
   unfolding ReportsAssertions
-  over network r given next = continued_equal told steady AnyReports Places Next network r given next
+  over network r given next = continued_equal told steady SameAssertReports Places Next network r given next
 
   pub pairs_stopped : (network : Network) (halt : Halt) → IsGiven told steady Equals Places (Ok network) → IsGiven told steady SamePairs (Pairs network) (Err halt)
-      → IsGiven told steady AnyReports Reported (Err halt)
-  pairs_stopped network halt given pairs = over network (Err halt) given (stopped told steady SamePairs AnyReports (Pairs network) (Then network) halt pairs)
+      → IsGiven told steady SameAssertReports Reported (Err halt)
+  pairs_stopped network halt given pairs = over network (Err halt) given (stopped told steady SamePairs SameAssertReports (Pairs network) (Then network) halt pairs)
 
-  claims_alone : (network : Network) (pairs : List FlowPair) (halt : Halt) → IsGiven told steady SameAsserted (Claims network) (Err halt) → IsGiven told steady AnyReports (Then network pairs) (Err halt)
-  claims_alone network pairs halt claims = stopped told steady SameAsserted AnyReports (Claims network) (ReportsClaims states network pairs) halt claims
+  claims_alone : (network : Network) (pairs : List FlowPair) (halt : Halt) → IsGiven told steady SameAsserted (Claims network) (Err halt) → IsGiven told steady SameAssertReports (Then network pairs) (Err halt)
+  claims_alone network pairs halt claims = stopped told steady SameAsserted SameAssertReports (Claims network) (ReportsClaims states network pairs) halt claims
 
   pub claims_stopped : (network : Network) (pairs : List FlowPair) (halt : Halt) → IsGiven told steady Equals Places (Ok network) → IsGiven told steady SamePairs (Pairs network) (Ok pairs)
-      → IsGiven told steady SameAsserted (Claims network) (Err halt) → IsGiven told steady AnyReports Reported (Err halt)
+      → IsGiven told steady SameAsserted (Claims network) (Err halt) → IsGiven told steady SameAssertReports Reported (Err halt)
   claims_stopped network pairs halt given paired claims = over network (Err halt) given
-      (continued told steady SamePairs AnyReports (Pairs network) (Then network) pairs (Err halt) paired (claims_alone network pairs halt claims).told_by
+      (continued told steady SamePairs SameAssertReports (Pairs network) (Then network) pairs (Err halt) paired (claims_alone network pairs halt claims).told_by
       (λ t others same x steps. (claims_alone network others halt claims).alone t x steps))
 
-  last_alone : (network : Network) (others : List FlowPair) (asserted : Asserted) (answer : Answer) (x : Result Answer Refusal) (y : Result Asserted Refusal)
-      → Agrees steady SameAsserted (Ok asserted) y → After (ReportsClaims states network others) y x → Agrees steady AnyReports (Ok answer) x
-  last_alone network others asserted answer x (Ok other) agrees is = any_report steady states network others other answer x is
-  last_alone network others asserted answer x (Err e) agrees is = absurd agrees
+  last_alone : RightRowsAgree → (network : Network) (pairs others : List FlowPair) (asserted : Asserted) (answer : Answer) (x : Result Answer Refusal) (y : Result Asserted Refusal)
+      → SamePairs pairs others → ReportsClaims states network pairs asserted (Ok answer) → Agrees steady SameAsserted (Ok asserted) y → After (ReportsClaims states network others) y x → Agrees steady SameAssertReports (Ok answer) x
+  last_alone agree network pairs others asserted answer x (Ok other) same reports agrees is = claims_agree agree steady states network pairs others asserted other answer x same agrees reports is
+  last_alone agree network pairs others asserted answer x (Err e) same reports agrees is = absurd agrees
 
-  pub reported : (network : Network) (pairs : List FlowPair) (asserted : Asserted) (answer : Answer) → IsGiven told steady Equals Places (Ok network)
+  pub reported : RightRowsAgree → (network : Network) (pairs : List FlowPair) (asserted : Asserted) (answer : Answer) → IsGiven told steady Equals Places (Ok network)
       → IsGiven told steady SamePairs (Pairs network) (Ok pairs) → IsGiven told steady SameAsserted (Claims network) (Ok asserted)
-      → ReportsClaims states network pairs asserted (Ok answer) → IsGiven told steady AnyReports Reported (Ok answer)
-  reported network pairs asserted answer given paired claims reports = over network (Ok answer) given
-      (continued told steady SamePairs AnyReports (Pairs network) (Then network) pairs (Ok answer) paired (Ok asserted, claims.told_by, reports)
-      (λ t others same x steps. last_alone network others asserted answer x steps.0 (claims.alone t steps.0 steps.1) steps.2))
+      → ReportsClaims states network pairs asserted (Ok answer) → IsGiven told steady SameAssertReports Reported (Ok answer)
+  reported agree network pairs asserted answer given paired claims reports = over network (Ok answer) given
+      (continued told steady SamePairs SameAssertReports (Pairs network) (Then network) pairs (Ok answer) paired (Ok asserted, claims.told_by, reports)
+      (λ t others same x steps. last_alone agree network pairs others asserted answer x steps.0 same reports (claims.alone t steps.0 steps.1) steps.2))
 
 -- the claims are such as can be decided
 pub are_claims : (network : Network) (level : Level) (claims : List Claim) → All (ListsPathSymbols (record { network = network; level = level })) claims → All NamesByClasses claims

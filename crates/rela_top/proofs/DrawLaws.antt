@@ -1,5 +1,5 @@
 -- What `fib` gives, from what its steps give.
-use Rattle.std.proofs.Common.{◌≡◌, ◌≢◌, ◌∙◌, ℕ, Bool, true, List, Option, Result, Ok, Err, refl, sym, ap, subst}
+use Rattle.std.proofs.Common.{◌≡◌, ℕ, Bool, true, List, Option, Result, Ok, Err, refl, sym, subst}
 use Rattle.rela_fib.specs.Loading.{LoadsAs}
 use Rattle.rela_fib.specs.Snapshot.{IsSnapshotOf, IsTooLong, IsTooMany}
 use Rattle.rela_fib.specs.declared.error.FibError.{FibError}
@@ -14,7 +14,6 @@ use Rattle.rela_top.specs.Given.{Equals, Agrees, IsGiven, IsRead}
 use Rattle.rela_top.specs.Halts.{fib_halt}
 use Rattle.rela_top.specs.Inputs.{BytesOf, Gives, ReadsNetwork, ReadsTables}
 use Rattle.rela_top.specs.declared.reading.Halt.{Halt}
-use Rattle.rela_top.specs.declared.reading.Halt.TheVariants.{Refused}
 use Rattle.rela_top.specs.declared.refusal.Input.TheVariants.{Locations, Tables, Other}
 use Rattle.rela_top.specs.declared.refusal.Reason.TheVariants.{Snapshot}
 use Rattle.rela_top.specs.declared.refusal.Refusal.{Refusal}

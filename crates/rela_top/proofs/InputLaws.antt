@@ -5,8 +5,7 @@ use Rattle.rela_io.specs.Held.{FilesByName, HoldsName, Lacks}
 use Rattle.rela_top.specs.Given.{Equals, Agrees, IsGiven}
 use Rattle.rela_top.specs.Reading.{max_file_bytes}
 use Rattle.rela_top.specs.Inputs.{IsTold, IsTooLong, HasBytes, BytesOf}
-use Rattle.rela_top.specs.declared.reading.Halt.{Halt}
-use Rattle.rela_top.specs.declared.reading.Halt.TheVariants.{Refused, ReadFault, Memory}
+use Rattle.rela_top.specs.declared.reading.Halt.TheVariants.{Refused, ReadFault}
 use Rattle.rela_top.specs.declared.refusal.Input.{Input}
 use Rattle.rela_top.specs.declared.refusal.Reason.TheVariants.{TooLong}
 use Rattle.rela_top.specs.declared.refusal.Refusal.{Refusal}

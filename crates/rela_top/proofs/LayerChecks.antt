@@ -1,5 +1,5 @@
 -- The specification of the layered input expands to two checks.
-use Rattle.std.proofs.Common.{◌≡◌, ◌∙◌, ℕ, zero, suc, ◌+◌, ◌<◌, ◌≤◌, ◌||◌, ◌⊎◌, inl, inr, Bool, true, false, List, [], ◌∷◌, ◌++◌, length, map, filter, Result, Ok, Err, refl, sym, ap, subst, arith}
+use Rattle.std.proofs.Common.{◌≡◌, ◌∙◌, ℕ, zero, suc, ◌+◌, ◌<◌, ◌≤◌, ◌||◌, ◌⊎◌, inl, inr, Bool, true, false, List, [], ◌∷◌, ◌++◌, length, map, filter, Result, Ok, Err, refl, sym, ap, arith}
 use Rattle.std.specs.Prelude.{cond, nat_eq, nat_lt, codes}
 use Rattle.std.specs.BTreeSet.{insert_key}
 use Rattle.std.specs.declared.cmp.Ordering.{Ordering}
@@ -11,11 +11,11 @@ use Rattle.std.specs.List.{flat_map, list_any, position_or_len, range_with_len}
 use Rattle.std.specs.Str.{bytes_eq}
 use Rattle.std.proofs.lemmas.Slice.Eq.{bytes_eq-Decides}
 use Rattle.rela_demo.specs.Locations.{network, device}
-use Rattle.rela_demo.specs.Names.{Label, both, device_name, label_a, label_b, labels_from}
+use Rattle.rela_demo.specs.Names.{Label, both, device_name, label_a, label_b}
 use Rattle.rela_demo.specs.Specification.{specification, first_check, second_check, flow_seven, all_stay, last_b, cut_body}
-use Rattle.rela_expand.specs.Expand.{Expanded, Sofar, at_first, expanded, with_item, is_deep, is_large, symbols_in}
+use Rattle.rela_expand.specs.Expand.{Sofar, at_first, expanded, with_item, is_deep, symbols_in}
 use Rattle.rela_expand.specs.Numbering.{Expansion, Listing, Numbering, Step, nothing_numbered, ◌>>=◌, each, gives, go_on, plainly, numbered_class, same_listing, with_class}
-use Rattle.rela_expand.specs.Places.{Place, in_some, located, listed, symbols_of, path_symbols_at, locations_at}
+use Rattle.rela_expand.specs.Places.{Place, in_some, listed, symbols_of, path_symbols_at, locations_at}
 use Rattle.rela_expand.specs.Expansions.{no_names, path_expansion, spec_expansion, layer_of_path, layer_of_spec, change_expansion, class_of, tree_of, nothing_asked}
 use Rattle.rela_flows.specs.declared.predicate.Predicate.TheVariants as flows
 use Rattle.rela_lex.specs.declared.error.SpecError.{SpecError}
@@ -35,7 +35,6 @@ use Rattle.rela_spec.specs.declared.tree.SpecExpr.{SpecExpr}
 use Rattle.rela_spec.specs.declared.tree.SpecExpr.TheVariants as spec
 use Rattle.rela_spec.specs.declared.tree.SpecExpr.TheOpen as spec_layer
 use Rattle.rela_spec.specs.declared.tree.SpecExpr.TheFolds.{fold-roll-SpecExpr}
-use Rattle.rela_translate.specs.Terms.{before_of, after_of}
 use Rattle.rela_translate.specs.declared.body.Expr.{Expr}
 use Rattle.rela_translate.specs.declared.body.Expr.TheVariants as x
 use Rattle.rela_translate.specs.declared.body.Change.TheVariants as change

@@ -19,7 +19,7 @@ use Rattle.rela_words.specs.Words.{default_states}
 use Rattle.rela_top.specs.Answer.{Answer}
 use Rattle.rela_top.specs.Checks.{Reports, SameReports}
 use Rattle.rela_top.specs.Demos.{AreLayered, Demos, IsLayered, LoadsLayered}
-use Rattle.rela_top.specs.Given.{Agrees, Equals, IsRead, IsToldBy}
+use Rattle.rela_top.specs.Given.{Agrees, Equals, IsRead}
 use Rattle.rela_top.specs.Inputs.{IsListedAs, ReadsNetwork, load_of}
 use Rattle.rela_top.specs.Loaded.{Loaded, SameLoaded}
 use Rattle.rela_top.specs.Paired.{ArePaired, IsPairedAs}

@@ -22,3 +22,4 @@ pub mod Shared
 pub mod ZoneLaws
 pub mod BlameLaws
 pub mod ClaimLaws
+pub mod ClaimReports

@@ -1,7 +1,7 @@
 -- Graphs that no file can tell apart have the same paths.
-use Rattle.std.proofs.Common.{◌≡◌, ◌∙◌, ℕ, ◌⊎◌, inl, inr, ◌↔◌, List, [], ◌∷◌, ◌++◌, map, sym, ap, subst}
-use Rattle.rela_graph.specs.Paths.{Arrives, IsEnding, Paths, base, locations}
-use Rattle.rela_graph.specs.Topology.{Topology, HasEdge, symbol_at}
+use Rattle.std.proofs.Common.{◌≡◌, ℕ, inl, inr, List, [], ◌∷◌, ◌++◌, map, ap, subst}
+use Rattle.rela_graph.specs.Paths.{Arrives, IsEnding, Paths, Undelivered, base, locations}
+use Rattle.rela_graph.specs.Topology.{Topology, symbol_at}
 use Rattle.rela_graph.specs.Walk.{FollowsEdges, IsWalk, IsCyclic, IsDropNode}
 use Rattle.rela_graph.specs.declared.node.Node.{Node}
 use Rattle.rela_names.specs.declared.level.Level.{Level}
@@ -28,7 +28,8 @@ module _ (g h : Topology) (same : SameGraph g h) where
     places : locations g level ≡ locations h level
     places = ap (λ (nodes : List Node). map (symbol_at level) nodes) same.nodes
 
-    arrives : (n : ℕ) (word : List ℕ) → Arrives g (locations g level) n word → Arrives h (locations h level) n word
+    -- each node is reached by the same words
+    pub arrives : (n : ℕ) (word : List ℕ) → Arrives g (locations g level) n word → Arrives h (locations h level) n word
     arrives n word is =
         (is.0, walks (is.0 ++ n ∷ []) is.1, subst (λ (ls : List ℕ). base ls (is.0 ++ n ∷ []) ≡ word) places is.2)
 
@@ -36,6 +37,10 @@ module _ (g h : Topology) (same : SameGraph g h) where
     ends names n ending (inl is) = inl ((same.delivered n).0 is.0, is.1)
     ends names n ending (inr (inl is)) = inr (inl (drops n is.0, is.1))
     ends names n ending (inr (inr is)) = inr (inr (cyclic n is.0, is.1))
+
+    -- the words that end with `drop` or `loop` are the same
+    pub undelivered : (names : List (List ℕ)) (word : List ℕ) → Undelivered g level names word → Undelivered h level names word
+    undelivered names word (n, front, ending, is, ended, some, split) = (n, front, ending, arrives n front is, ends names n ending ended, some, split)
 
     pub paths : (names : List (List ℕ)) (word : List ℕ) → Paths g level names word → Paths h level names word
     paths names word (n, front, ending, is, ended, split) = (n, front, ending, arrives n front is, ends names n ending ended, split)

@@ -18,7 +18,7 @@ use Rattle.rela_top.specs.Specified.{Specified, IsSpecified, AsksFor, ReadsCheck
 use Rattle.rela_top.specs.declared.reading.Halt.{Halt}
 use Rattle.rela_top.specs.declared.reading.Halt.TheVariants.{Refused}
 use Rattle.rela_top.specs.declared.refusal.Input.{Input}
-use Rattle.rela_top.specs.declared.refusal.Input.TheVariants.{Assertions, Spec}
+use Rattle.rela_top.specs.declared.refusal.Input.TheVariants.{Spec}
 use Rattle.rela_top.specs.declared.refusal.Refusal.{Refusal}
 use Rattle.rela_top.proofs.GivenLaws.{continued_equal, stopped, value_read, refused_read, memory_read}
 

@@ -1,6 +1,6 @@
 -- Verdicts on the same paths agree.
-use Rattle.std.proofs.Common.{◌≡◌, ◌∙◌, ℕ, ◌+◌, ◌<◌, ◌⊎◌, inl, inr, ◌↔◌, Bool, true, false, List, [], ◌∷◌, length, refl, sym, ap, subst, arith}
-use Rattle.rela_engine.specs.RowOf.{words_of, relation_of, IsOffence, RowOf, Says}
+use Rattle.std.proofs.Common.{◌≡◌, ℕ, ◌<◌, inl, inr, Bool, true, false, List, [], ◌∷◌, length, refl, sym, subst, arith}
+use Rattle.rela_engine.specs.RowOf.{words_of, relation_of, IsOffence, RowOf}
 use Rattle.rela_build.specs.PathSets.{Paths}
 use Rattle.rela_names.specs.Shortlex.{IsSmaller, IsBefore, First}
 use Rattle.rela_report.specs.declared.rows.Row.{Row}
@@ -9,7 +9,7 @@ use Rattle.rela_report.specs.declared.rows.Side.{Side}
 use Rattle.rela_report.specs.declared.rows.Side.TheVariants as side
 use Rattle.rela_rir.specs.Words.{WordSet, Relation, ImageOf}
 use Rattle.rela_translate.specs.Checked.{Checked as Check}
-use Rattle.rela_translate.specs.Verdict.{AreMet, Offends, Meets, Offending, BeforeImage, AfterImage}
+use Rattle.rela_translate.specs.Verdict.{AreMet, Offends, Offending, BeforeImage, AfterImage}
 use Rattle.rela_top.specs.Rows.{AgreeInVerdict}
 
 -- ---- the first word of a set

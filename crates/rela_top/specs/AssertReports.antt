@@ -1,6 +1,7 @@
 -- What the four inputs of `rir` give: the rows of the assertions, or the first refusal in the order in which they are
 -- read.
-use Rattle.std.specs.Prelude.{◌≡◌, ⊤, ℕ, List, Option, Result, Ok}
+use Rattle.std.specs.Prelude.{◌≡◌, ℕ, List, Option, Result, Ok}
+use Rattle.rela_assertions.specs.Agreement.{AgreeInRows}
 use Rattle.rela_assertions.specs.Rows.{AreRowsOf}
 use Rattle.rela_assertions.specs.Text.{assertions_text, status_of}
 use Rattle.rela_assertions.specs.declared.row.AssertionRow.{AssertionRow}
@@ -36,6 +37,11 @@ ReportsAssertions holds before after locations assertions states = do
   asserted ← Gives (BytesOf holds assertions Assertions) (ReadsClaims network)
   ReportsClaims states network pairs asserted
 
--- Two reports of the same files. Nothing is said here of how far they agree: the rows of each are right.
-abbrev pub AnyReports : Answer → Answer → Type 0
-AnyReports x y = ⊤
+-- two reports whose rows differ at most where one of them leaves something undecided
+pub record SameAssertReports (x y : Answer) : Type 0 where
+  pub names : List (List ℕ)
+  pub rows : List AssertionRow
+  pub others : List AssertionRow
+  pub is_first : x ≡ assertions_report names rows
+  pub is_second : y ≡ assertions_report names others
+  pub agree : AgreeInRows rows others

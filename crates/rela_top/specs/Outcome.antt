@@ -3,7 +3,7 @@ use Rattle.std.specs.Prelude.{◌≡◌, ℕ, ◌⊎◌, Bool, false, nat_lt, Li
 use Rattle.rela_io.specs.Held.{FilesByName}
 use Rattle.rela_report.specs.Text.{line}
 use Rattle.rela_top.specs.Answer.{Answer, Delivers}
-use Rattle.rela_top.specs.AssertReports.{AnyReports, ReportsAssertions}
+use Rattle.rela_top.specs.AssertReports.{ReportsAssertions, SameAssertReports}
 use Rattle.rela_top.specs.Blames.{ReportsAs, SameAs}
 use Rattle.rela_top.specs.Checks.{SameReports}
 use Rattle.rela_top.specs.Demos.{Demos}
@@ -34,7 +34,7 @@ SameAnswer (Check before after locations spec states blame) = SameAs blame
 SameAnswer (Fmt spec) = Equals
 SameAnswer (Fib tables other locations) = SameDrawings
 SameAnswer (Zone locations spec name states) = SameZones
-SameAnswer (Rir before after locations assertions states) = AnyReports
+SameAnswer (Rir before after locations assertions states) = SameAssertReports
 SameAnswer (Demo layers) = SameReports
 
 -- the same refusal, or the same answer as far as the files settle it

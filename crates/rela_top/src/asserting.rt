@@ -6,7 +6,7 @@ ghost use Rattle.rela_io.specs.Held.{HoldsName};
 ghost use Rattle.rela_locations.specs.Network.{alphabet_of};
 ghost use Rattle.rela_snapshot.specs.PairsLocated.{ArePairsLocated};
 ghost use Rattle.rela_top.specs.Answer.{answer_by, IsOutcomeStatus};
-ghost use Rattle.rela_top.specs.AssertReports.{AnyReports, ReportsAssertions, ReportsClaims};
+ghost use Rattle.rela_top.specs.AssertReports.{ReportsAssertions, ReportsClaims, SameAssertReports};
 ghost use Rattle.rela_top.specs.Asserted.{asserted_by};
 ghost use Rattle.rela_top.specs.Given.{IsGiven, seen};
 ghost use Rattle.rela_top.specs.Reading.{Ends};
@@ -15,7 +15,7 @@ use crate::answer::Answer;
 use crate::claiming::Asserted;
 use crate::loading::{load_claims, load_locations, load_pairs};
 use crate::reading::Halt;
-use rela_assertions::{rows_of, status, text};
+use rela_assertions::{right_rows_agree, rows_of, status, text};
 use rela_io::Files;
 use rela_locations::Locations;
 use rela_snapshot::FlowPair;
@@ -39,7 +39,7 @@ pub fn report_assertions<F: Files>(
     states: usize,
 ) -> Result<Answer, Halt>
     requires some { 1 ≤ states }
-    ensures given { IsGiven (is_some (F.holds files.old)) (F.steady files.old) AnyReports
+    ensures given { IsGiven (is_some (F.holds files.old)) (F.steady files.old) SameAssertReports
         (ReportsAssertions (F.holds files.old) before.now after.now locations.now
         assertions.now states) (seen answer_by result) }
     ensures status { IfOk result (λ answer. IsOutcomeStatus answer.status) }
@@ -54,6 +54,7 @@ pub fn report_assertions<F: Files>(
     let locations = load_locations(alloc, files, locations)?;
     let pairs = load_pairs(alloc, files, before, after, &locations)?;
     let asserted = load_claims(alloc, files, assertions, &locations)?;
+    right_rows_agree();
     Ok(report_claims(alloc, &locations, &pairs, &asserted, states)?)
 }
 

@@ -1,11 +1,11 @@
-use Rattle.std.proofs.Common.{◌≡◌, ◌∙◌, [], refl, rules, sym, ap, subst}
+use Rattle.std.proofs.Common.{◌≡◌, ◌∙◌, [], rules, sym, ap, subst}
 use Rattle.rela_claims.specs.Named.{symbols_in_tree}
 use Rattle.rela_claims.specs.declared.claim.Tree.{Tree}
 use Rattle.rela_claims.specs.declared.claim.Tree.TheVariants.{And, Not, Or}
 use Rattle.rela_claims.specs.declared.claim.Tree.TheViews.{the_lemmas}
 use Rattle.rela_rir.specs.declared.value.Value.{Value}
 use Rattle.rela_assertions.specs.Rows.{IsDecided, scene_for}
-use Rattle.rela_assertions.proofs.ValueLaws.{and_decided, and_plain, leaf_decided, not_decided, not_plain, or_decided, or_plain}
+use Rattle.rela_assertions.proofs.ValueLaws.{and_decided, and_plain, leaf_decided, not_decided, or_decided, or_plain}
 use Rattle.rela_assertions.proofs.deciding.+decide_tree.Goals as goal
 
 pub decide_tree-requires : goal.decide_tree-requires

@@ -1,4 +1,4 @@
-use Rattle.std.proofs.Common.{◌≡◌, ◌∙◌, List, length, sym, subst, arith}
+use Rattle.std.proofs.Common.{◌∙◌, List, sym, subst, arith}
 use Rattle.rela_lex.specs.Spells as lex
 use Rattle.rela_lex.specs.declared.token.Token.{Token}
 use Rattle.rela_spec.specs.Grammar as grammar

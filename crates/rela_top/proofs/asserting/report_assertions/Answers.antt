@@ -48,7 +48,7 @@ returns-clause-given g c =
     let pairs = rw (c.in_ok-locations.ensures.same_holds, c.in_ok-locations.ensures.same_steady) at c.in_ok-pairs.ensures.given in
     let asserted = rw (c.in_ok-pairs.ensures.same_holds, c.in_ok-pairs.ensures.same_steady, c.in_ok-locations.ensures.same_holds, c.in_ok-locations.ensures.same_steady)
     at c.in_ok-asserted.ensures.given in
-    reported _ _ _ _ _ _ _ _ c.in_ok-locations.locations c.in_ok-pairs.pairs.items (asserted_by c.in_ok-asserted.asserted) (answer_by c.in_ok-report_claims.field-0)
+    reported _ _ _ _ _ _ _ _ c.right_rows_agree.ensures.agree c.in_ok-locations.locations c.in_ok-pairs.pairs.items (asserted_by c.in_ok-asserted.asserted) (answer_by c.in_ok-report_claims.field-0)
     c.in_ok-locations.ensures.given pairs asserted (rw c.deref.ensures.value at c.in_ok-report_claims.ensures.reports)
 
 pub report_claims-requires-clause-located : goal.report_claims-requires-clause-located

@@ -5,7 +5,7 @@ use Rattle.rela_top.specs.Answer.{answer_by}
 use Rattle.rela_top.specs.Specifications.{written_by}
 use Rattle.rela_top.proofs.BlameLaws.{asked_stopped, locations_stopped, pairs_stopped, reported, written_stopped}
 use Rattle.rela_top.proofs.ChangeLaws.{are_checks}
-use Rattle.rela_top.proofs.GivenLaws.{ends_inside, ends_later, ends_stopped, halts_seen, memory_ends, memory_given, no_read_fault}
+use Rattle.rela_top.proofs.GivenLaws.{ends_inside, ends_later, ends_stopped, memory_ends, memory_given}
 use Rattle.rela_top.proofs.blaming.report_blamed.Goals as goal
 
 pub returns-in_err-locations-clause-given : goal.returns-in_err-locations-clause-given

@@ -1,4 +1,4 @@
-use Rattle.std.proofs.Common.{◌≡◌, ◌∙◌, Err, arith, sym}
+use Rattle.std.proofs.Common.{◌≡◌, Err, arith}
 use Rattle.rela_top.proofs.ClaimLaws.{are_claims, claims_read, no_claims, no_tree_no_claims}
 use Rattle.rela_top.proofs.claiming.read_claims.Goals as goal
 

@@ -1,4 +1,4 @@
-use Rattle.std.proofs.Common.{◌≡◌, ◌≤◌, length, rules}
+use Rattle.std.proofs.Common.{◌≤◌, length, rules}
 use Rattle.rela_io.specs.Held.{Lacks}
 use Rattle.rela_top.specs.Reading.{max_file_bytes}
 use Rattle.rela_top.proofs.GivenLaws.{no_memory}

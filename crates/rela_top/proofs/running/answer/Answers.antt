@@ -1,4 +1,3 @@
-use Rattle.std.proofs.Common.{refl}
 use Rattle.rela_top.specs.Answer.{answer_by}
 use Rattle.rela_words.specs.Commands.{command_of}
 use Rattle.rela_top.proofs.Given.{GivenBy-made, GivenBy-refusing, made_complete, refused_complete, no_fault}

@@ -1,8 +1,8 @@
-use Rattle.std.proofs.Common.{◌≡◌, ℕ, Bool, List, [], ◌∷◌, ap, sym, subst, is_some, arith, string_bytes, ◌∙◌}
+use Rattle.std.proofs.Common.{◌≡◌, ℕ, List, [], ◌∷◌, ap, sym, subst, is_some, arith, string_bytes, ◌∙◌}
 use Rattle.std.specs.List.{All}
 use Rattle.rela_io.specs.Held.{HoldsName}
 use Rattle.rela_words.specs.Commands.{command_of}
-use Rattle.rela_words.specs.Words.{Command, Check, Fmt, Fib, Rir, Zone, HasNumbers}
+use Rattle.rela_words.specs.Words.{Command, Fmt, Fib, Rir, Zone, HasNumbers}
 use Rattle.rela_top.specs.Answer.{answer_by}
 use Rattle.rela_top.specs.Checks.{SameReports}
 use Rattle.rela_top.specs.Demos.{Demos}

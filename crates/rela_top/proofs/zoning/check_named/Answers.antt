@@ -1,4 +1,4 @@
-use Rattle.std.proofs.Common.{◌∙◌, ap, sym}
+use Rattle.std.proofs.Common.{sym}
 use Rattle.rela_top.proofs.ZoneLaws.{named_read, none_read}
 use Rattle.rela_top.proofs.zoning.check_named.Goals as goal
 

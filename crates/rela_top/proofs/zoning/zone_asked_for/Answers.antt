@@ -1,12 +1,9 @@
 use Rattle.std.proofs.Common.{◌≡◌, ℕ, List, Err, sym, subst, arith}
 use Rattle.rela_locations.specs.Network.{alphabet_of}
-use Rattle.rela_snapshot.specs.Steps.{Is}
-use Rattle.rela_translate.specs.Checked.{Checked as Check}
 use Rattle.rela_top.specs.Answer.{answer_by}
-use Rattle.rela_top.specs.Given.{Equals, IsRead, seen}
 use Rattle.rela_top.specs.Rows.{ListsPathSymbols}
 use Rattle.rela_top.specs.Specified.{specified_by}
-use Rattle.rela_top.specs.Zones.{IsZoneAnswer, check_named, or_unknown}
+use Rattle.rela_top.specs.Zones.{IsZoneAnswer}
 use Rattle.rela_top.proofs.GivenLaws.{memory_seen}
 use Rattle.rela_top.proofs.ZoneLaws.{of_found, shown, unknown}
 use Rattle.rela_top.proofs.zoning.zone_asked_for.Goals as goal
