@@ -31,6 +31,7 @@ pub mod ShapedChecks
 pub mod WalkNames
 pub mod WalkItems
 pub mod ExpandedFile
+pub mod ListedChecks
 pub mod Entries
 pub mod Marks
 pub mod CheckMaking

@@ -10,6 +10,7 @@ pub mod Measures
 pub mod Bodies
 pub mod BodyGathers
 pub mod Expand
+pub mod Listed
 pub mod Tables
 pub mod Known
 pub mod Walk

@@ -3,10 +3,12 @@
 ghost use Rattle.std.specs.Prelude.{◌≡◌, ◌≢◌, IfErr, IfOk, Err, Ok, map};
 ghost use Rattle.std.specs.List.{All, AllZip};
 ghost use Rattle.rela_lex.specs.declared.error.SpecError.TheVariants.{Memory};
+ghost use Rattle.rela_locations.specs.Network.{alphabet_of};
 ghost use Rattle.rela_spec.specs.Depth.{IsLow};
 ghost use Rattle.rela_spec.specs.Full.{IsFull};
 ghost use Rattle.rela_expand.specs.Expand.{expanded, outcome_of};
 ghost use Rattle.rela_expand.specs.Faithful.{IsFaithful};
+ghost use Rattle.rela_expand.specs.Listed.{ListsPathSymbols};
 ghost use Rattle.rela_expand.specs.ZonesW.{bodies_of};
 
 use crate::walking::walk_items;
@@ -43,6 +45,8 @@ pub fn expand(
         ≡ Ok (map outcome_of checks.items)) }
     ensures level { IfOk result (λ checks.
         All (λ check. check.level ≡ file.now.level) checks.items) }
+    ensures listed { IfOk result (λ checks.
+        All (ListsPathSymbols (alphabet_of file.now.level locations.now)) checks.items) }
     ensures faithful { IfOk result (λ checks.
         AllZip (IsFaithful (record { network = locations.now; level = file.now.level })
         file.now.items) (bodies_of file.now.items) checks.items) }

@@ -2,6 +2,7 @@
 use Rattle.std.proofs.Common.{◌≡◌, ◌∙◌, ℕ, Bool, List, Result, Ok, Err, refl, sym, ap, subst}
 use Rattle.std.specs.List.{All}
 use Rattle.std.proofs.lemmas.List.Elements.{All-weaker}
+use Rattle.rela_expand.specs.Listed.{ListsPathSymbols}
 use Rattle.rela_locations.specs.Network.{Network}
 use Rattle.rela_names.specs.declared.level.Level.{Level}
 use Rattle.rela_report.specs.Status.{status_of}
@@ -17,7 +18,7 @@ use Rattle.rela_top.specs.Given.{Equals, Agrees, IsGiven}
 use Rattle.rela_top.specs.Inputs.{Gives, ReadsNetwork}
 use Rattle.rela_top.specs.Loaded.{Loaded, Loads, SameLoaded, names_of}
 use Rattle.rela_top.specs.Paired.{GivesPairs}
-use Rattle.rela_top.specs.Rows.{AreChecksAt, AreRowsOf, ListsPathSymbols}
+use Rattle.rela_top.specs.Rows.{AreChecksAt, AreRowsOf}
 use Rattle.rela_top.specs.SameFlows.{SamePairs}
 use Rattle.rela_top.specs.Specified.{Specified, ReadsChecks, SameSpecified}
 use Rattle.rela_top.specs.declared.reading.Halt.{Halt}

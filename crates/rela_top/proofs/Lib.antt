@@ -2,7 +2,6 @@ pub mod Given
 pub mod GivenLaws
 pub mod InputLaws
 pub mod TextLaws
-pub mod Listed
 pub mod Loops
 pub mod PathTexts
 pub mod PlanLaws

@@ -4,10 +4,10 @@ use Rattle.std.specs.Prelude.{◌≡◌, ℕ, ◌<◌, ◌⊎◌, List, length, 
 use Rattle.std.specs.List.{AllZip}
 use Rattle.rela_engine.specs.RowOf.{RowOf}
 use Rattle.rela_engine.specs.Scenes.{paths_of}
+use Rattle.rela_expand.specs.Listed.{ListsPathSymbols}
 use Rattle.rela_flows.specs.Plan.{Plan}
 use Rattle.rela_flows.specs.declared.planning.PlannedRow.{PlannedRow}
 use Rattle.rela_flows.specs.declared.planning.PlannedRow.TheVariants as planned
-use Rattle.rela_names.specs.Alphabet.{path_symbols}
 use Rattle.rela_report.specs.declared.rows.ReportRow.{ReportRow}
 use Rattle.rela_report.specs.declared.rows.ReportRow.TheVariants.{Unselected, Checked}
 use Rattle.rela_report.specs.declared.rows.Row.{Row}
@@ -56,12 +56,8 @@ pub record AreRowsOf (names : List (List ℕ)) (states : ℕ) (checks : List Che
   pub plan : Plan (map (λ pair. pair.class) pairs) (map (λ check. check.when) checks) planned
   pub each : AllZip (IsRowOf names states checks pairs) planned rows
 
--- the classes of the check list path symbols of these locations
-abbrev pub ListsPathSymbols : List (List ℕ) → Check → Type 0
-ListsPathSymbols names check = All (λ set.
-    All (λ s. s < path_symbols names) set.members) check.classes
-
--- the classes of each check do so, and at its level each node of the flows stands at one of the locations
+-- the classes of each check list path symbols of these locations, and at its level each node of the flows stands at
+-- one of them
 pub record AreChecksAt (names : List (List ℕ)) (pairs : List FlowPair)
     (checks : List Check) : Type 0 where
   pub listed : All (ListsPathSymbols names) checks

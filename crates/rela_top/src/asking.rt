@@ -1,11 +1,11 @@
 //! What a specification asks for, from its text.
 
 ghost use Rattle.std.specs.Prelude.{◌≡◌, ◌≤◌, IfOk, All, length};
+ghost use Rattle.rela_expand.specs.Listed.{ListsPathSymbols};
 ghost use Rattle.rela_locations.specs.Network.{alphabet_of};
 ghost use Rattle.rela_spec.specs.Depth.{IsLow};
 ghost use Rattle.rela_spec.specs.Full.{IsFull};
 ghost use Rattle.rela_top.specs.Given.{Equals, IsRead, seen};
-ghost use Rattle.rela_top.specs.Rows.{ListsPathSymbols};
 ghost use Rattle.rela_spec.specs.Grammar.{Spells};
 ghost use Rattle.rela_top.specs.Specifications.{ReadsTree, ReadsWritten, written_by};
 ghost use Rattle.rela_top.specs.Specified.{AsksFor, IsSpecified, ReadsChecks, SameSpecified, specified_by};

@@ -2,6 +2,7 @@
 //! answer.
 
 ghost use Rattle.std.specs.Prelude.{◌≡◌, ◌≢◌, Err, All, IsTrue, IfOk, is_some};
+ghost use Rattle.rela_expand.specs.Listed.{ListsPathSymbols};
 ghost use Rattle.rela_names.specs.declared.level.Level.{Level};
 ghost use Rattle.rela_locations.specs.Network.{alphabet_of};
 ghost use Rattle.rela_snapshot.specs.Located.{AreLocated};
@@ -16,7 +17,6 @@ ghost use Rattle.rela_top.specs.Given.{Equals, IsGiven, seen};
 ghost use Rattle.rela_top.specs.Inputs.{BytesOf, Gives, ReadsNetwork, ReadsFlows, ReadsTables};
 ghost use Rattle.rela_top.specs.Paired.{GivesPairs};
 ghost use Rattle.rela_top.specs.Reading.{Ends};
-ghost use Rattle.rela_top.specs.Rows.{ListsPathSymbols};
 ghost use Rattle.rela_top.specs.SameFlows.{SameFlows, SamePairs};
 ghost use Rattle.rela_spec.specs.Grammar.{Spells};
 ghost use Rattle.rela_top.specs.Specifications.{ReadsTree, ReadsWritten, written_by};

@@ -2,9 +2,10 @@
 
 ghost use Rattle.std.specs.Prelude.{◌≡◌, ◌≤◌, IfOk, OnOk, All, length, map};
 ghost use Rattle.std.specs.List.{AllZip};
+ghost use Rattle.rela_expand.specs.Listed.{ListsPathSymbols};
 ghost use Rattle.rela_report.specs.Text.{RowHasTexts};
 ghost use Rattle.rela_snapshot.specs.PairsLocated.{ArePairsLocated};
-ghost use Rattle.rela_top.specs.Rows.{AreChecksAt, AreRowsOf, IsWithin, ListsPathSymbols};
+ghost use Rattle.rela_top.specs.Rows.{AreChecksAt, AreRowsOf, IsWithin};
 ghost use Rattle.rela_top.specs.Sharing.{AreAlike, AreVerdicts, IsRowBy};
 
 use crate::planning::plan_rows;

@@ -2,13 +2,13 @@
 
 ghost use Rattle.std.specs.Prelude.{◌≡◌, ◌≢◌, ◌≤◌, Err, All, IsTrue, IfOk, is_some, option_copied};
 ghost use Rattle.std.specs.Str.{bytes_eq};
+ghost use Rattle.rela_expand.specs.Listed.{ListsPathSymbols};
 ghost use Rattle.rela_io.specs.Held.{HoldsName};
 ghost use Rattle.rela_locations.specs.Network.{alphabet_of};
 ghost use Rattle.rela_snapshot.specs.Steps.{Is};
 ghost use Rattle.rela_top.specs.Answer.{answer_by, IsOutcomeStatus};
 ghost use Rattle.rela_top.specs.Given.{Equals, IsGiven, IsRead, seen};
 ghost use Rattle.rela_top.specs.Reading.{Ends};
-ghost use Rattle.rela_top.specs.Rows.{ListsPathSymbols};
 ghost use Rattle.rela_top.specs.Specified.{specified_by};
 ghost use Rattle.rela_top.specs.Zones.{IsZoneAnswer, SameZones, ShowsZone, Zones, check_named, or_unknown};
 

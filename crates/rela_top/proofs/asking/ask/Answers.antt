@@ -1,5 +1,4 @@
 use Rattle.std.proofs.Common.{refl}
-use Rattle.rela_top.proofs.Listed.{checks_listed}
 use Rattle.rela_top.proofs.TreeLaws.{asks_refused, checks_asked}
 use Rattle.rela_top.proofs.asking.ask.Goals as goal
 
@@ -8,9 +7,6 @@ returns-in-Ok-clause-asked c = checks_asked c.args.locations.now c.args.file.now
 
 pub returns-in-Err-clause-asked : goal.returns-in-Err-clause-asked
 returns-in-Err-clause-asked c = asks_refused c.args.locations.now c.args.file.now c.in-Err.error _ c.spec_halt.ensures c.in-Err.ensures.refused
-
-pub returns-in-Ok-clause-listed : goal.returns-in-Ok-clause-listed
-returns-in-Ok-clause-listed c = checks_listed c.args.locations.now c.args.file.now c.in-Ok.checks.items c.in-Ok.ensures.checks
 
 pub returns-in-Ok-clause-is_asked : goal.returns-in-Ok-clause-is_asked
 returns-in-Ok-clause-is_asked c = record { outcomes = c.in-Ok.ensures.checks; level = refl; levels = c.in-Ok.ensures.level }

@@ -1,7 +1,7 @@
 use Rattle.std.proofs.Common.{◌≡◌, ℕ, List, Err, sym, subst, arith}
+use Rattle.rela_expand.specs.Listed.{ListsPathSymbols}
 use Rattle.rela_locations.specs.Network.{alphabet_of}
 use Rattle.rela_top.specs.Answer.{answer_by}
-use Rattle.rela_top.specs.Rows.{ListsPathSymbols}
 use Rattle.rela_top.specs.Specified.{specified_by}
 use Rattle.rela_top.specs.Zones.{IsZoneAnswer}
 use Rattle.rela_top.proofs.GivenLaws.{memory_seen}

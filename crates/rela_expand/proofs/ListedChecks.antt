@@ -1,9 +1,9 @@
 -- The classes of what a specification expands to list path symbols alone.
-use Rattle.std.proofs.Common.{◌≡◌, ℕ, ◌<◌, None, Bool, true, false, cond, List, [], ◌∷◌, ◌++◌, map, Ok, ap, sym, subst, ◌∙◌, arith}
+use Rattle.std.proofs.Common.{◌≡◌, ℕ, zero, suc, ◌<◌, None, Bool, true, false, cond, List, [], ◌∷◌, ◌++◌, map, Ok, ap, sym, subst, ◌∙◌, arith}
 use Rattle.std.specs.Prelude.{nat_eq}
 use Rattle.std.specs.List.{All, list_any, range_with_len}
 use Rattle.std.proofs.lemmas.List.FromFn.{length-range_with_len, get_or-range_with_len}
-use Rattle.std.proofs.lemmas.List.Elements.{All-nil, All-push, All-filter, All-weaker}
+use Rattle.std.proofs.lemmas.List.Elements.{All-nil, All-cons, All-push, All-filter, All-weaker}
 use Rattle.rela_json.specs.Results.{try_fold}
 use Rattle.rela_locations.specs.Network.{Network, alphabet_of}
 use Rattle.rela_spec.specs.declared.tree.Item.{Item}
@@ -20,8 +20,7 @@ use Rattle.rela_expand.specs.Places.{Place, path_symbols_at}
 use Rattle.rela_expand.specs.Shapes.{Shape, Empty, Class, Seq, Alt, Meet, Not, Star, BodyShape, Unit as Unit', Then, Else, Shapes}
 use Rattle.rela_expand.proofs.Membership.{bound, from_ok}
 use Rattle.rela_expand.proofs.Steps.{state, shapes_with_path, shapes_with_spec, path_step, spec_step, check_step}
-use Rattle.rela_top.specs.Rows.{ListsPathSymbols}
-use Rattle.rela_top.proofs.PlanLaws.{All-unmap}
+use Rattle.rela_expand.specs.Listed.{ListsPathSymbols}
 
 module _ (place : Place) where
   abbrev IsPath : ℕ → Type 0
@@ -96,6 +95,11 @@ module _ (place : Place) where
       let one : CheckLists step.check = subst ListPaths (sym step.classes) (body_listed step.shape nothing_numbered (All-nil ListsPaths)) in
       items_listed items shapes taken (checks ++ step.check ∷ []) final
       (ap (λ (s : Sofar). try_fold (with_item place) s items) (sym step.gives) ∙ next.2) (All-push CheckLists checks step.check each one)
+
+-- what each element of a mapped list has, each element has by way of what it is mapped to
+All-unmap : {X Y : Type 0} (P : Y → Type 0) (f : X → Y) (xs : List X) → All P (map f xs) → All (λ x. P (f x)) xs
+All-unmap P f [] each = All-nil (λ x. P (f x))
+All-unmap P f (x ∷ xs) each = All-cons (λ x. P (f x)) x xs (each 0 (f x) (omega arith)) (All-unmap P f xs (λ i d inside. each (suc i) d (omega (arith, inside))))
 
 abbrev no_shapes : Shapes
 no_shapes = record { paths = λ _. None; specs = λ _. None }
