@@ -12,8 +12,8 @@ use rela_tables::{Route, Table, Tables};
 use std::alloc::{AllocError, Global};
 
 /// The classes of addresses that the routes of two files cut, in the order of their addresses. By
-/// either file each device treats all addresses of a class alike. Time and space: linear in the
-/// number of routes times the 32 bits of an address.
+/// either file each device treats all addresses of a class alike. Time: O(n log n) in the number of
+/// routes times the 32 bits of an address; space: linear in the same.
 ///
 /// # Errors
 ///

@@ -25,9 +25,9 @@ pub(crate) struct Device {
 }
 
 impl Device {
-    /// The device of these routes, among these nodes. Time: linear in the number of routes times
-    /// the 32 bits of an address, and for the hops of each route a binary search among the nodes
-    /// each, and a sort; space: linear in the same.
+    /// The device of these routes, among these nodes. Time: O(n log n) in the number of routes
+    /// times the 32 bits of an address, and for the hops of each route a binary search among the
+    /// nodes each, and a sort; space: linear in the same.
     ///
     /// # Errors
     ///

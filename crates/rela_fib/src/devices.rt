@@ -26,9 +26,10 @@ pub(crate) struct Devices {
 }
 
 impl Devices {
-    /// The devices of these nodes, with the tables of a file. Time: expected linear in the nodes,
-    /// the tables and the number of routes times the 32 bits of an address, and for the hops of
-    /// each route a binary search among the nodes each, and a sort; space: linear in the same.
+    /// The devices of these nodes, with the tables of a file. Time: expected linear in the nodes
+    /// and the tables, O(n log n) in the number of routes times the 32 bits of an address, and for
+    /// the hops of each route a binary search among the nodes each, and a sort; space: linear in
+    /// the same.
     ///
     /// # Errors
     ///

@@ -30,9 +30,9 @@ const MAX_FLOWS: usize = 10_000;
 /// chooses, by `tables`, for the addresses of the class. Read as a snapshot of these locations, the
 /// text gives just these flows, each from any address and in the class `default`.
 ///
-/// Time and space: linear in the number of routes times the 32 bits of an address, O(n log n) in
-/// the number of hops, and linear in the text; for each class the nodes are passed once, and each
-/// of their devices chooses once, in time logarithmic in the number of its routes.
+/// Time: O(n log n) in the number of routes times the 32 bits of an address and in the number of
+/// hops, and linear in the text; space: linear in the same. For each class the nodes are passed
+/// once, and each of their devices chooses once, in time logarithmic in the number of its routes.
 ///
 /// # Errors
 ///

@@ -1,10 +1,12 @@
 -- What is known of the halves of a cell, and the leaves of a cell from those of its halves.
-use Rattle.std.proofs.Common.{◌≡◌, ◌∙◌, refl, sym, ap, subst, ℕ, ◌+◌, ◌-◌, ◌^◌, ◌<◌, ◌≤◌, ⊎_elim, inr, Bool, true, false, not, ◌&&◌, ◌||◌, cond, eqb, ltb, List, [], ◌∷◌, ◌++◌, length, get_or, Option, IfSome, IfNone, append_assoc, arith}
+use Rattle.std.proofs.Common.{◌≡◌, ◌∙◌, refl, sym, ap, subst, ℕ, ◌+◌, ◌-◌, ◌^◌, ◌<◌, ◌≤◌, ⊎_elim, inr, Bool, true, false, not, ◌&&◌, ◌||◌, cond, eqb, ltb, List, [], ◌∷◌, ◌++◌, length, get_or, Option, append_assoc, arith}
 use Rattle.std.specs.List.{All, Contains, filter}
+use Rattle.std.specs.List.Sorted.{IsNonDecreasingBy}
 use Rattle.std.specs.Option.{option_or}
 use Rattle.std.proofs.lemmas.Bool.{cases_lt, eq-eqb, eqb-true, lt-ltb, ltb-true, ltb-false}
 use Rattle.std.proofs.lemmas.List.{map-append}
-use Rattle.std.proofs.lemmas.List.Elements.{All-append, All-cons, All-nil, All-filter, filter_passes}
+use Rattle.std.proofs.lemmas.List.Elements.{All-append, All-cons, All-nil, All-filter, All-weaker, filter_passes}
+use Rattle.std.proofs.lemmas.List.Kept.{IsNonDecreasingBy-filter}
 use Rattle.std.proofs.lemmas.Option.{slice_get_within, get_or_from_slice_get}
 use Rattle.rela_flows.specs.declared.prefix.Ipv4Prefix.{Ipv4Prefix}
 use Rattle.rela_prefixes.specs.declared.leaf.Halves.{Halves}
@@ -12,10 +14,10 @@ use Rattle.rela_prefixes.specs.declared.leaf.Leaf.{Leaf}
 use Rattle.rela_prefixes.specs.declared.leaf.Numbered.{Numbered}
 use Rattle.rela_prefixes.specs.Classes.{Adjoin, IsCut}
 use Rattle.rela_prefixes.specs.Holding.{Holds, IsStrictlyWithin}
-use Rattle.rela_prefixes.specs.Inside.{AreInside, IsAbove, IsInside, IsKnown, IsNumbered, LongestAbove, middle_of}
+use Rattle.rela_prefixes.specs.Inside.{AreInside, IsAbove, IsInside, IsKnown, IsNumbered, IsRun, LongestAbove, middle_of, rank}
 use Rattle.rela_prefixes.specs.Leaves.{HasLeaves, IsLeaf, cells}
 use Rattle.rela_prefixes.specs.Longest.{LongestWanted}
-use Rattle.rela_prefixes.specs.Split.{is_low, is_high, IsHere, NoneHere}
+use Rattle.rela_prefixes.specs.Split.{is_low, is_high, IsParted}
 use Rattle.rela_prefixes.proofs.Cells.{size, from_first, before_end, holds_from, holds_own, half_is_size, two_halves}
 use Rattle.rela_prefixes.proofs.Cutting.{UpTo, longest_same, longest_up_to, Contains-filter, leaf_is, uncut_when_empty, uncut_when_one}
 use Rattle.rela_prefixes.proofs.Nesting.{all_held, within_from_first}
@@ -133,12 +135,12 @@ cut_by prefixes cell ns test inside longer some = by (filter test ns) refl
         let passes : test n ≡ true = subst (λ kept. All (λ x. test x ≡ true) kept) e (filter_passes test ns) 0 n (omega arith) in
         (n.number, n.prefix, slice_get_within prefixes n.number n.prefix numbered.at, get_or_from_slice_get prefixes n.number n.prefix n.prefix numbered.at, within_from_first n.prefix cell (longer n numbered passes) numbered.inside.begins)
 
-pub is_cut : (prefixes : List Ipv4Prefix) (cell : Ipv4Prefix) (ns : List Numbered) (parts : Halves) → AreInside prefixes cell ns → parts.low.items ≡ filter (is_low cell.length (middle_of cell)) ns → parts.high.items ≡ filter (is_high cell.length (middle_of cell)) ns
-    → (length parts.low.items ≡ 0 → length parts.high.items ≡ 0 → ⊥) → IsCut prefixes cell
+pub is_cut : (prefixes : List Ipv4Prefix) (cell : Ipv4Prefix) (ns : List Numbered) (parts : Halves) → AreInside prefixes cell ns → parts.low.now ≡ filter (is_low cell.length (middle_of cell)) ns → parts.high.now ≡ filter (is_high cell.length (middle_of cell)) ns
+    → (length parts.low.now ≡ 0 → length parts.high.now ≡ 0 → ⊥) → IsCut prefixes cell
 is_cut prefixes cell ns parts inside l h some = ⊎_elim
     (λ low. cut_by prefixes cell ns (is_low cell.length (middle_of cell)) inside (λ n numbered passes. is_longer n.prefix.length cell.length _ passes numbered.inside.long) (λ none. omega (arith, none, ap length l, low)))
     (λ low. cut_by prefixes cell ns (is_high cell.length (middle_of cell)) inside (λ n numbered passes. is_longer n.prefix.length cell.length _ passes numbered.inside.long) (λ none. some (omega (arith, low)) (ap length h ∙ none)))
-    (cases_lt 0 (length parts.low.items))
+    (cases_lt 0 (length parts.low.now))
 
 -- ---- the leaves
 
@@ -146,25 +148,26 @@ pub Adjoin-append : (from mid to : ℕ) (xs ys : List Ipv4Prefix) → Adjoin fro
 Adjoin-append from mid to [] ys h i = subst (λ f. Adjoin f ys to) (sym h) i
 Adjoin-append from mid to (x ∷ xs) ys h i = (h.0, Adjoin-append (from + 2 ^ (32 - x.length)) mid to xs ys h.1 i)
 
--- what the two halves of a cell's prefixes are, and one that is the cell
-pub record IsParted (cell : Ipv4Prefix) (ns : List Numbered) (parts : Halves) : Type 0 where
-  pub low : parts.low.items ≡ filter (is_low cell.length (middle_of cell)) ns
-  pub high : parts.high.items ≡ filter (is_high cell.length (middle_of cell)) ns
-  pub here : IfSome parts.here (IsHere cell.length ns)
-  pub none : IfNone parts.here (NoneHere cell.length ns)
+-- what is known of a cell has its prefixes in their order
+run_of : (prefixes : List Ipv4Prefix) (cell : Ipv4Prefix) (ns : List Numbered) (above : Option ℕ) → IsKnown prefixes cell ns above → IsRun cell ns
+run_of prefixes cell ns above known = record {
+  within = All-weaker (IsNumbered prefixes cell) (λ n. IsInside cell n.prefix) (λ n numbered. numbered.inside) ns known.inside.each;
+  ranked = known.ranked;
+}
 
-uncut_by : (prefixes : List Ipv4Prefix) (cell : Ipv4Prefix) (ns : List Numbered) (parts : Halves) → AreInside prefixes cell ns → IsParted cell ns parts → (one low high : Bool) → eqb cell.length 32 ≡ one → eqb (length parts.low.items) 0 ≡ low → eqb (length parts.high.items) 0 ≡ high
+uncut_by : (prefixes : List Ipv4Prefix) (cell : Ipv4Prefix) (ns : List Numbered) (parts : Halves) → AreInside prefixes cell ns → IsParted cell ns parts → (one low high : Bool) → eqb cell.length 32 ≡ one → eqb (length parts.low.now) 0 ≡ low → eqb (length parts.high.now) 0 ≡ high
     → (one || (low && high)) ≡ true → All (λ p. ¬ IsStrictlyWithin p cell) prefixes
 uncut_by prefixes cell ns parts inside parted true low high o l h e = uncut_when_one prefixes cell (eqb-true cell.length 32 o)
 uncut_by prefixes cell ns parts inside parted false true true o l h e =
-    uncut_when_empty prefixes cell ns parts.low.items parts.high.items (middle_of cell) inside parted.low parted.high (eqb-true (length parts.low.items) 0 l) (eqb-true (length parts.high.items) 0 h)
+    uncut_when_empty prefixes cell ns parts.low.now parts.high.now (middle_of cell) inside parted.low parted.high (eqb-true (length parts.low.now) 0 l) (eqb-true (length parts.high.now) 0 h)
 uncut_by prefixes cell ns parts inside parted false true false o l h e = absurd (cc)
 uncut_by prefixes cell ns parts inside parted false false high o l h e = absurd (cc)
 
-pub leaf_added : (cell : Ipv4Prefix) (ns : List Numbered) (above longest : Option ℕ) (parts : Halves) (old new : List Leaf) → IsParted cell ns parts → longest ≡ option_or parts.here above → eqb cell.length 32 || (eqb (length parts.low.items) 0 && eqb (length parts.high.items) 0) ≡ true
+pub leaf_added : (cell : Ipv4Prefix) (ns : List Numbered) (above longest : Option ℕ) (parts : Halves) (old new : List Leaf) → (IsRun cell ns → IsParted cell ns parts) → longest ≡ option_or parts.here above → eqb cell.length 32 || (eqb (length parts.low.now) 0 && eqb (length parts.high.now) 0) ≡ true
     → new ≡ old ++ record { cell = cell; longest = longest } ∷ [] → HasLeaves cell ns above old new
 unfolding HasLeaves
-leaf_added cell ns above longest parts old new parted is uncut pushed prefixes known =
+leaf_added cell ns above longest parts old new split is uncut pushed prefixes known =
+    let parted : IsParted cell ns parts = split (run_of prefixes cell ns above known) in
     let none : All (λ p. ¬ IsStrictlyWithin p cell) prefixes = uncut_by prefixes cell ns parts known.inside parted _ _ _ refl refl refl uncut in
     let leaf : Leaf = record { cell = cell; longest = longest } in
     let made : IsLeaf prefixes leaf = subst (λ r. IsLeaf prefixes (record { cell = cell; longest = r })) (sym is) (leaf_is prefixes cell ns above parts.here known parted.here parted.none none) in
@@ -177,21 +180,24 @@ cut_when false b c e x y = let h : (b && c) ≡ true = ap (λ v. v && c) x ∙ y
 pub short_when : (n : ℕ) (rest : Bool) → n ≤ 32 → (eqb n 32 || rest) ≡ false → n < 32
 short_when n rest fits e = ⊎_elim (λ less. less) (λ more. absurd (let same : eqb n 32 ≡ true = eq-eqb n 32 (omega (arith, fits, more)) in let h : (true || rest) ≡ false = ap (λ b. b || rest) (sym same) ∙ e in cc)) (cases_lt n 32)
 
-pub halves_added : (cell low high : Ipv4Prefix) (ns : List Numbered) (above longest : Option ℕ) (parts : Halves) (old mid new : List Leaf) → IsParted cell ns parts → longest ≡ option_or parts.here above
-    → eqb cell.length 32 || (eqb (length parts.low.items) 0 && eqb (length parts.high.items) 0) ≡ false
-    → IsLowHalf cell low → IsHighHalf cell high → HasLeaves low parts.low.items longest old mid → HasLeaves high parts.high.items longest mid new → HasLeaves cell ns above old new
+pub halves_added : (cell low high : Ipv4Prefix) (ns : List Numbered) (above longest : Option ℕ) (parts : Halves) (old mid new : List Leaf) → (IsRun cell ns → IsParted cell ns parts) → longest ≡ option_or parts.here above
+    → eqb cell.length 32 || (eqb (length parts.low.now) 0 && eqb (length parts.high.now) 0) ≡ false
+    → IsLowHalf cell low → IsHighHalf cell high → HasLeaves low parts.low.now longest old mid → HasLeaves high parts.high.now longest mid new → HasLeaves cell ns above old new
 unfolding HasLeaves
-halves_added cell low high ns above longest parts old mid new parted is cut is_low_half is_high_half first second prefixes known =
+halves_added cell low high ns above longest parts old mid new split is cut is_low_half is_high_half first second prefixes known =
+    let parted : IsParted cell ns parts = split (run_of prefixes cell ns above known) in
     let reached : IsCut prefixes cell = is_cut prefixes cell ns parts known.inside parted.low parted.high (λ l h. cut_when _ _ _ cut (eq-eqb _ _ l) (eq-eqb _ _ h)) in
     let at_low : LongestAbove prefixes low longest = subst (λ r. LongestAbove prefixes low r) (sym is) (half_above prefixes cell low _ is_low_half.length_is (longest_up_to prefixes cell ns above parts.here low.address known parted.here parted.none (low_begins cell low is_low_half))) in
     let at_high : LongestAbove prefixes high longest = subst (λ r. LongestAbove prefixes high r) (sym is) (half_above prefixes cell high _ is_high_half.length_is (longest_up_to prefixes cell ns above parts.here high.address known parted.here parted.none (high_begins cell high is_high_half))) in
-    let know_low : IsKnown prefixes low parts.low.items longest = record {
+    let know_low : IsKnown prefixes low parts.low.now longest = record {
       inside = subst (AreInside prefixes low) (sym parted.low) (low_known prefixes cell low ns is_low_half known.inside);
+      ranked = subst (IsNonDecreasingBy rank) (sym parted.low) (IsNonDecreasingBy-filter rank (is_low cell.length (middle_of cell)) ns known.ranked);
       above = at_low;
       reached = inr (cell, record { shorter = is_low_half.length_is; holds = low_begins cell low is_low_half }, reached);
     } in
-    let know_high : IsKnown prefixes high parts.high.items longest = record {
+    let know_high : IsKnown prefixes high parts.high.now longest = record {
       inside = subst (AreInside prefixes high) (sym parted.high) (high_known prefixes cell high ns is_high_half known.inside);
+      ranked = subst (IsNonDecreasingBy rank) (sym parted.high) (IsNonDecreasingBy-filter rank (is_high cell.length (middle_of cell)) ns known.ranked);
       above = at_high;
       reached = inr (cell, record { shorter = is_high_half.length_is; holds = high_begins cell high is_high_half }, reached);
     } in

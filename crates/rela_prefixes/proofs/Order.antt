@@ -2,16 +2,17 @@
 use Rattle.std.proofs.Common.{◌≡◌, ◌∙◌, refl, sym, ap, subst, ℕ, zero, suc, ◌+◌, ◌-◌, ◌^◌, ◌<◌, ◌≤◌, ⊎_elim, inl, List, [], ◌∷◌, ◌++◌, length, get_or, Option, Some, None, arith}
 use Rattle.std.specs.Prelude.{slice_get, option_map}
 use Rattle.std.specs.List.{All, Contains}
-use Rattle.std.specs.List.Sorted.{IsNonDecreasingBy, IsPartitionPoint}
+use Rattle.std.specs.List.Sorted.{IsNonDecreasingBy, IsPartitionPoint, IsPermutation}
 use Rattle.std.proofs.lemmas.Bool.{cases_lt}
 use Rattle.std.proofs.lemmas.List.Elements.{All-cons, All-map, All-weaker}
+use Rattle.std.proofs.lemmas.List.Sorted.{All-permutation, Contains-permutation}
 use Rattle.std.proofs.lemmas.Option.{slice_get-map, slice_get-get_or, slice_get_within, get_or_from_slice_get, none-some, same_Some}
 use Rattle.rela_flows.specs.declared.prefix.Ipv4Prefix.{Ipv4Prefix}
 use Rattle.rela_prefixes.specs.declared.leaf.Leaf.{Leaf}
 use Rattle.rela_prefixes.specs.declared.leaf.Numbered.{Numbered}
 use Rattle.rela_prefixes.specs.Classes.{Adjoin, AreClasses, IsClass, IsInOne, IsParent}
 use Rattle.rela_prefixes.specs.Holding.{Holds, IsStrictlyWithin}
-use Rattle.rela_prefixes.specs.Inside.{AreNumbered, IsAbove, IsInside, IsKnown, IsNumbered}
+use Rattle.rela_prefixes.specs.Inside.{AreNumbered, IsAbove, IsInside, IsKnown, IsNumbered, rank}
 use Rattle.rela_prefixes.specs.Leaves.{AreLeaves, HasLeaves, IsLeaf, cells}
 use Rattle.rela_prefixes.specs.Longest.{Longest, LongestWanted}
 use Rattle.rela_prefixes.proofs.Cells.{size, from_first, before_end, holds_from, holds_own}
@@ -37,25 +38,26 @@ root_above : (prefixes : List Ipv4Prefix) (root : Ipv4Prefix) → root.length �
 unfolding LongestWanted
 root_above prefixes root short k d lt above = absurd (omega (arith, above.short, short))
 
-pub root_known : (prefixes : List Ipv4Prefix) (root : Ipv4Prefix) (ns : List Numbered) → root.address ≡ 0 → root.length ≡ 0 → AreNumbered prefixes ns → IsKnown prefixes root ns None
-root_known prefixes root ns first short numbered = record {
+pub root_known : (prefixes : List Ipv4Prefix) (root : Ipv4Prefix) (ns ranked : List Numbered) → root.address ≡ 0 → root.length ≡ 0 → AreNumbered prefixes ns → IsPermutation ns ranked → IsNonDecreasingBy rank ranked → IsKnown prefixes root ranked None
+root_known prefixes root ns ranked first short numbered same rising = record {
   inside = record {
-    each = numbered_inside prefixes root ns first short numbered;
+    each = All-permutation (IsNumbered prefixes root) ns ranked same (numbered_inside prefixes root ns first short numbered);
     every = λ k p at inside.
         let n : Numbered = record { prefix = p; number = k } in
-        (k, slice_get_within ns k n (numbered.each k p at), get_or_from_slice_get ns k n n (numbered.each k p at));
+        Contains-permutation ns ranked n same (k, slice_get_within ns k n (numbered.each k p at), get_or_from_slice_get ns k n n (numbered.each k p at));
   };
+  ranked = rising;
   above = root_above prefixes root short;
   reached = inl short;
 }
 
-pub leaves_whole : (prefixes : List Ipv4Prefix) (root : Ipv4Prefix) (ns : List Numbered) (old new : List Leaf) → old ≡ [] → root.address ≡ 0 → root.length ≡ 0 → AreNumbered prefixes ns → HasLeaves root ns None old new → AreLeaves prefixes 0 (2 ^ 32) new
+pub leaves_whole : (prefixes : List Ipv4Prefix) (root : Ipv4Prefix) (ns ranked lent : List Numbered) (old new : List Leaf) → old ≡ [] → root.address ≡ 0 → root.length ≡ 0 → AreNumbered prefixes ns → IsPermutation ns ranked → IsNonDecreasingBy rank ranked → lent ≡ ranked → HasLeaves root lent None old new → AreLeaves prefixes 0 (2 ^ 32) new
 unfolding HasLeaves
-leaves_whole prefixes root ns old new none first short numbered has =
-    let made = has prefixes (root_known prefixes root ns first short numbered) in
-    let same : new ≡ made.0 = made.1 ∙ ap (λ xs. xs ++ made.0) none in
+leaves_whole prefixes root ns ranked lent old new none first short numbered same rising is has =
+    let made = has prefixes (subst (λ xs. IsKnown prefixes root xs None) (sym is) (root_known prefixes root ns ranked first short numbered same rising)) in
+    let added : new ≡ made.0 = made.1 ∙ ap (λ xs. xs ++ made.0) none in
     let end : root.address + size root.length ≡ 2 ^ 32 = ap (λ n. root.address + size n) short ∙ ap (λ n. n + 2 ^ 32) first in
-    subst (AreLeaves prefixes 0 (2 ^ 32)) (sym same) (subst (λ f. AreLeaves prefixes f (2 ^ 32) made.0) first (subst (λ t. AreLeaves prefixes root.address t made.0) end made.2))
+    subst (AreLeaves prefixes 0 (2 ^ 32)) (sym added) (subst (λ f. AreLeaves prefixes f (2 ^ 32) made.0) first (subst (λ t. AreLeaves prefixes root.address t made.0) end made.2))
 
 -- ---- the order
 

@@ -1,24 +1,29 @@
--- The loop that splits the prefixes inside a cell.
-use Rattle.std.proofs.Common.{◌≡◌, ◌≢◌, ◌∙◌, refl, sym, ap, ℕ, ◌<◌, ◌≤◌, Bool, true, false, cond, eqb, List, [], ◌∷◌, ◌++◌, Option, Some, None, IfSome, IfNone, arith}
-use Rattle.std.specs.List.{filter}
+-- How the prefixes inside a cell are split, where they come in their order.
+use Rattle.std.proofs.Common.{◌≡◌, ◌≢◌, ◌∙◌, refl, sym, ap, subst, ℕ, zero, suc, ◌+◌, ◌<◌, ◌≤◌, Bool, true, false, cond, eqb, ltb, List, [], ◌∷◌, ◌++◌, length, get_or, take, drop, Option, Some, None, IfSome, IfNone, arith}
+use Rattle.std.specs.Prelude.{slice_get}
+use Rattle.std.specs.List.{All, AllWithin, Contains, filter}
+use Rattle.std.specs.List.Sorted.{IsNonDecreasingBy, IsPartitionPoint, IsPartitionedBy}
 use Rattle.std.proofs.lemmas.Bool.{eq-eqb, false_from_ne_true, eqb-true, lt-ltb, le-ltb}
-use Rattle.std.proofs.lemmas.List.{append-nil}
-use Rattle.std.proofs.lemmas.List.Elements.{filter-append, Contains-append_left, Contains-push, All-push}
+use Rattle.std.proofs.lemmas.List.{append-nil, get_or_append_left, get_or-append-add}
+use Rattle.std.proofs.lemmas.List.Elements.{All-contains, All-drop, All-head, All-more, All-tail, filter-append, Contains-append_left}
+use Rattle.std.proofs.lemmas.List.Sorted.{IsNonDecreasingBy-drop, IsPartitionedBy-ltb}
+use Rattle.rela_flows.specs.declared.prefix.Ipv4Prefix.{Ipv4Prefix}
+use Rattle.rela_prefixes.specs.declared.leaf.Halves.{Halves}
 use Rattle.rela_prefixes.specs.declared.leaf.Numbered.{Numbered}
-use Rattle.rela_prefixes.specs.Split.{is_low, is_high, IsHere, NoneHere}
+use Rattle.rela_prefixes.specs.Inside.{IsInside, IsRun, middle_of, rank}
+use Rattle.rela_prefixes.specs.Split.{is_low, is_high, IsHere, IsParted, NoneHere}
+use Rattle.rela_prefixes.proofs.Cells.{from_first, holds_own}
+use Rattle.rela_prefixes.proofs.Nesting.{same_prefix}
 
--- what was split so far
-pub record IsSplit (length middle : ℕ) (ns low high : List Numbered) (here : Option ℕ) : Type 0 where
-  pub low_is : low ≡ filter (is_low length middle) ns
-  pub high_is : high ≡ filter (is_high length middle) ns
-  pub here_is : IfSome here (IsHere length ns)
-  pub none : IfNone here (NoneHere length ns)
+-- ---- filters
 
-filter_with : {X : Type 0} (p : X → Bool) (xs : List X) (x : X) → p x ≡ true → filter p (xs ++ x ∷ []) ≡ filter p xs ++ x ∷ []
-filter_with p xs x passes = filter-append p xs (x ∷ []) ∙ ap (λ b. filter p xs ++ cond b (x ∷ []) []) passes
+filter_all : {X : Type 0} (p : X → Bool) (xs : List X) → All (λ x. p x ≡ true) xs → filter p xs ≡ xs
+filter_all p [] each = refl
+filter_all p (x ∷ xs) each = ap (λ b. cond b (x ∷ filter p xs) (filter p xs)) (All-head (λ x. p x ≡ true) x xs each) ∙ ap (λ ys. x ∷ ys) (filter_all p xs (All-tail (λ x. p x ≡ true) x xs each))
 
-filter_without : {X : Type 0} (p : X → Bool) (xs : List X) (x : X) → p x ≡ false → filter p (xs ++ x ∷ []) ≡ filter p xs
-filter_without p xs x fails = filter-append p xs (x ∷ []) ∙ ap (λ b. filter p xs ++ cond b (x ∷ []) []) fails ∙ append-nil (filter p xs)
+filter_none : {X : Type 0} (p : X → Bool) (xs : List X) → All (λ x. p x ≡ false) xs → filter p xs ≡ []
+filter_none p [] each = refl
+filter_none p (x ∷ xs) each = ap (λ b. cond b (x ∷ filter p xs) (filter p xs)) (All-head (λ x. p x ≡ false) x xs each) ∙ filter_none p xs (All-tail (λ x. p x ≡ false) x xs each)
 
 other_length : (length : ℕ) (n : Numbered) → n.prefix.length ≢ length → eqb n.prefix.length length ≡ false
 other_length length n other = false_from_ne_true _ (λ same. other (eqb-true _ _ same))
@@ -43,42 +48,91 @@ not_low_above length middle n other above = rw (other_length length n other, le-
 pub high_above : (length middle : ℕ) (n : Numbered) → n.prefix.length ≢ length → middle ≤ n.prefix.address → is_high length middle n ≡ true
 high_above length middle n other above = rw (other_length length n other, le-ltb n.prefix.address middle above) refl
 
--- ---- one more prefix
+-- ---- those of the cell's length come first
 
-here_kept : (length : ℕ) (ns : List Numbered) (n : Numbered) (here : Option ℕ) → IfSome here (IsHere length ns) → IfSome here (IsHere length (ns ++ n ∷ []))
-here_kept length ns n None h = tt
-here_kept length ns n (Some k) h = record { one = h.one; listed = Contains-append_left ns (n ∷ []) h.one h.listed; number_is = h.number_is; length_is = h.length_is }
+-- what is the cell itself
+is_cell : (cell : Ipv4Prefix) (n : Numbered) → IsInside cell n.prefix → n.prefix.length ≡ cell.length → n.prefix.address ≡ cell.address
+is_cell cell n inside same = ap (λ (p : Ipv4Prefix). p.address) (same_prefix n.prefix cell n.prefix.address same (holds_own n.prefix) inside.begins)
 
-none_kept : (length : ℕ) (ns : List Numbered) (n : Numbered) (here : Option ℕ) → n.prefix.length ≢ length → IfNone here (NoneHere length ns) → IfNone here (NoneHere length (ns ++ n ∷ []))
-none_kept length ns n None other h = All-push (λ n. n.prefix.length ≢ length) ns n h other
-none_kept length ns n (Some k) other h = tt
+-- where the first is longer than the cell, all are
+all_longer : (cell : Ipv4Prefix) (ns : List Numbered) → All (λ n. IsInside cell n.prefix) ns → IsNonDecreasingBy rank ns → ((n : Numbered) → slice_get ns 0 ≡ Some n → n.prefix.length ≢ cell.length) → NoneHere cell.length ns
+all_longer cell [] within ranked stops k d lt same = absurd (omega arith)
+all_longer cell (n ∷ ns) within ranked stops k d lt same =
+    let first : IsInside cell n.prefix = within 0 n (omega arith) in
+    let other : n.prefix.length ≢ cell.length = stops n refl in
+    let at : (get_or (n ∷ ns) k d).prefix.address ≡ cell.address = is_cell cell (get_or (n ∷ ns) k d) (within k d lt) same in
+    omega (arith, ranked 0 k d (omega arith) lt, from_first cell n.prefix.address first.begins, first.long, other, at, same)
 
-pub split_none : (length middle : ℕ) (low high : List Numbered) → low ≡ [] → high ≡ [] → IsSplit length middle [] low high None
-split_none length middle low high l h = record { low_is = l; high_is = h; here_is = tt; none = λ k d lt. absurd (omega arith) }
+by_address : (ns : List Numbered) → IsNonDecreasingBy rank ns → IsNonDecreasingBy (λ (n : Numbered). n.prefix.address) ns
+by_address ns ranked i j d le lt = omega (arith, ranked i j d le lt, (get_or ns j d).prefix.length_fits)
 
-pub split_here : (length middle : ℕ) (ns more low high : List Numbered) (here : Option ℕ) (n : Numbered) → more ≡ ns ++ n ∷ [] → IsSplit length middle ns low high here → n.prefix.length ≡ length
-    → IsSplit length middle more low high (Some n.number)
-split_here length middle ns more low high here n is s same = rw is (record {
-  low_is = s.low_is ∙ sym (filter_without (is_low length middle) ns n (not_low_here length middle n same));
-  high_is = s.high_is ∙ sym (filter_without (is_high length middle) ns n (not_high_here length middle n same));
-  here_is = record { one = n; listed = Contains-push ns n; number_is = refl; length_is = same };
-  none = tt;
-})
+-- one more of the cell's length
+pub one_more_here : (same count index : ℕ) (ns : List Numbered) (n : Numbered) → count ≡ index → index < length ns → n ≡ get_or ns index n → n.prefix.length ≡ same → All (λ n. n.prefix.length ≡ same) (take count ns) → All (λ n. n.prefix.length ≡ same) (take (count + 1) ns)
+one_more_here same count index ns n counted lt is long each =
+    All-more (λ (n : Numbered). n.prefix.length ≡ same) ns count n (omega (arith, counted, lt)) each (ap (λ (m : Numbered). m.prefix.length) (ap (λ k. get_or ns k n) counted ∙ sym is) ∙ long)
 
-pub split_low : (length middle : ℕ) (ns more low low' high : List Numbered) (here : Option ℕ) (n : Numbered) → more ≡ ns ++ n ∷ [] → low' ≡ low ++ n ∷ [] → IsSplit length middle ns low high here → n.prefix.length ≢ length → n.prefix.address < middle
-    → IsSplit length middle more low' high here
-split_low length middle ns more low low' high here n is pushed s other below = rw is (record {
-  low_is = pushed ∙ ap (λ xs. xs ++ n ∷ []) s.low_is ∙ sym (filter_with (is_low length middle) ns n (low_below length middle n other below));
-  high_is = s.high_is ∙ sym (filter_without (is_high length middle) ns n (not_high_below length middle n other below));
-  here_is = here_kept length ns n here s.here_is;
-  none = none_kept length ns n here other s.none;
-})
+-- ---- the split
 
-pub split_high : (length middle : ℕ) (ns more low high high' : List Numbered) (here : Option ℕ) (n : Numbered) → more ≡ ns ++ n ∷ [] → high' ≡ high ++ n ∷ [] → IsSplit length middle ns low high here → n.prefix.length ≢ length → middle ≤ n.prefix.address
-    → IsSplit length middle more low high' here
-split_high length middle ns more low high high' here n is pushed s other above = rw is (record {
-  low_is = s.low_is ∙ sym (filter_without (is_low length middle) ns n (not_low_above length middle n other above));
-  high_is = pushed ∙ ap (λ xs. xs ++ n ∷ []) s.high_is ∙ sym (filter_with (is_high length middle) ns n (high_above length middle n other above));
-  here_is = here_kept length ns n here s.here_is;
-  none = none_kept length ns n here other s.none;
-})
+filter_parts : {X : Type 0} (p : X → Bool) (ns here longer low high : List X) → ns ≡ here ++ longer → longer ≡ low ++ high → All (λ x. p x ≡ false) here → filter p ns ≡ filter p low ++ filter p high
+filter_parts p ns here longer low high both halves none =
+    ap (filter p) both ∙ filter-append p here longer ∙ ap (λ xs. xs ++ filter p longer) (filter_none p here none) ∙ ap (filter p) halves ∙ filter-append p low high
+
+front_all : {X : Type 0} (P : X → Type 0) (longer low high : List X) (m : ℕ) → longer ≡ low ++ high → length low ≡ m → AllWithin P longer 0 m → All P low
+front_all P longer low high m is first h k d lt = subst P (ap (λ xs. get_or xs k d) is ∙ get_or_append_left low high d k lt) (h k d (omega arith) (omega (arith, lt, first)))
+
+back_all : {X : Type 0} (P : X → Type 0) (longer low high : List X) (m : ℕ) → longer ≡ low ++ high → length low ≡ m → length high + m ≡ length longer → AllWithin P longer m (length longer) → All P high
+back_all P longer low high m is first total h k d lt =
+    subst P (ap (λ xs. get_or xs (length low + k) d) is ∙ get_or-append-add low high k d) (h (length low + k) d (omega (arith, first)) (omega (arith, lt, first, total)))
+
+get_drop : {X : Type 0} (k : ℕ) (xs : List X) → slice_get (drop k xs) 0 ≡ slice_get xs k
+get_drop zero xs = refl
+get_drop (suc k) [] = refl
+get_drop (suc k) (x ∷ xs) = get_drop k xs
+
+here_found : (length : ℕ) (ns here longer : List Numbered) (found : Option ℕ) → ns ≡ here ++ longer → All (λ n. n.prefix.length ≡ length) here → IfSome found (λ number. (n : Numbered) × Contains here n × (n.number ≡ number)) → IfSome found (IsHere length ns)
+here_found length ns here longer None both same some = tt
+here_found length ns here longer (Some number) both same some = record {
+  one = some.0;
+  listed = subst (λ xs. Contains xs some.0) (sym both) (Contains-append_left here longer some.0 some.1);
+  number_is = some.2;
+  length_is = All-contains (λ (n : Numbered). n.prefix.length ≡ length) here some.0 same some.1;
+}
+
+none_found : (cell : ℕ) (ns here longer : List Numbered) (found : Option ℕ) → ns ≡ here ++ longer → NoneHere cell longer → IfNone found (length here ≡ 0) → IfNone found (NoneHere cell ns)
+none_found cell ns [] longer None both none nowhere = subst (NoneHere cell) (sym both) none
+none_found cell ns (n ∷ here) longer None both none nowhere = absurd (omega (arith, nowhere))
+none_found cell ns here longer (Some number) both none nowhere = tt
+
+-- the prefixes of the cell's length, then those below the middle, then the others
+pub parted : (cell : Ipv4Prefix) (ns here longer low high : List Numbered) (count m : ℕ) (parts : Halves) → IsRun cell ns → ns ≡ here ++ longer → longer ≡ drop count ns → longer ≡ low ++ high → length low ≡ m → length high + m ≡ length longer
+    → All (λ n. n.prefix.length ≡ cell.length) here → ((n : Numbered) → slice_get ns count ≡ Some n → n.prefix.length ≢ cell.length)
+    → (IsPartitionedBy (λ n. ltb n.prefix.address (middle_of cell)) longer → IsPartitionPoint (λ n. n.prefix.address < middle_of cell) (λ n. middle_of cell ≤ n.prefix.address) longer m)
+    → IfSome parts.here (λ number. (n : Numbered) × Contains here n × (n.number ≡ number)) → IfNone parts.here (length here ≡ 0) → parts.low.now ≡ low → parts.high.now ≡ high → IsParted cell ns parts
+parted cell ns here longer low high count m parts run both rest halves first total same stops divides some nowhere l h =
+    let middle : ℕ = middle_of cell in
+    let within : All (λ (n : Numbered). IsInside cell n.prefix) longer = subst (All (λ (n : Numbered). IsInside cell n.prefix)) (sym rest) (All-drop (λ (n : Numbered). IsInside cell n.prefix) count ns run.within) in
+    let ranked : IsNonDecreasingBy rank longer = subst (IsNonDecreasingBy rank) (sym rest) (IsNonDecreasingBy-drop rank count ns run.ranked) in
+    let none : NoneHere cell.length longer = all_longer cell longer within ranked (λ n at. stops n (sym (get_drop count ns) ∙ ap (λ xs. slice_get xs 0) (sym rest) ∙ at)) in
+    let point = divides (IsPartitionedBy-ltb (λ (n : Numbered). n.prefix.address) longer middle (by_address longer ranked)) in
+    let Other : Numbered → Type 0 = λ n. n.prefix.length ≢ cell.length in
+    let none_low : NoneHere cell.length low = front_all Other longer low high m halves first (λ k d lo lt. none k d (omega (arith, lt, total))) in
+    let none_high : NoneHere cell.length high = back_all Other longer low high m halves first total (λ k d lo lt. none k d lt) in
+    let below : All (λ (n : Numbered). n.prefix.address < middle) low = front_all (λ (n : Numbered). n.prefix.address < middle) longer low high m halves first point.0 in
+    let above : All (λ (n : Numbered). middle ≤ n.prefix.address) high = back_all (λ (n : Numbered). middle ≤ n.prefix.address) longer low high m halves first total point.1 in
+    let lows : Numbered → Bool = is_low cell.length middle in
+    let highs : Numbered → Bool = is_high cell.length middle in
+    let low_is : filter lows ns ≡ low =
+    filter_parts lows ns here longer low high both halves (λ k d lt. not_low_here cell.length middle (get_or here k d) (same k d lt))
+    ∙ ap (λ xs. xs ++ filter lows high) (filter_all lows low (λ k d lt. low_below cell.length middle (get_or low k d) (none_low k d lt) (below k d lt)))
+    ∙ ap (λ xs. low ++ xs) (filter_none lows high (λ k d lt. not_low_above cell.length middle (get_or high k d) (none_high k d lt) (above k d lt)))
+    ∙ append-nil low in
+    let high_is : filter highs ns ≡ high =
+    filter_parts highs ns here longer low high both halves (λ k d lt. not_high_here cell.length middle (get_or here k d) (same k d lt))
+    ∙ ap (λ xs. xs ++ filter highs high) (filter_none highs low (λ k d lt. not_high_below cell.length middle (get_or low k d) (none_low k d lt) (below k d lt)))
+    ∙ filter_all highs high (λ k d lt. high_above cell.length middle (get_or high k d) (none_high k d lt) (above k d lt)) in
+    record {
+      low = l ∙ sym low_is;
+      high = h ∙ sym high_is;
+      here = here_found cell.length ns here longer parts.here both same some;
+      none = none_found cell.length ns here longer parts.here both none nowhere;
+    }

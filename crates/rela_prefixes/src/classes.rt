@@ -13,8 +13,8 @@ use std::alloc::{AllocError, Global};
 ///
 /// A class is a prefix of which no given one is a proper part, and which either is all addresses,
 /// or whose parent, one bit shorter, has some given prefix as a proper part. Each address lies in
-/// just one class, and each given prefix holds all addresses of a class or none. Time and space:
-/// linear in the number of prefixes times the 32 bits of an address.
+/// just one class, and each given prefix holds all addresses of a class or none. Time: O(n log n)
+/// in the number of prefixes times the 32 bits of an address; space: linear in the same.
 ///
 /// # Errors
 ///

@@ -21,13 +21,13 @@ pub(crate) struct Numbered {
 }
 
 /// The prefixes inside a cell, by the half in which they lie.
-#[derive(Drop)]
-pub(crate) struct Halves {
+#[derive(Clone, Copy)]
+pub(crate) struct Halves<'a> {
     /// The index in the list of a prefix that is the cell itself, and `None` where none is. Of
-    /// several it is the last.
+    /// several it is the last in their order.
     pub(crate) here: Option<u32>,
-    /// Those in the lower half, in the order of the list.
-    pub(crate) low: Vec<Numbered>,
-    /// Those in the upper half, in the order of the list.
-    pub(crate) high: Vec<Numbered>,
+    /// Those in the lower half, in their order.
+    pub(crate) low: &'a [Numbered],
+    /// Those in the upper half, in their order.
+    pub(crate) high: &'a [Numbered],
 }

@@ -57,33 +57,32 @@ fn middle_of(cell: &Ipv4Prefix) -> u32
 
 /// Whether a cell of this length is a leaf: it is one address, or no prefix is longer than the
 /// cell.
-fn is_uncut(length: u8, parts: &Halves) -> bool
+fn is_uncut(length: u8, parts: &Halves<'_>) -> bool
     ensures { result ≡ is_uncut length parts.now }
 {
     length == 32 || (parts.low.is_empty() && parts.high.is_empty())
 }
 
 /// Appends the leaves of a cell in the order of their addresses. `inside` are the prefixes that lie
-/// inside the cell, and `above` is the index in the list of the longest one that holds it and is
-/// shorter. Time: linear in the prefixes inside times the bits of an address that the cell leaves
-/// open.
+/// inside the cell, in the order of their addresses, and of one address the shorter first; `above`
+/// is the index in the list of the longest one that holds the cell and is shorter. Time: linear in
+/// the prefixes inside, and for each cell above a leaf a binary search among them.
 pub(crate) fn push_leaves(
     alloc: Global,
     cell: Ipv4Prefix,
-    inside: Vec<Numbered>,
+    inside: &[Numbered],
     above: Option<u32>,
     leaves: &mut Vec<Leaf>,
 ) -> Result<(), AllocError>
-    ensures { OnOk result (HasLeaves cell inside.items above leaves.old.items leaves.new.items) }
+    ensures { OnOk result (HasLeaves cell inside.now above leaves.old.items leaves.new.items) }
 {
     let middle = middle_of(&cell);
-    let parts = split(alloc, inside.as_slice(), cell.length, middle)?;
+    let parts = split(inside, cell.length, middle);
     let longest = parts.here.or(above);
     if is_uncut(cell.length, &parts) {
         leaves.push(Leaf { cell, longest })?;
         return Ok(());
     }
-    drop(inside);
     push_leaves(alloc, low_half(&cell), parts.low, longest, leaves)?;
     push_leaves(alloc, high_half(&cell), parts.high, longest, leaves)?;
     Ok(())

@@ -1,36 +1,67 @@
 //! The prefixes inside a cell of the trie, split by the half of the cell in which they lie.
 
-ghost use Rattle.std.specs.Prelude.{◌≡◌, ◌≢◌, ◌&&◌, not, nat_lt, ◌==◌, filter, IfOk, IfSome, IfNone};
+ghost use Rattle.std.specs.Prelude.{◌≡◌, ◌≢◌, ◌<◌, ◌≤◌, ℕ, Some, IfSome, IfNone, length as len, nat_lt, slice_get, take};
 ghost use Rattle.std.specs.List.{All, Contains};
-ghost use Rattle.rela_prefixes.specs.Split.{is_low, is_high, IsHere, NoneHere};
+ghost use Rattle.std.specs.List.Sorted.{IsPartitionPoint, IsPartitionedBy};
+ghost use Rattle.rela_flows.specs.declared.prefix.Ipv4Prefix.{Ipv4Prefix};
+ghost use Rattle.rela_prefixes.specs.declared.leaf.Numbered.{Numbered};
+ghost use Rattle.rela_prefixes.specs.Inside.{IsRun, middle_of};
+ghost use Rattle.rela_prefixes.specs.Split.{IsHere, IsParted};
 
 use crate::leaf::{Halves, Numbered};
-use std::alloc::{AllocError, Global};
 
-/// Splits the prefixes inside a cell of this length whose upper half begins at `middle`, in one
-/// pass that keeps their order.
-pub(crate) fn split(
-    alloc: Global,
-    inside: &[Numbered],
-    length: u8,
-    middle: u32,
-) -> Result<Halves, AllocError>
-    ensures low { IfOk result (λ s. s.low.items ≡ filter (is_low length middle) inside.now) }
-    ensures high { IfOk result (λ s. s.high.items ≡ filter (is_high length middle) inside.now) }
-    ensures here { IfOk result (λ s. IfSome s.here (IsHere length inside.now)) }
-    ensures none { IfOk result (λ s. IfNone s.here (NoneHere length inside.now)) }
+/// Splits the prefixes inside a cell of this length whose upper half begins at `middle`, where they
+/// come in the order of their addresses, and of one address the shorter first. Time: linear in
+/// those that are the cell, and a binary search among the others.
+pub(crate) fn split<'a>(inside: &'a [Numbered], length: u8, middle: u32) -> Halves<'a>
+    ensures { (cell : Ipv4Prefix) → cell.length ≡ length → middle_of cell ≡ middle →
+        IsRun cell inside.now → IsParted cell inside.now result }
 {
-    let mut here = None;
-    let mut low = Vec::new(alloc);
-    let mut high = Vec::new(alloc);
-    for numbered in inside {
-        if numbered.prefix.length == length {
-            here = Some(numbered.number);
-        } else if numbered.prefix.address < middle {
-            low.push(*numbered)?;
-        } else {
-            high.push(*numbered)?;
-        }
+    let (here, longer) = inside.split_at(count_here(inside, length));
+    let (low, high) = longer.split_at(count_below(longer, middle));
+    Halves {
+        here: last_number(here),
+        low,
+        high,
     }
-    Ok(Halves { here, low, high })
+}
+
+/// How many prefixes of this length come before the first of another length.
+fn count_here(inside: &[Numbered], length: u8) -> usize
+    ensures within { result ≤ len inside.now }
+    ensures same { All (λ n. n.prefix.length ≡ length) (take result inside.now) }
+    ensures stops { (n : Numbered) → slice_get inside.now result ≡ Some n
+        → n.prefix.length ≢ length }
+{
+    let mut count = 0;
+    for numbered in inside {
+        if numbered.prefix.length != length {
+            return count;
+        }
+        count += 1;
+    }
+    count
+}
+
+/// How many of these prefixes begin below an address, where those come first. Time: a binary
+/// search.
+fn count_below(longer: &[Numbered], middle: u32) -> usize
+    ensures within { result ≤ len longer.now }
+    ensures parted { IsPartitionedBy (λ n. nat_lt n.prefix.address middle) longer.now →
+        IsPartitionPoint (λ n. n.prefix.address < middle) (λ n. middle
+        ≤ n.prefix.address) longer.now result }
+{
+    longer.partition_point(|numbered| numbered.prefix.address < middle)
+}
+
+/// The index in the list of the last of these prefixes.
+fn last_number(here: &[Numbered]) -> Option<u32>
+    ensures some { IfSome result (λ number. (n : Numbered) × Contains here.now n
+        × (n.number ≡ number)) }
+    ensures none { IfNone result (len here.now ≡ 0) }
+{
+    match here.last() {
+        Some(numbered) => Some(numbered.number),
+        None => None,
+    }
 }

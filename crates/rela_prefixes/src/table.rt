@@ -1,8 +1,8 @@
 //! The longest prefix that holds an address.
 
 ghost use Rattle.std.specs.Prelude.{◌≡◌, ◌<◌, ◌≤◌, ◌^◌, IfOk, length};
-ghost use Rattle.std.specs.List.Sorted.{IsNonDecreasingBy, IsPartitionPoint};
-ghost use Rattle.rela_prefixes.specs.Inside.{AreNumbered};
+ghost use Rattle.std.specs.List.Sorted.{IsNonDecreasingBy, IsPartitionPoint, IsPermutation};
+ghost use Rattle.rela_prefixes.specs.Inside.{AreNumbered, rank};
 ghost use Rattle.rela_prefixes.specs.Leaves.{AreLeaves};
 ghost use Rattle.rela_prefixes.specs.Longest.{Longest};
 
@@ -41,8 +41,8 @@ impl Model for PrefixTable {
 }
 
 impl PrefixTable {
-    /// The table of these prefixes. Of equal prefixes any one may be answered. Time and space:
-    /// linear in their number times the 32 bits of an address.
+    /// The table of these prefixes. Of equal prefixes any one may be answered. Time: O(n log n) in
+    /// their number times the 32 bits of an address; space: linear in the same.
     ///
     /// # Errors
     ///
@@ -85,9 +85,34 @@ pub(crate) fn leaves_of(alloc: Global, prefixes: &[Ipv4Prefix]) -> Result<Vec<Le
     ensures { IfOk result (λ leaves. AreLeaves prefixes.now 0 (2 ^ 32) leaves.items) }
 {
     let mut leaves = Vec::new(alloc);
-    let inside = numbered(alloc, prefixes)?;
-    push_leaves(alloc, Ipv4Prefix::all(), inside, None, &mut leaves)?;
+    let listed = numbered(alloc, prefixes)?;
+    let inside = ranked(listed);
+    push_leaves(
+        alloc,
+        Ipv4Prefix::all(),
+        inside.as_slice(),
+        None,
+        &mut leaves,
+    )?;
     Ok(leaves)
+}
+
+/// These prefixes in the order of their addresses, and of one address the shorter first. Time:
+/// O(n log n); no memory is taken.
+fn ranked(numbered: Vec<Numbered>) -> Vec<Numbered>
+    ensures ranked { IsNonDecreasingBy rank result.items }
+    ensures same { IsPermutation numbered.items result.items }
+{
+    let mut numbered = numbered;
+    numbered.sort_unstable_by_key(|one| rank_of(one));
+    numbered
+}
+
+/// The place of a prefix in that order, as a number.
+fn rank_of(numbered: &Numbered) -> u64
+    ensures { result ≡ rank numbered.now }
+{
+    u64::from(numbered.prefix.address) * 64 + u64::from(numbered.prefix.length)
 }
 
 /// The prefixes with their indexes in the list.

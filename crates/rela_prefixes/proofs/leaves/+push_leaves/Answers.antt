@@ -1,31 +1,15 @@
 use Rattle.std.proofs.Common.{◌∙◌, sym, refl}
-use Rattle.rela_prefixes.proofs.Halving.{IsParted, IsLowHalf, IsHighHalf, leaf_added, halves_added, short_when}
+use Rattle.rela_prefixes.proofs.Halving.{IsLowHalf, IsHighHalf, leaf_added, halves_added, short_when}
 use Rattle.rela_prefixes.proofs.leaves.+push_leaves.Goals as goal
 
 pub returns-then-is_uncut : goal.returns-then-is_uncut
 returns-then-is_uncut t c =
-    let parts = c.in_ok-parts.parts in
-    let middle = c.middle_of-middle.ensures in
-    let parted : IsParted c.args.cell c.args.inside.items parts = record {
-      low = c.in_ok-parts.ensures.low ∙ (rw (middle, c.as_slice.ensures.value) refl);
-      high = c.in_ok-parts.ensures.high ∙ (rw (middle, c.as_slice.ensures.value) refl);
-      here = rw (sym c.as_slice.ensures.value) c.in_ok-parts.ensures.here;
-      none = rw (sym c.as_slice.ensures.value) c.in_ok-parts.ensures.none;
-    } in
-    leaf_added _ _ _ _ parts _ _ parted c.or-longest.ensures (sym c.is_uncut.ensures ∙ c.if-is_uncut.true) c.in_ok-push.ensures.items
+    leaf_added _ _ _ _ c.split-parts.result _ _ (c.split-parts.ensures c.args.cell refl (sym c.middle_of-middle.ensures)) c.or-longest.ensures (sym c.is_uncut.ensures ∙ c.if-is_uncut.true) c.in_ok-push.ensures.items
 
 pub returns : goal.returns
 returns t c =
-    let parts = c.in_ok-parts.parts in
-    let middle = c.middle_of-middle.ensures in
-    let parted : IsParted c.args.cell c.args.inside.items parts = record {
-      low = c.in_ok-parts.ensures.low ∙ (rw (middle, c.as_slice.ensures.value) refl);
-      high = c.in_ok-parts.ensures.high ∙ (rw (middle, c.as_slice.ensures.value) refl);
-      here = rw (sym c.as_slice.ensures.value) c.in_ok-parts.ensures.here;
-      none = rw (sym c.as_slice.ensures.value) c.in_ok-parts.ensures.none;
-    } in
     let cut = sym c.is_uncut.ensures ∙ c.if-is_uncut.false in
     let short = short_when c.args.cell.length _ c.args.cell.length_fits cut in
     let low : IsLowHalf c.args.cell c.low_half.result = record { short = short; address = c.low_half.ensures.address; length_is = c.low_half.ensures.length } in
     let high : IsHighHalf c.args.cell c.high_half.result = record { short = short; address = c.high_half.ensures.address; length_is = c.high_half.ensures.length } in
-    halves_added _ _ _ _ _ _ parts _ _ _ parted c.or-longest.ensures cut low high c.in_ok-push_leaves.ensures c.in_ok-push_leaves-2.ensures
+    halves_added _ _ _ _ _ _ c.split-parts.result _ _ _ (c.split-parts.ensures c.args.cell refl (sym c.middle_of-middle.ensures)) c.or-longest.ensures cut low high c.in_ok-push_leaves.ensures c.in_ok-push_leaves-2.ensures

@@ -1,19 +1,17 @@
-use Rattle.std.proofs.Common.{◌≡◌, ◌∙◌, ◌+◌, sym, ap, take, ◌++◌, ◌∷◌, []}
-use Rattle.std.proofs.lemmas.List.{take_more}
-use Rattle.rela_prefixes.proofs.Splitting.{split_none, split_here, split_low, split_high}
+use Rattle.std.proofs.Common.{◌≡◌, ◌∙◌, ◌<◌, ◌≤◌, ltb, refl, sym, subst}
+use Rattle.std.specs.List.{All}
+use Rattle.std.specs.List.Sorted.{IsPartitionPoint, IsPartitionedBy}
+use Rattle.rela_prefixes.specs.declared.leaf.Numbered.{Numbered}
+use Rattle.rela_prefixes.proofs.Splitting.{parted}
 use Rattle.rela_prefixes.proofs.split.split.Goals as goal
-use Rattle.rela_prefixes.proofs.split.split.Goals.{then-numbered-length, else-numbered-length+then-numbered-middle+in_ok-push, else-numbered-length+else-numbered-middle+in_ok-push-2}
 
-pub loop-numbered-init : goal.loop-numbered-init
-loop-numbered-init c = split_none _ _ _ _ c.new-low.ensures.items c.new-high.ensures.items
-
-pub loop-numbered-preserved : goal.loop-numbered-preserved
-loop-numbered-preserved c =
-    let i = c.loop-numbered.numbered-index in
-    let n = c.numbered-item.result in
-    let more : take (i + 1) c.args.inside.now ≡ take i c.args.inside.now ++ n ∷ [] = take_more c.args.inside.now i n c.loop-numbered-test.true ∙ ap (λ x. take i c.args.inside.now ++ x ∷ []) (sym c.numbered-item.is) in
-    elim c.if-numbered-length.branch [
-      | then-numbered-length w ↦ rw (w.here-is, w.low-is, w.high-is) (split_here _ _ _ _ _ _ _ n more c.loop-numbered.invariant w.if-numbered-length.true)
-      | else-numbered-length+then-numbered-middle+in_ok-push w ↦ rw (w.here-is, w.low-is, w.high-is) (split_low _ _ _ _ _ _ _ _ n more w.in_ok-push.ensures.items c.loop-numbered.invariant w.if-numbered-length.false w.if-numbered-middle.true)
-      | else-numbered-length+else-numbered-middle+in_ok-push-2 w ↦ rw (w.here-is, w.low-is, w.high-is) (split_high _ _ _ _ _ _ _ _ n more w.in_ok-push-2.ensures.items c.loop-numbered.invariant w.if-numbered-length.false w.if-numbered-middle.false)
-    ]
+pub returns : goal.returns
+returns c = λ cell long mid run.
+    let longer = c.split_at.result.1.now in
+    parted cell c.args.inside.now c.split_at.result.0.now longer c.split_at-2.result.0.now c.split_at-2.result.1.now c.count_here.result c.count_below.result _ run c.split_at.ensures.by_index.0 c.split_at.ensures.back c.split_at-2.ensures.by_index.0
+    c.split_at-2.ensures.front_len c.split_at-2.ensures.back_len
+    (subst (All (λ (n : Numbered). n.prefix.length ≡ cell.length)) (sym c.split_at.ensures.front) (λ k d lt. c.count_here.ensures.same k d lt ∙ sym long))
+    (λ n at same. c.count_here.ensures.stops n at (same ∙ long))
+    (λ divided. subst (λ middle. IsPartitionPoint (λ (n : Numbered). n.prefix.address < middle) (λ n. middle ≤ n.prefix.address) longer c.count_below.result) (sym mid)
+    (c.count_below.ensures.parted (subst (λ middle. IsPartitionedBy (λ (n : Numbered). ltb n.prefix.address middle) longer) mid divided)))
+    c.last_number.ensures.some c.last_number.ensures.none refl refl
