@@ -9,5 +9,7 @@ pub mod PairLaws
 pub mod PairLoops
 pub mod PartnerLaws
 pub mod Places
+pub mod PlainLaws
+pub mod PlainLoops
 pub mod SameClass
 pub mod StepLaws

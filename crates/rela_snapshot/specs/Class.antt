@@ -20,6 +20,12 @@ use Rattle.rela_json.specs.Fields.{part_of, string_of}
 unfoldable pub name_of : ℕ → List ℕ → Result (List ℕ) LoadError
 name_of row bytes = if is_name bytes then Ok bytes else Err (BadName row)
 
+-- the same, where no earlier flow has that name
+unfoldable pub unused_name_of : List (List ℕ) → ℕ → List ℕ → Result (List ℕ) LoadError
+unused_name_of names row bytes = do
+  name ← name_of row bytes
+  if has_name names name then Err (RepeatedEntry row) else Ok name
+
 -- a flow's name
 unfoldable pub flow_name_of : FlowRules → ℕ → Data → Result (List ℕ) LoadError
 flow_name_of rules row d = do

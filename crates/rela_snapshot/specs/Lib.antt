@@ -13,6 +13,7 @@ pub mod Numbered
 pub mod Pair
 pub mod PairsLocated
 pub mod Partners
+pub mod Plain
 pub mod SnapshotFlows
 pub mod Steps
 pub mod Stored

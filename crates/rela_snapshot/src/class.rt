@@ -16,7 +16,7 @@ use rela_names::{Name, NameError};
 use std::alloc::Global;
 
 /// The name of the class of a flow whose file leaves it out.
-const DEFAULT_CLASS: &[u8] = b"default";
+pub(crate) const DEFAULT_CLASS: &[u8] = b"default";
 
 /// The family of an address or a prefix.
 #[derive(Clone, Copy)]
@@ -37,9 +37,8 @@ const ALL_IPV6: &[u8] = b"::/0";
 ///
 /// # Errors
 ///
-/// `WrongShape` where the flow is no object or its name no string; else `BadName` where it is not 1
-/// to 64 name bytes; else `RepeatedEntry` where an earlier flow has it; `Memory`.
-#[tactic(auto, unfolding(crate::specs::Class::flow_name_of, crate::specs::Class::new_name_of))]
+/// `WrongShape` where the flow is no object or its name no string; otherwise those of [`add_name`].
+#[tactic(auto, unfolding(crate::specs::Class::new_name_of, crate::specs::Class::flow_name_of, crate::specs::Class::unused_name_of))]
 pub(crate) fn read_name<'a>(
     alloc: Global,
     names: &mut NameTable<'a>,
@@ -56,6 +55,29 @@ pub(crate) fn read_name<'a>(
     ensures distinct { OnOk result (AreDistinct names.new) }
 {
     let bytes = string(part(value, "name", rules.flow, row)?, rules.name, row)?;
+    add_name(alloc, names, bytes, row)
+}
+
+/// The name of these bytes, which goes into the table, and which no earlier flow has.
+///
+/// # Errors
+///
+/// `BadName` where they are not 1 to 64 name bytes; else `RepeatedEntry` where an earlier flow has
+/// the name; `Memory`.
+#[tactic(auto, unfolding(crate::specs::Class::unused_name_of))]
+pub(crate) fn add_name<'a>(
+    alloc: Global,
+    names: &mut NameTable<'a>,
+    bytes: &'a [u8],
+    row: u32,
+) -> Result<Name, LoadError>
+    requires few { length names.old < MAX_FLOWS }
+    ensures name { IfOk result (λ name. spec.unused_name_of names.old row bytes.now ≡ Ok name) }
+    ensures fault { IfErr result (λ e. e ≢ LoadError.Memory →
+        spec.unused_name_of names.old row bytes.now ≡ Err e) }
+    ensures names { IfOk result (λ name. names.new ≡ names.old ++ name ∷ []) }
+    ensures distinct { OnOk result (AreDistinct names.new) }
+{
     let name = name_of(alloc, bytes, row)?;
     if !names.add(bytes)? {
         return Err(LoadError::RepeatedEntry { row });
@@ -119,7 +141,7 @@ fn src_text(value: &Value, family: Family, rules: FlowRules, row: u32) -> Result
 }
 
 /// The text of the prefix of all addresses of a family.
-fn whole_family(family: Family) -> &'static [u8]
+pub(crate) fn whole_family(family: Family) -> &'static [u8]
     ensures { result.now ≡ spec.whole_family family }
 {
     match family {
@@ -134,7 +156,7 @@ fn whole_family(family: Family) -> &'static [u8]
 ///
 /// `BadPrefix` where the text writes no such prefix.
 #[tactic(auto, unfolding(crate::specs::Class::IsPrefixOf))]
-fn prefix_of(text: &[u8], wanted: Option<Family>, row: u32) -> Result<Prefix, LoadError>
+pub(crate) fn prefix_of(text: &[u8], wanted: Option<Family>, row: u32) -> Result<Prefix, LoadError>
     ensures { IsAnswer (spec.IsPrefixOf wanted row text.now) result }
 {
     let Some(prefix) = Prefix::parse(text) else {
@@ -157,7 +179,7 @@ fn family_in(version: Version) -> Option<Family>
 }
 
 /// The family of a prefix.
-fn family_of(prefix: &Prefix) -> Family
+pub(crate) fn family_of(prefix: &Prefix) -> Family
     ensures { result ≡ spec.family_of prefix.now }
 {
     match prefix {

@@ -10,6 +10,7 @@ ghost use Rattle.rela_snapshot.specs.Located.{AreLocated};
 ghost use Rattle.rela_snapshot.specs.SnapshotFlows.{AreSnapshotFlows};
 ghost use Rattle.rela_snapshot.specs.Steps.{IsAnswer};
 
+use crate::plain::read_plain;
 use crate::walk::read_snapshot;
 use rela_flows::FlowClass;
 use rela_graph::Graph;
@@ -95,6 +96,9 @@ impl Snapshot {
         ensures located { IfOk result (λ snapshot. (level : Level) →
             AreLocated (alphabet_of level locations.now) level snapshot) }
     {
+        if let Ok(flows) = read_plain(alloc, locations, bytes) {
+            return Ok(Snapshot { flows });
+        }
         let root = read(alloc, bytes)?;
         let flows = read_snapshot(alloc, locations, &root)?;
         Ok(Snapshot { flows })

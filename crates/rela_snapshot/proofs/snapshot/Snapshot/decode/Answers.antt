@@ -4,6 +4,12 @@ use Rattle.rela_snapshot.proofs.FlowLaws.{json_fault, has_json}
 use Rattle.rela_snapshot.proofs.Levels.{located_at}
 use Rattle.rela_snapshot.proofs.snapshot.Snapshot.decode.Goals as goal
 
+pub returns-in-Ok-clause-load : goal.returns-in-Ok-clause-load
+returns-in-Ok-clause-load c = c.in-Ok.ensures.flows
+
+pub returns-in-Ok-clause-located : goal.returns-in-Ok-clause-located
+returns-in-Ok-clause-located c level = located_at c.args.locations.now c.in-Ok.flows.items level c.in-Ok.ensures.located
+
 pub returns-in_err-root-clause-fault : goal.returns-in_err-root-clause-fault
 returns-in_err-root-clause-fault c =
     let made = err_from_is_err_and c.from_residual.result c.from_residual.ensures.1 in
