@@ -4,16 +4,16 @@ use Rattle.std.specs.Prelude.{◌↔◌, nat_lt, Contains, IfNone, IfOk, IfSome}
 use Rattle.std.specs.List.{All}
 use Rattle.std.proofs.lemmas.List.{length-map}
 use Rattle.std.proofs.lemmas.List.Elements.{All-head, All-tail}
-use Rattle.serde_json.specs.Data.{Data, no_members, string, array}
+use Rattle.serde_json.specs.Data.{Data, no_members, string}
 use Rattle.serde_json.specs.Find.{get_member}
 use Rattle.serde_json.specs.View.{items_of}
 use Rattle.rela_json.specs.declared.error.ListError.TheVariants.{Index}
 use Rattle.rela_json.specs.declared.error.LoadError.{LoadError}
-use Rattle.rela_json.specs.declared.error.LoadError.TheVariants.{RepeatedEntry, TooMany, WrongShape}
+use Rattle.rela_json.specs.declared.error.LoadError.TheVariants.{TooMany}
 use Rattle.rela_json.specs.Fields.{entries_of, few_entries_of, part_of, string_of, two_entries_of, whole_number_of}
 use Rattle.rela_json.specs.Indexes.{index_of}
 use Rattle.rela_json.specs.Parts.{list_of as entries_in, member_of}
-use Rattle.rela_json.specs.Results.{◌>>=◌, ok_or, try_map}
+use Rattle.rela_json.specs.Results.{◌>>=◌, try_map}
 use Rattle.rela_flows.specs.declared.prefix.Prefix.{Prefix}
 use Rattle.rela_graph.specs.declared.node.Link.{Link}
 use Rattle.rela_graph.specs.declared.node.Node.{Node}
@@ -29,7 +29,7 @@ use Rattle.rela_tokens.specs.declared.piece.Member.{Member}
 use Rattle.rela_snapshot.specs.declared.class.Family.{Family}
 use Rattle.rela_snapshot.specs.declared.class.Family.TheVariants.{Ipv4}
 use Rattle.rela_snapshot.specs.declared.version.Version.TheVariants.{One}
-use Rattle.rela_snapshot.specs.Class.{IsPrefixOf, class_name_of, class_of, dst_text_of, family_of, flow_name_of, name_of, new_name_of, src_text_of, text_or_whole, unused_name_of, whole_family}
+use Rattle.rela_snapshot.specs.Class.{IsPrefixOf, class_name_of, class_of, dst_text_of, family_of, flow_name_of, name_of, new_name_of, src_text_of, unused_name_of, whole_family}
 use Rattle.rela_snapshot.specs.declared.snapshot.Flow.{Flow}
 use Rattle.rela_snapshot.specs.FlowEntry.{ListedFlow, graph_of, next_name_of}
 use Rattle.rela_snapshot.specs.Flows.{IsDst, IsFlow, IsFlowNamed, IsFlowOf, IsSrc}

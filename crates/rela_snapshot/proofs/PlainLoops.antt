@@ -1,6 +1,6 @@
 -- The flows of a plain file, one behind another, and the file around them.
-use Rattle.std.proofs.Common.{◌≡◌, ◌∙◌, refl, sym, ap, subst, ℕ, ◌+◌, ◌≤◌, List, [], ◌∷◌, ◌++◌, append-nil, append_assoc, Bool, cond, Option, Some, None, Result, Ok, codes, arith}
-use Rattle.std.specs.Str.{IsUtf8, is_utf8}
+use Rattle.std.proofs.Common.{◌≡◌, ◌∙◌, refl, sym, ap, subst, ℕ, ◌+◌, ◌≤◌, List, [], ◌∷◌, ◌++◌, append-nil, append_assoc, Bool, cond, Some, None, Ok, codes, arith}
+use Rattle.std.specs.Str.{IsUtf8}
 use Rattle.std.proofs.lemmas.Str.{is_utf8-from_IsUtf8}
 use Rattle.json.specs.Json.{after_end_array, read_key}
 use Rattle.json.specs.Lex.{tokens}
@@ -14,11 +14,10 @@ use Rattle.rela_tokens.specs.Holds.{Holds, HoldsAll, HoldsMembers}
 use Rattle.rela_tokens.specs.Objects.{object_of}
 use Rattle.rela_tokens.specs.Pieces.{list, whole}
 use Rattle.rela_snapshot.specs.declared.snapshot.Flow.{Flow}
-use Rattle.rela_snapshot.specs.declared.version.Version.{Version}
 use Rattle.rela_snapshot.specs.declared.version.Version.TheVariants.{One}
 use Rattle.rela_snapshot.specs.Contents.{contents_of}
 use Rattle.rela_snapshot.specs.FlowEntry.{ListedFlow}
-use Rattle.rela_snapshot.specs.Flows.{AreFlows, AreFlowsOf, IsFlow, IsFlowOf}
+use Rattle.rela_snapshot.specs.Flows.{AreFlows, AreFlowsOf}
 use Rattle.rela_snapshot.specs.Load.{Load}
 use Rattle.rela_snapshot.specs.Plain.{ArePlainFlows, IsPlainFlow, Opens}
 use Rattle.rela_snapshot.specs.SnapshotFlows.{names_of}

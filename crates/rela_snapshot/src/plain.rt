@@ -77,13 +77,7 @@ fn take_key(reader: &mut Reader<'_>, name: &str) -> Result<(), Unread>
     ensures { OnOk result (reader.old ≡ key_token name.now ∷ reader.new) }
 {
     match reader.next() {
-        Some(Token::Key(key)) => {
-            if key == name {
-                Ok(())
-            } else {
-                Err(Unread)
-            }
-        }
+        Some(Token::Key(key)) => { if key == name { Ok(()) } else { Err(Unread) } }
         _ => Err(Unread),
     }
 }

@@ -37,14 +37,7 @@ pub(crate) fn graph_in(
     let starts = list_in(members, "starts", count)?;
     let delivered = optional_list_in(members, "delivered", count)?;
     let dropped = optional_list_in(members, "dropped", count)?;
-    Ok(Graph::new(
-        alloc,
-        nodes,
-        edges.as_slice(),
-        starts,
-        delivered,
-        dropped,
-    )?)
+    Ok(Graph::new(alloc, nodes, edges.as_slice(), starts, delivered, dropped)?)
 }
 
 /// The nodes that the member `nodes` lists.
@@ -109,12 +102,7 @@ fn edges_in(
 }
 
 /// The edges between the nodes of these numbers, in order.
-fn links_of(
-    alloc: Global,
-    pairs: &[(u32, u32)],
-    count: u32,
-    row: u32,
-) -> Result<Vec<Link>, Unread>
+fn links_of(alloc: Global, pairs: &[(u32, u32)], count: u32, row: u32) -> Result<Vec<Link>, Unread>
     ensures edges { IfOk result (λ edges.
         try_map (spec.edge_of count row) (map pair pairs.now) ≡ Ok edges.items) }
     ensures len { IfOk result (λ edges. vec_len edges ≡ length pairs.now) }

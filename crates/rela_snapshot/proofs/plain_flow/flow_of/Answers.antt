@@ -1,4 +1,3 @@
-use Rattle.std.proofs.Common.{◌≡◌}
 use Rattle.rela_snapshot.proofs.PlainLaws.{plain_named}
 use Rattle.rela_snapshot.proofs.plain_flow.flow_of.Goals as goal
 
