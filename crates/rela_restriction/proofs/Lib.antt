@@ -1,0 +1,3 @@
+pub mod MovedSets
+pub mod ActWords
+pub mod Covering
