@@ -36,3 +36,4 @@ pub mod PlainPartitions
 pub mod RightLeaves
 pub mod ByShortlex
 pub mod OneMinimal
+pub mod MetOn

@@ -14,3 +14,4 @@ pub mod Spelled
 pub mod Leaves
 pub mod PlainBlocks
 pub mod Compared
+pub mod Differing

@@ -2,15 +2,18 @@
 ghost use Rattle.std.specs.Prelude.{◌≡◌, ◌≢◌, ◌≤◌, ◌<◌, ◌↔◌, IfOk, IfErr, IfSome, IfNone};
 ghost use Rattle.std.specs.Prelude.{IsTrue, IsFalse, IsSome, Some, None, All, length};
 ghost use Rattle.std.specs.Option.{ForSome};
+ghost use Rattle.rela_labels.specs.Partition.{block_count};
 ghost use Rattle.rela_names.specs.Alphabet.{path_symbols};
 ghost use Rattle.rela_translate.specs.Zones.{Before, After};
 ghost use Rattle.rela_engine.specs.Blocks.{AreBlocks};
 ghost use Rattle.rela_engine.specs.Compilation.{AreRelations, IsCompiled, MustPassLimit, PassesLimit};
+ghost use Rattle.rela_engine.specs.Differing.{AreDifferences, SamePairsOn};
 ghost use Rattle.rela_engine.specs.Reading.{Realises};
 ghost use Rattle.rela_engine.specs.Scenes.{lettering_of};
 ghost use Rattle.rela_engine.specs.Sides.{SamePairs, TreatsSidesAlike};
 
 use crate::blocks::blocks_of;
+use crate::differing::{Differing, compare_relations};
 use crate::markers::count_markers;
 use crate::relation::relation_of;
 use crate::relations::Relations;
@@ -40,12 +43,18 @@ pub struct Compiled<'a> {
     relations: Option<Relations>,
     /// Whether no unit of the check asks for a change.
     alike: bool,
+    /// Where its relations differ; `None` where they serve both sides, are too large to be compared,
+    /// or weren't made.
+    differing: Option<Differing>,
 }
 
 impl<'a> Model for Compiled<'a> {
     ghost use Rattle.std.specs.Prelude.{◌↔◌, IsTrue};
+    ghost use Rattle.std.specs.Option.{ForSome};
     ghost use Rattle.rela_engine.specs.Compilation.{Compilation, IsCompiled};
+    ghost use Rattle.rela_engine.specs.Differing.{AreDifferences};
     ghost use Rattle.rela_engine.specs.Sides.{TreatsSidesAlike};
+    ghost use Rattle.rela_translate.specs.Zones.{Before, After};
 
     ghost Value = { Compilation };
 
@@ -68,7 +77,10 @@ impl<'a> Model for Compiled<'a> {
       states = c.states;
       blocks = c.blocks;
       relations = c.relations;
-    }) × (IsTrue c.alike ↔ TreatsSidesAlike c.check.now.body) };
+    }) × (IsTrue c.alike ↔ TreatsSidesAlike c.check.now.body)
+        × ForSome c.differing (AreDifferences c.blocks
+        (Before c.check.now.classes c.locations c.check.now.body)
+        (After c.check.now.classes c.locations c.check.now.body)) };
 }
 
 /// The check compiled under the alphabet of its level, of which its class table lists path symbols
@@ -93,14 +105,73 @@ pub fn compile<'a>(
 {
     let blocks = blocks_of(alloc, check, alphabet)?;
     let relations = relations_over(alloc, check, alphabet, &blocks, states)?;
+    let alike = treats_sides_alike(check.body());
+    let locations = alphabet.drop_symbol();
+    let differing = differing_of(alloc, check, locations, states, &blocks, &relations)?;
     Ok(Compiled {
         check,
-        locations: alphabet.drop_symbol(),
+        locations,
         states,
         blocks,
         relations,
-        alike: treats_sides_alike(check.body()),
+        alike,
+        differing,
     })
+}
+
+/// Where the check's relations differ; `None` where there are none, one serves both sides, or they are
+/// too large to be compared.
+fn differing_of(
+    alloc: Global,
+    check: &Check,
+    locations: u32,
+    states: usize,
+    blocks: &Partition,
+    relations: &Option<Relations>,
+) -> Result<Option<Differing>, AllocError>
+    requires { IsCompiled (record {
+      check = check.now;
+      locations = locations;
+      states = states;
+      blocks = blocks.now;
+      relations = relations.now;
+    }) }
+    ensures { IfOk result (λ found. ForSome found (AreDifferences blocks.now
+        (Before check.now.classes locations check.now.body)
+        (After check.now.classes locations check.now.body))) }
+{
+    if treats_sides_alike(check.body()) {
+        return Ok(None);
+    }
+    match relations {
+        Some(relations) => sides_differ(alloc, check, locations, states, blocks, relations),
+        None => Ok(None),
+    }
+}
+
+/// Where these relations of the check differ; `None` where they are too large to be compared.
+fn sides_differ(
+    alloc: Global,
+    check: &Check,
+    locations: u32,
+    states: usize,
+    blocks: &Partition,
+    relations: &Relations,
+) -> Result<Option<Differing>, AllocError>
+    requires { AreRelations (record {
+      check = check.now;
+      locations = locations;
+      states = states;
+      blocks = blocks.now;
+      relations = Some relations.now;
+    }) relations.now }
+    ensures { IfOk result (λ found. ForSome found (AreDifferences blocks.now
+        (Before check.now.classes locations check.now.body)
+        (After check.now.classes locations check.now.body))) }
+{
+    let before = relations.before();
+    let after = relations.after();
+    compare_relations(alloc, before.small(), after.small(), blocks)
 }
 
 /// The check's relations over the blocks of its symbols, and `None` where a construction in them passes
@@ -249,6 +320,21 @@ impl<'a> Compiled<'a> {
             (After self.now.check.classes self.now.locations self.now.check.body) }
     {
         self.alike
+    }
+
+    /// Whether its two relations have the same pairs among those whose first word has symbols of
+    /// these blocks alone. Where it is false nothing is told: they may be too large to be compared,
+    /// or the same pairs come about otherwise. The only error is want of memory.
+    pub(crate) fn same_on(&self, alloc: Global, inputs: &[u32]) -> Result<bool, AllocError>
+        requires { All (λ k. k < block_count self.now.blocks) inputs.now }
+        ensures { IfOk result (λ same. IsTrue same → SamePairsOn self.now.blocks inputs.now
+            (Before self.now.check.classes self.now.locations self.now.check.body)
+            (After self.now.check.classes self.now.locations self.now.check.body)) }
+    {
+        match &self.differing {
+            Some(differing) => differing.none_on(alloc, inputs),
+            None => Ok(false),
+        }
     }
 
     /// The blocks of its symbols. Two symbols share one where they are one symbol, or locations that

@@ -1,23 +1,28 @@
 //! The row of a check for a flow.
-ghost use Rattle.std.specs.Prelude.{◌≡◌, ℕ, ◌<◌, ◌≤◌, List, IfOk, IfErr, IsTrue, All, length};
+ghost use Rattle.std.specs.Prelude.{◌≡◌, ℕ, ◌<◌, ◌≤◌, List, IfOk, IfErr, IsTrue, All, length, map};
+ghost use Rattle.rela_build.specs.Reading.{read_by};
 ghost use Rattle.rela_graph.specs.Paths.{Paths};
-ghost use Rattle.rela_labels.specs.Partition.{block_count};
+ghost use Rattle.rela_graph.specs.Topology.{symbol_at};
+ghost use Rattle.rela_labels.specs.Partition.{block_count, block_of};
 ghost use Rattle.rela_names.specs.Alphabet.{path_symbols};
+ghost use Rattle.rela_restriction.specs.Excess.{IsReadAs};
 ghost use Rattle.rela_snapshot.specs.PairsLocated.{IsPairLocated};
 ghost use Rattle.rela_translate.specs.Verdict.{Meets};
 ghost use Rattle.rela_engine.specs.Compilation.{AreRelations};
+ghost use Rattle.rela_engine.specs.Differing.{path_symbols_of};
 ghost use Rattle.rela_engine.specs.RowOf.{MayBeOpen, RowOf};
 ghost use Rattle.rela_engine.specs.Scenes.{paths_of};
 ghost use Rattle.rela_engine.specs.Seen.{AreFiner};
 
 use crate::compiled::{Compiled, compile};
-use crate::finer_blocks::finer_blocks;
+use crate::finer_blocks::{finer_blocks, push_locations};
 use crate::offence::first_offence;
 use crate::relations::Relations;
 use crate::seen::{Form, see};
 use crate::witnesses::violated_row;
+use rela_graph::{Graph, Node};
 use rela_labels::{BlockSet, LabelSet, Partition, WideSet};
-use rela_names::Alphabet;
+use rela_names::{Alphabet, Level, Symbol};
 use rela_nfa::BuildError;
 use rela_report::{Row, Side};
 use rela_snapshot::FlowPair;
@@ -88,23 +93,96 @@ pub fn decide_compiled(
     let Some(relations) = compiled.relations() else {
         return Ok(Row::Undecided);
     };
-    if is_met_by_looks(compiled, pair) {
+    let met = is_met_by_looks(alloc, compiled, pair, alphabet)?;
+    if met {
         return Ok(Row::Compliant);
     }
     row_by_automata(alloc, compiled, relations, pair, alphabet)
 }
 
-/// Whether the check treats both sides of a change alike, and the graphs of the flow look the same at
-/// its level. No automaton is made for that, and it takes the time of the nodes and the edges.
-fn is_met_by_looks(compiled: &Compiled<'_>, pair: &FlowPair) -> bool
-    ensures { IsTrue result → (names : List (List ℕ)) →
-        Meets compiled.now.check compiled.now.locations
-        (Paths pair.now.before compiled.now.check.level names)
-        (Paths pair.now.after compiled.now.check.level names) }
+/// Whether the graphs of the flow look the same at the check's level, and the check treats both sides
+/// of a change alike, at least where paths have symbols of these graphs alone. No automaton of paths
+/// is made for that: it takes the time of the nodes and the edges, and else that of a search through
+/// what one relation of the check has beyond the other.
+fn is_met_by_looks(
+    alloc: Global,
+    compiled: &Compiled<'_>,
+    pair: &FlowPair,
+    alphabet: &Alphabet,
+) -> Result<bool, AllocError>
+    requires alphabet { length alphabet.now ≡ compiled.now.locations }
+    requires located { IsPairLocated alphabet.now compiled.now.check.level pair.now }
+    ensures { IfOk result (λ met. IsTrue met → Meets compiled.now.check compiled.now.locations
+        (Paths pair.now.before compiled.now.check.level alphabet.now)
+        (Paths pair.now.after compiled.now.check.level alphabet.now)) }
 {
     let level = compiled.level();
     pair.before.same_outline_same_paths(&pair.after, level);
-    compiled.treats_sides_alike() && pair.before.at(level) == pair.after.at(level)
+    let same = pair.before.at(level) == pair.after.at(level);
+    if !same {
+        return Ok(false);
+    }
+    if compiled.treats_sides_alike() {
+        return Ok(true);
+    }
+    let inputs = path_blocks(alloc, compiled, &pair.before, alphabet)?;
+    compiled.same_on(alloc, inputs.as_slice())
+}
+
+/// The blocks of the locations of the graph's nodes, and of `drop` and `loop`: no path has symbols of
+/// others. Time and space: linear in the nodes.
+fn path_blocks(
+    alloc: Global,
+    compiled: &Compiled<'_>,
+    graph: &Graph,
+    alphabet: &Alphabet,
+) -> Result<Vec<u32>, AllocError>
+    requires alphabet { length alphabet.now ≡ compiled.now.locations }
+    requires placed { All (λ node.
+        symbol_at compiled.now.check.level node < length alphabet.now) graph.now.nodes }
+    ensures below { IfOk result (λ inputs.
+        All (λ k. k < block_count compiled.now.blocks) inputs.items) }
+    ensures paths { IfOk result (λ inputs. (w : List ℕ) →
+        Paths graph.now compiled.now.check.level alphabet.now w →
+        IsReadAs (read_by compiled.now.blocks) inputs.items w) }
+{
+    let blocks = compiled.blocks();
+    let nodes = graph.nodes();
+    let symbols = symbols_of_paths(alloc, compiled.level(), nodes, alphabet)?;
+    blocks_of_each(alloc, blocks, symbols.as_slice())
+}
+
+/// The symbols that paths of a graph with these nodes may have.
+fn symbols_of_paths(
+    alloc: Global,
+    level: Level,
+    nodes: &[Node],
+    alphabet: &Alphabet,
+) -> Result<Vec<Symbol>, AllocError>
+    ensures { IfOk result (λ symbols. symbols.items
+        ≡ path_symbols_of level (length alphabet.now) nodes.now) }
+{
+    let mut symbols = Vec::new(alloc);
+    push_locations(&mut symbols, nodes, level)?;
+    symbols.push(alphabet.drop_symbol())?;
+    symbols.push(alphabet.loop_symbol())?;
+    Ok(symbols)
+}
+
+/// The block of each of the symbols.
+fn blocks_of_each(
+    alloc: Global,
+    blocks: &Partition,
+    symbols: &[Symbol],
+) -> Result<Vec<u32>, AllocError>
+    requires { All (λ s. s < length blocks.now) symbols.now }
+    ensures { IfOk result (λ found. found.items ≡ map (block_of blocks.now) symbols.now) }
+{
+    let mut found = Vec::with_capacity(alloc, symbols.len())?;
+    for s in symbols {
+        found.push(blocks.block_of(*s))?;
+    }
+    Ok(found)
 }
 
 /// The row, by automata over blocks of symbols in which the locations of the flow's nodes stand

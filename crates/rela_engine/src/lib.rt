@@ -7,6 +7,7 @@ mod automaton_lines;
 mod blocks;
 mod compiled;
 mod decision;
+mod differing;
 mod finer_blocks;
 mod flow_paths;
 mod leaf;

@@ -19,13 +19,10 @@ pub record IsInExcess (read : ℕ → ℕ) (x : Excess) (u v : List ℕ) : Type 
   pub accepted : Accepts x.acts (act_letters read x.letters word)
 
 -- each pair of the first relation is one of the second, or one of the excess
-abbrev pub Covers : (ℕ → ℕ) → (List ℕ → List ℕ → Type 0) → (List ℕ → List ℕ → Type 0) → Excess → Type 0
+abbrev pub Covers : (ℕ → ℕ) → (List ℕ → List ℕ → Type 0) → (List ℕ → List ℕ → Type 0) →
+    Excess → Type 0
 Covers read R S x = (u v : List ℕ) → R u v → S u v ⊎ IsInExcess read x u v
 
 -- the word's symbols are read as letters of the list
 abbrev pub IsReadAs : (ℕ → ℕ) → List ℕ → List ℕ → Type 0
 IsReadAs read letters word = All (λ s. Contains letters (read s)) word
-
--- each pair of the first relation whose first word has these letters alone is one of the second
-abbrev pub IncludedOn : (ℕ → ℕ) → List ℕ → (List ℕ → List ℕ → Type 0) → (List ℕ → List ℕ → Type 0) → Type 0
-IncludedOn read letters R S = (u v : List ℕ) → IsReadAs read letters u → R u v → S u v

@@ -13,10 +13,10 @@ returns-in_default c =
     subst (λ (n : ℕ). RowOf k.check n flow k.states Undecided) (sym c.requires.alphabet)
     (undecided k flow (rw c.in_default.is at c.relations.ensures.past))
 
-pub returns-then-is_met_by_looks : goal.returns-then-is_met_by_looks
-returns-then-is_met_by_looks c =
+pub returns-then-met : goal.returns-then-met
+returns-then-met c =
     let k = c.args.compiled.now in
     let flow = paths_of k.check.level c.args.alphabet.now c.args.pair.now.before c.args.pair.now.after in
     subst (λ (n : ℕ). RowOf k.check n flow k.states Compliant) (sym c.requires.alphabet)
     (right_row k c.in-Some.relations.now (rw c.in-Some.is at c.relations.ensures.made) flow Compliant
-    (c.is_met_by_looks.ensures c.if-is_met_by_looks.true c.args.alphabet.now))
+    (c.in_ok-met.ensures c.if-met.true))
