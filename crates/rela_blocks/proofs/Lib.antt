@@ -1,0 +1,6 @@
+pub mod NamedByChecks
+pub mod PathLetters
+pub mod BuiltPaths
+pub mod Placed
+pub mod ClassSplits
+pub mod RowPartitions

@@ -1,0 +1,113 @@
+//! The blocks of a check's symbols by which it is judged for one flow.
+ghost use Rattle.std.specs.Prelude.{◌≡◌, ◌<◌, ◌≤◌, ◌++◌, IfOk, All, length, map};
+ghost use Rattle.std.specs.List.{range_with_len};
+ghost use Rattle.rela_graph.specs.Topology.{symbol_at};
+ghost use Rattle.rela_names.specs.Alphabet.{path_symbols};
+ghost use Rattle.rela_snapshot.specs.PairsLocated.{IsPairLocated};
+ghost use Rattle.rela_translate.specs.Checked.{IsCheck, markers_of};
+ghost use Rattle.rela_blocks.specs.RowBlocks.{AreRowBlocks, symbols_apart, symbols_of};
+
+use crate::markers::count_markers;
+use crate::split::blocks_of_classes;
+use rela_graph::Node;
+use rela_labels::Partition;
+use rela_names::{Alphabet, Level, Symbol};
+use rela_snapshot::FlowPair;
+use rela_translate::Check;
+use std::alloc::{AllocError, Global};
+
+/// The check's symbols in blocks: those by the classes of its table, of which the locations of the
+/// flow's nodes, `drop`, `loop` and the markers are set apart. So both graphs can be read by them, and
+/// each symbol that the check's terms name by itself is a block of its own.
+///
+/// It takes the time of the symbols, the members of the classes and the nodes. The only error is want
+/// of memory.
+pub fn row_blocks(
+    alloc: Global,
+    check: &Check,
+    pair: &FlowPair,
+    alphabet: &Alphabet,
+) -> Result<Partition, AllocError>
+    requires classes { All (λ set. All (λ s. s < path_symbols alphabet.now) set.members)
+        check.now.classes }
+    requires located { IsPairLocated alphabet.now check.now.level pair.now }
+    ensures { IfOk result (AreRowBlocks check.now alphabet.now pair.now.before pair.now.after) }
+{
+    let symbols = symbols_of(check, alphabet);
+    let coarse = blocks_of_classes(alloc, check.classes(), symbols)?;
+    let apart = set_apart(alloc, check, pair, alphabet)?;
+    coarse.with_alone(alloc, apart.as_slice())
+}
+
+/// The number of the check's symbols: the path symbols of the alphabet and the check's markers. It
+/// goes as deep into the stack as the check's body.
+pub fn symbols_of(check: &Check, alphabet: &Alphabet) -> u32
+    ensures count { result ≡ symbols_of check.now (length alphabet.now) }
+    ensures check { IsCheck check.now }
+{
+    alphabet.len() + markers(check)
+}
+
+/// The number of the check's markers.
+pub(crate) fn markers(check: &Check) -> u32
+    ensures count { result ≡ length (markers_of check.now.body) }
+    ensures few { result ≤ 20000 }
+    ensures check { IsCheck check.now }
+{
+    count_markers(check.body())
+}
+
+/// The symbols that are to be set apart.
+fn set_apart(
+    alloc: Global,
+    check: &Check,
+    pair: &FlowPair,
+    alphabet: &Alphabet,
+) -> Result<Vec<Symbol>, AllocError>
+    ensures { IfOk result (λ apart. apart.items ≡ symbols_apart check.now
+        (length alphabet.now) pair.now.before pair.now.after) }
+{
+    let mut symbols = Vec::new(alloc);
+    push_locations(&mut symbols, pair.before.nodes(), check.level())?;
+    push_locations(&mut symbols, pair.after.nodes(), check.level())?;
+    // An alphabet has at most 100,000 locations.
+    let _ = alphabet.len();
+    let first = alphabet.drop_symbol();
+    push_range(&mut symbols, first, 2 + markers(check))?;
+    Ok(symbols)
+}
+
+/// Appends the location of each node.
+fn push_locations(symbols: &mut Vec<Symbol>, nodes: &[Node], level: Level) -> Result<(), AllocError>
+    ensures { IfOk result (λ _. symbols.new.items ≡ symbols.old.items
+        ++ map (symbol_at level) nodes.now) }
+{
+    for node in nodes {
+        symbols.push(location_of(node, level))?;
+    }
+    Ok(())
+}
+
+/// The node's location at the level.
+fn location_of(node: &Node, level: Level) -> Symbol
+    ensures { result ≡ symbol_at level node.now }
+{
+    match level {
+        Level::Interface => node.interface,
+        Level::Device => node.device,
+        Level::Group => node.group,
+    }
+}
+
+/// Appends so many symbols, from the first on.
+fn push_range(symbols: &mut Vec<Symbol>, first: Symbol, count: u32) -> Result<(), AllocError>
+    requires first { first ≤ 1000000 }
+    requires count { count ≤ 1000000 }
+    ensures { IfOk result (λ _. symbols.new.items ≡ symbols.old.items
+        ++ range_with_len first count) }
+{
+    for k in 0..count {
+        symbols.push(first + k)?;
+    }
+    Ok(())
+}

@@ -1,0 +1,13 @@
+//! The blocks of symbols over which a check is judged for one flow, and the paths of the flow as they
+//! are read by them.
+#![tactic(auto)]
+
+mod blocks;
+mod flow_paths;
+mod letters;
+mod markers;
+mod split;
+
+pub use blocks::{row_blocks, symbols_of};
+pub use flow_paths::FlowPaths;
+pub use letters::row_letters;

@@ -1,0 +1,77 @@
+-- The sets of a table, left by one letter more.
+use Rattle.std.proofs.Common.{◌≡◌, ◌≢◌, ℕ, ◌+◌, ◌<◌, ◌≤◌, Bool, true, false, List, [], ◌∷◌, ◌++◌, length, get_or, sym, ap, ◌∙◌, subst, inl, inr, arith}
+use Rattle.std.proofs.lemmas.Bool.{cases_lt, false≢true}
+use Rattle.std.proofs.lemmas.List.{get_or_past}
+use Rattle.rela_labels.specs.Letters.{has}
+use Rattle.rela_nfa.specs.Automaton.{Automaton}
+use Rattle.rela_closed.specs.Listing.{AreFollowed, IsFollowed, IsLeft}
+use Rattle.rela_closed.specs.Sets.{AreDistinct, AreNumbered, Leads}
+use Rattle.rela_closed.proofs.Listed.{table_kept}
+
+module _ (automata : List Automaton) (sets : List (List ℕ)) (table table' : List (List (List ℕ))) (n : ℕ) (numbered : AreNumbered sets table table' n) where
+  -- sets that were found before
+  pub known_same : (n ≡ length table → ⊥) → table' ≡ table
+  known_same other = elim numbered.grown [ inl old ↦ old.0 | inr new ↦ absurd (other new.1) ]
+
+  pub known_below : (n ≡ length table → ⊥) → n < length table
+  known_below other = elim numbered.grown [ inl old ↦ old.1 | inr new ↦ absurd (other new.1) ]
+
+  pub known_at : (n ≡ length table → ⊥) → get_or table n [] ≡ sets
+  known_at other = ap (λ t. get_or t n []) (sym (known_same other)) ∙ numbered.at
+
+  -- sets that are new
+  pub new_pushed : n ≡ length table → table' ≡ table ++ sets ∷ []
+  new_pushed at = elim numbered.grown [ inl old ↦ absurd (let below = old.1 in omega arith) | inr new ↦ new.0 ]
+
+  pub new_lacking : n ≡ length table → AreDistinct table' → (j : ℕ) → j < length table → get_or table j [] ≢ sets
+  new_lacking at distinct j below same =
+      distinct j n (omega arith) numbered.within (table_kept automata sets table table' n numbered j below ∙ same ∙ sym numbered.at)
+
+  module _ (over : List Bool) (p k : ℕ) (p_in : p < length table) (leads : Leads automata (get_or table p []) k sets) where
+    pub goes_on : (n ≡ length table → ⊥) → IsFollowed automata table (get_or table p []) k
+    goes_on other = (n, known_below other, subst (λ s. Leads automata (get_or table p []) k s) (sym (known_at other)) leads)
+
+    pub goes_out : has over k ≡ true → n ≡ length table → AreDistinct table' → IsLeft over automata table
+    goes_out read at distinct = record {
+      from = p;
+      letter = k;
+      next = sets;
+      within = p_in;
+      read = read;
+      leads = leads;
+      lacking = new_lacking at distinct;
+    }
+
+module _ (over : List Bool) (automata : List Automaton) (table : List (List (List ℕ))) (sets : List (List ℕ)) (k : ℕ) where
+  pub followed_more : ((j : ℕ) → j < k → has over j ≡ true → IsFollowed automata table sets j) → (has over k ≡ true → IsFollowed automata table sets k)
+      → (j : ℕ) → j < k + 1 → has over j ≡ true → IsFollowed automata table sets j
+  followed_more before here j below read = elim (cases_lt j k) [
+    | inl earlier ↦ before j earlier read
+    | inr last ↦ let same : k ≡ j = omega arith in subst (λ m. IsFollowed automata table sets m) same (here (subst (λ m. has over m ≡ true) (sym same) read))
+  ]
+
+  pub followed_all : length over ≤ k → ((j : ℕ) → j < k → has over j ≡ true → IsFollowed automata table sets j) → (j : ℕ) → has over j ≡ true → IsFollowed automata table sets j
+  followed_all all before j read = elim (cases_lt j k) [
+    | inl below ↦ before j below read
+    | inr past ↦ absurd (false≢true (sym (get_or_past over j false (omega arith)) ∙ read))
+  ]
+
+pub no_more_letters : (over : List Bool) (k : ℕ) → length over ≤ k → (j : ℕ) → k ≤ j → has over j ≡ true → ⊥
+no_more_letters over k all j past read = false≢true (sym (get_or_past over j false (omega arith)) ∙ read)
+
+-- the sets of one number more have been left
+pub left_more : (over : List Bool) (automata : List Automaton) (table : List (List (List ℕ))) (p : ℕ) → AreFollowed over automata table p
+    → ((j : ℕ) → has over j ≡ true → IsFollowed automata table (get_or table p []) j) → AreFollowed over automata table (p + 1)
+left_more over automata table p before here i k below read = elim (cases_lt i p) [
+  | inl earlier ↦ before i k earlier read
+  | inr last ↦ let same : p ≡ i = omega arith in subst (λ m. IsFollowed automata table (get_or table m []) k) same (here k read)
+]
+
+-- the same of what is equal
+pub followed_as : (automata automata' : List Automaton) (table table' : List (List (List ℕ))) (p k : ℕ) → automata' ≡ automata → table' ≡ table
+    → IsFollowed automata' table' (get_or table' p []) k → IsFollowed automata table (get_or table p []) k
+followed_as automata automata' table table' p k one two is =
+    subst (λ l. IsFollowed l table (get_or table p []) k) one (subst (λ t. IsFollowed automata' t (get_or t p []) k) two is)
+
+pub left_as : (over : List Bool) (automata automata' : List Automaton) (table table' : List (List (List ℕ))) → automata' ≡ automata → table' ≡ table → IsLeft over automata' table' → IsLeft over automata table
+left_as over automata automata' table table' one two is = subst (λ l. IsLeft over l table) one (subst (λ t. IsLeft over automata' t) two is)

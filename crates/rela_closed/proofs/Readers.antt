@@ -1,0 +1,23 @@
+-- Automata that are read one after the other.
+use Rattle.std.proofs.Common.{◌≡◌, ℕ, ◌+◌, ◌<◌, List, [], ◌∷◌, ◌++◌, length, get_or, map, take, sym, ap, ◌∙◌, subst, arith}
+use Rattle.std.specs.List.{All}
+use Rattle.std.proofs.lemmas.List.{get_or-map, length-map, map_more}
+use Rattle.std.proofs.lemmas.List.Elements.{All-get_or}
+use Rattle.rela_nfa.specs.Automaton.{Automaton}
+use Rattle.rela_closed.specs.Sets.{AreReached, Lists, ReachedBy}
+use Rattle.rela_closed.proofs.JointSets.{reached_more}
+
+-- one item more
+pub map_take_more : {X Y : Type 0} (f : X → Y) (xs : List X) (i : ℕ) (x : X) → i < length xs → x ≡ get_or xs i x → map f (take (i + 1) xs) ≡ map f (take i xs) ++ f x ∷ []
+map_take_more f xs i x below at = map_more f xs i x below ∙ ap (λ y. map f (take i xs) ++ f y ∷ []) (sym at)
+
+-- what holds of all holds of an item
+pub all_at : {X Y : Type 0} (P : Y → Type 0) (f : X → Y) (xs : List X) (i : ℕ) (x : X) → i < length xs → x ≡ get_or xs i x → All P (map f xs) → P (f x)
+all_at P f xs i x below at all =
+    subst P (get_or-map f xs i x (f x) below ∙ ap f (sym at)) (All-get_or P (map f xs) i (f x) (omega (arith, length-map xs f)) all)
+
+-- one automaton and its set more
+pub reached_pushed : (automata automata' : List Automaton) (a : Automaton) (word : List ℕ) (sets sets' : List (List ℕ)) (set : List ℕ) → automata' ≡ automata ++ a ∷ [] → sets' ≡ sets ++ set ∷ []
+    → AreReached automata word sets → Lists (ReachedBy a word) set → AreReached automata' word sets'
+reached_pushed automata automata' a word sets sets' set one two before is =
+    subst (λ l. AreReached l word sets') (sym one) (subst (λ l. AreReached (automata ++ a ∷ []) word l) (sym two) (reached_more automata a word sets set before is))

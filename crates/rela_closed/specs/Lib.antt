@@ -1,0 +1,4 @@
+pub mod Closed
+pub mod Listing
+pub mod Sets
+pub mod Words

@@ -1,0 +1,19 @@
+//! Lists of words that are closed for some automata: each listed word with one letter more reaches
+//! the same states as some listed word. Such a list tells all that words of any length reach. An
+//! `AllocError` comes only where memory is refused.
+#![tactic(auto)]
+
+mod closed_laws;
+mod closed_list;
+mod closedness;
+mod closure;
+mod marks;
+mod numbering;
+mod reader;
+mod step;
+mod table;
+mod visited;
+
+pub use closed_laws::{closed_lists_decide, listed_words_are_over};
+pub use closed_list::is_closed_list;
+pub use step::Step;
