@@ -56,8 +56,8 @@ impl Table {
     /// The number of the sets, which are put behind the others where they aren't among them. Time:
     /// linear in the sets, in expectation.
     pub(crate) fn number(&mut self, sets: Vec<Vec<usize>>) -> Result<usize, AllocError>
-        ensures numbered { IfOk result (λ number. AreNumbered (map (λ set. set.items) sets.items) self.old
-            self.new number) }
+        ensures numbered { IfOk result (λ number. AreNumbered (map (λ set. set.items) sets.items)
+            self.old self.new number) }
         ensures distinct { AreDistinct self.new }
     {
         let (number, _) = self.found.insert_full(sets)?;
