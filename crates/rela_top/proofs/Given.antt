@@ -1,16 +1,17 @@
 -- What a command gives rise to, and how it is answered.
-use Rattle.std.proofs.Common.{◌≡◌, ℕ, ◌≤◌, nat_lt, false, Bool, is_some, IsTrue, List, Option, Result, Ok, Err, IfOk, inr, refl, sym, ap, subst, rules}
+use Rattle.std.proofs.Common.{◌≡◌, ℕ, ◌≤◌, nat_lt, false, Bool, is_some, IsTrue, List, Option, Result, Ok, Err, inr, refl, sym, ap, subst, rules}
 use Rattle.rela_io.specs.Held.{FilesByName}
-use Rattle.rela_top.specs.Answer.{Answer, Delivers}
-use Rattle.rela_top.specs.Given.{Agrees, IsGiven}
+use Rattle.rela_inputs.specs.Answer.{Answer}
+use Rattle.rela_top.specs.Delivered.{Delivers}
+use Rattle.rela_inputs.specs.Given.{Agrees, IsGiven}
 use Rattle.rela_top.specs.Operands.{given_to}
 use Rattle.rela_top.specs.Outcome.{Outcome, SameAnswer, SameOutcome, GivenBy, IsSameAnswer, Completes}
-use Rattle.rela_top.specs.Reading.{is_too_long, max_file_bytes}
-use Rattle.rela_top.specs.Refusal.{refusal_line}
+use Rattle.rela_inputs.specs.Reading.{is_too_long, max_file_bytes}
+use Rattle.rela_inputs.specs.Refusal.{refusal_line}
 use Rattle.rela_words.specs.Words.{Command, Ask, AskJust}
-use Rattle.rela_top.specs.declared.reading.Halt.{Halt}
-use Rattle.rela_top.specs.declared.reading.Halt.TheVariants.{Refused, ReadFault}
-use Rattle.rela_top.specs.declared.refusal.Refusal.{Refusal}
+use Rattle.rela_inputs.specs.declared.reading.Halt.{Halt}
+use Rattle.rela_inputs.specs.declared.reading.Halt.TheVariants.{Refused, ReadFault}
+use Rattle.rela_inputs.specs.declared.refusal.Refusal.{Refusal}
 
 abbrev refusing : List ℕ → Answer
 refusing text = record { text = text; status = 4 }
@@ -64,11 +65,6 @@ pub no_fault : (holds : Option FilesByName) (steady : Bool) (command : Command) 
 no_fault holds steady command outcome is told stays given =
     let unsteady : steady ≡ false = is.alone told outcome given in
     cc
-
--- what holds of a value holds of what follows from it
-pub if_ok : {A E : Type 0} (P Q : A → Type 0) (r : Result A E) → ((a : A) → P a → Q a) → IfOk r P → IfOk r Q
-if_ok P Q (Ok a) leads holds = leads a holds
-if_ok P Q (Err e) leads holds = tt
 
 -- the words ask for one command
 pub only_asked : (words : List (List ℕ)) (asked command : Command) → AskJust words asked → Ask words command → asked ≡ command

@@ -2,8 +2,8 @@
 use Rattle.std.specs.Prelude.{◌≡◌, ◌∷◌, ℕ, All, List, [], Option}
 use Rattle.rela_io.specs.Held.{FilesByName, HoldsName}
 use Rattle.rela_words.specs.Words.{Command, Check, Fmt, Fib, Zone, Rir, Demo, Ask}
-use Rattle.rela_top.specs.declared.refusal.Input.{Input}
-use Rattle.rela_top.specs.declared.refusal.Input.TheVariants.{Locations, Before, After, Spec, Tables, Other, Assertions}
+use Rattle.rela_inputs.specs.declared.refusal.Input.{Input}
+use Rattle.rela_inputs.specs.declared.refusal.Input.TheVariants.{Locations, Before, After, Spec, Tables, Other, Assertions}
 
 -- the inputs of a command, each with the name of its file, in the order in which they are read
 abbrev pub operands_of : Command → List (Input × List ℕ)

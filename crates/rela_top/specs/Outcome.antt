@@ -2,20 +2,21 @@
 use Rattle.std.specs.Prelude.{◌≡◌, ℕ, ◌⊎◌, Bool, false, nat_lt, List, codes, IsSome, Option, Result, Ok, Err}
 use Rattle.rela_io.specs.Held.{FilesByName}
 use Rattle.rela_report.specs.Text.{line}
-use Rattle.rela_top.specs.Answer.{Answer, Delivers}
-use Rattle.rela_top.specs.AssertReports.{ReportsAssertions, SameAssertReports}
-use Rattle.rela_top.specs.Blames.{ReportsAs, SameAs}
-use Rattle.rela_top.specs.Checks.{SameReports}
-use Rattle.rela_top.specs.Demos.{Demos}
-use Rattle.rela_top.specs.Draws.{Draws, SameDrawings}
-use Rattle.rela_top.specs.Formats.{Formats}
-use Rattle.rela_top.specs.Given.{Equals}
+use Rattle.rela_inputs.specs.Answer.{Answer}
+use Rattle.rela_top.specs.Delivered.{Delivers}
+use Rattle.rela_assert.specs.AssertReports.{ReportsAssertions, SameAssertReports}
+use Rattle.rela_check.specs.Blames.{ReportsAs, SameAs}
+use Rattle.rela_change_report.specs.Reports.{SameReports}
+use Rattle.rela_demonstrate.specs.Demos.{Demos}
+use Rattle.rela_draw.specs.Draws.{Draws, SameDrawings}
+use Rattle.rela_format.specs.Formats.{Formats}
+use Rattle.rela_inputs.specs.Given.{Equals}
 use Rattle.rela_top.specs.Operands.{given_to}
-use Rattle.rela_top.specs.Reading.{is_too_long, max_file_bytes}
-use Rattle.rela_top.specs.Refusal.{refusal_line}
+use Rattle.rela_inputs.specs.Reading.{is_too_long, max_file_bytes}
+use Rattle.rela_inputs.specs.Refusal.{refusal_line}
 use Rattle.rela_words.specs.Words.{Command, Check, Fmt, Fib, Zone, Rir, Demo, Ask, AskNothing}
-use Rattle.rela_top.specs.Zones.{SameZones, Zones}
-use Rattle.rela_top.specs.declared.refusal.Refusal.{Refusal}
+use Rattle.rela_zone.specs.Zones.{SameZones, Zones}
+use Rattle.rela_inputs.specs.declared.refusal.Refusal.{Refusal}
 
 -- what the files of a command give: its answer, or the first refusal
 abbrev pub Outcome : Option FilesByName → Command → Result Answer Refusal → Type 0

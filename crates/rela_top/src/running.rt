@@ -4,23 +4,24 @@ ghost use Rattle.std.specs.Prelude.{◌≡◌, ◌≢◌, ◌<◌, ◌⊎◌, Er
 ghost use Rattle.rela_io.specs.Count.{Rose};
 ghost use Rattle.rela_words.specs.Words.{AskNothing, HasNumbers};
 ghost use Rattle.rela_top.specs.Operands.{AskForNoFile, HoldsAsked, HoldsFiles, given_to, operands_of};
-ghost use Rattle.rela_top.specs.Answer.{answer_by, IsOutcomeStatus};
-ghost use Rattle.rela_top.specs.Given.{IsGiven, seen};
+ghost use Rattle.rela_inputs.specs.Answer.{answer_by, IsOutcomeStatus};
+ghost use Rattle.rela_inputs.specs.Given.{IsGiven, seen};
 ghost use Rattle.rela_top.specs.Outcome.{Answers, AnswersAll, CompletesAll, GivenBy, GivesNothing, Outcome, SameAnswer};
-ghost use Rattle.rela_top.specs.Reading.{Ends};
+ghost use Rattle.rela_inputs.specs.Reading.{Ends};
 ghost use Rattle.rela_words.specs.Commands.{command_of};
 
-use crate::answer::{Answer, BAD_WORDS, NO_MEMORY, READ_FAULT, REFUSED, WRITE_FAULT, deliver};
-use crate::asserting::report_assertions;
-use crate::checking::report_asked;
-use crate::demonstrating::demonstrate;
-use crate::drawing::draw;
-use crate::formatting::format;
-use crate::reading::Halt;
-use crate::refusal::refusal_line;
-use crate::zoning::show_zone;
+use crate::delivering::deliver;
+use rela_assert::report_assertions;
+use rela_check::report_asked;
+use rela_demonstrate::demonstrate;
+use rela_draw::draw;
+use rela_format::format;
+use rela_inputs::{
+    Answer, BAD_WORDS, Halt, NO_MEMORY, READ_FAULT, REFUSED, WRITE_FAULT, refusal_line,
+};
 use rela_io::{Files, Sink};
 use rela_words::{Command, WordsError, read_words};
+use rela_zone::show_zone;
 use std::alloc::Global;
 
 /// Does what the words ask for, those after the program's name: reads `files`, writes the whole

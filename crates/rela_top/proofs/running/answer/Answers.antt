@@ -1,4 +1,4 @@
-use Rattle.rela_top.specs.Answer.{answer_by}
+use Rattle.rela_inputs.specs.Answer.{answer_by}
 use Rattle.rela_words.specs.Commands.{command_of}
 use Rattle.rela_top.proofs.Given.{GivenBy-made, GivenBy-refusing, made_complete, refused_complete, no_fault}
 use Rattle.rela_top.proofs.running.answer.Goals as goal

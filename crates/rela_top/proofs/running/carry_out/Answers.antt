@@ -3,16 +3,16 @@ use Rattle.std.specs.List.{All}
 use Rattle.rela_io.specs.Held.{HoldsName}
 use Rattle.rela_words.specs.Commands.{command_of}
 use Rattle.rela_words.specs.Words.{Command, Fmt, Fib, Rir, Zone, HasNumbers}
-use Rattle.rela_top.specs.Answer.{answer_by}
-use Rattle.rela_top.specs.Checks.{SameReports}
-use Rattle.rela_top.specs.Demos.{Demos}
-use Rattle.rela_top.specs.Given.{IsGiven, seen}
+use Rattle.rela_inputs.specs.Answer.{answer_by}
+use Rattle.rela_change_report.specs.Reports.{SameReports}
+use Rattle.rela_demonstrate.specs.Demos.{Demos}
+use Rattle.rela_inputs.specs.Given.{IsGiven, seen}
 use Rattle.rela_top.specs.Operands.{HoldsFiles, given_to, operands_of}
 use Rattle.rela_top.specs.Outcome.{Outcome, SameAnswer}
-use Rattle.rela_top.specs.Reading.{Ends}
-use Rattle.rela_top.specs.declared.refusal.Input.{Input}
-use Rattle.rela_top.specs.declared.refusal.Input.TheVariants.{Locations, Before, After, Spec, Tables, Other, Assertions}
-use Rattle.rela_top.proofs.GivenLaws.{read_given}
+use Rattle.rela_inputs.specs.Reading.{Ends}
+use Rattle.rela_inputs.specs.declared.refusal.Input.{Input}
+use Rattle.rela_inputs.specs.declared.refusal.Input.TheVariants.{Locations, Before, After, Spec, Tables, Other, Assertions}
+use Rattle.rela_inputs.proofs.GivenLaws.{read_given}
 use Rattle.rela_top.proofs.running.carry_out.Goals as goal
 
 same_fib : (t tables o other l locations : List ℕ) → t ≡ tables → o ≡ other → l ≡ locations → Fib t o l ≡ Fib tables other locations

@@ -2,7 +2,7 @@ use Rattle.std.proofs.Common.{◌≡◌, [], map, inl, refl, sym, subst, rules}
 use Rattle.std.specs.Prelude.{string_bytes}
 use Rattle.rela_words.specs.Commands.{command_of}
 use Rattle.rela_words.specs.Words.{Command}
-use Rattle.rela_top.specs.Answer.{answer_by}
+use Rattle.rela_inputs.specs.Answer.{answer_by}
 use Rattle.rela_top.specs.Operands.{operands_of}
 use Rattle.rela_top.specs.Outcome.{Outcome, bad_words}
 use Rattle.rela_top.proofs.Given.{asked_of, only_asked, completes}

@@ -1,0 +1,96 @@
+//! From the two snapshots, the locations and the assertions to the report.
+
+ghost use Rattle.std.specs.Prelude.{◌≢◌, ◌≤◌, Ok, Err, All, IsTrue, IfOk, is_some};
+ghost use Rattle.rela_assertions.specs.Rows.{IsClaimAt};
+ghost use Rattle.rela_io.specs.Held.{HoldsName};
+ghost use Rattle.rela_locations.specs.Network.{alphabet_of};
+ghost use Rattle.rela_snapshot.specs.PairsLocated.{ArePairsLocated};
+ghost use Rattle.rela_inputs.specs.Answer.{answer_by, IsOutcomeStatus};
+ghost use Rattle.rela_assert.specs.AssertReports.{ReportsAssertions, ReportsClaims, SameAssertReports};
+ghost use Rattle.rela_assert.specs.Asserted.{asserted_by};
+ghost use Rattle.rela_inputs.specs.Given.{IsGiven, seen};
+ghost use Rattle.rela_inputs.specs.Reading.{Ends};
+
+use crate::claiming::Asserted;
+use crate::loading::load_claims;
+use rela_assertions::{right_rows_agree, rows_of, status, text};
+use rela_inputs::{Answer, Halt, load_locations, load_pairs, same_checks_are_equal};
+use rela_io::Files;
+use rela_locations::Locations;
+use rela_same_flows::same_graphs_same_paths;
+use rela_snapshot::FlowPair;
+use std::alloc::{AllocError, Global};
+
+/// Reads the locations, the snapshot before, the snapshot after and the assertions in the files of
+/// these names, in this order, and makes the report: what is told of each assertion for each flow.
+/// `states` is the state limit of each construction. Time and space: those of decoding the files and
+/// of [`rows_of`].
+///
+/// # Errors
+///
+/// The first refusal, read fault or want of memory ends it.
+pub fn report_assertions<F: Files>(
+    alloc: Global,
+    files: &mut F,
+    before: &str,
+    after: &str,
+    locations: &str,
+    assertions: &str,
+    states: usize,
+) -> Result<Answer, Halt>
+    requires some { 1 ≤ states }
+    ensures given { IsGiven (is_some (F.holds files.old)) (F.steady files.old) SameAssertReports
+        (ReportsAssertions (F.holds files.old) before.now after.now locations.now
+        assertions.now states) (seen answer_by result) }
+    ensures status { IfOk result (λ answer. IsOutcomeStatus answer.status) }
+    ensures ends { Ends (F.faults files.old) (F.faults files.new) (F.given files.new) result }
+    ensures steady_is_no_fault { IsTrue (F.steady files.old) →
+        HoldsName (F.holds files.old) before.now →
+        HoldsName (F.holds files.old) after.now →
+        HoldsName (F.holds files.old) locations.now →
+        HoldsName (F.holds files.old) assertions.now →
+        result ≢ Err Halt.ReadFault }
+{
+    let locations = load_locations(alloc, files, locations)?;
+    let pairs = load_pairs(alloc, files, before, after, &locations)?;
+    let asserted = load_claims(alloc, files, assertions, &locations)?;
+    same_graphs_same_paths();
+    same_checks_are_equal();
+    right_rows_agree();
+    Ok(report_claims(alloc, &locations, &pairs, &asserted, states)?)
+}
+
+/// The report of the flows under the claims, made whole.
+///
+/// # Errors
+///
+/// Only where memory is wanted.
+fn report_claims(
+    alloc: Global,
+    locations: &Locations,
+    pairs: &[FlowPair],
+    asserted: &Asserted,
+    states: usize,
+) -> Result<Answer, AllocError>
+    requires some { 1 ≤ states }
+    requires claims { All (IsClaimAt (alphabet_of asserted.now.level locations.now))
+        asserted.now.claims.items }
+    requires located { ArePairsLocated (alphabet_of asserted.now.level locations.now)
+        asserted.now.level pairs.now }
+    ensures reports { IfOk result (λ answer. ReportsClaims states locations.now pairs.now
+        (asserted_by asserted.now) (Ok (answer_by answer))) }
+    ensures status { IfOk result (λ answer. IsOutcomeStatus answer.status) }
+{
+    let names = locations.alphabet(asserted.level);
+    let rows = rows_of(
+        alloc,
+        pairs,
+        &asserted.claims,
+        asserted.level,
+        names,
+        states,
+    )?;
+    let text = text(alloc, &rows, names)?;
+    let status = status(&rows);
+    Ok(Answer { text, status })
+}

@@ -1,0 +1,32 @@
+//! The report on a loaded change.
+
+ghost use Rattle.std.specs.Prelude.{◌≤◌, Ok, IfOk};
+ghost use Rattle.rela_change_report.specs.Reports.{Reports};
+ghost use Rattle.rela_inputs.specs.Answer.{answer_by, IsOutcomeStatus};
+ghost use Rattle.rela_inputs.specs.Loaded.{loaded_by, names_of};
+ghost use Rattle.rela_rows.specs.Rows.{AreChecksAt};
+
+use rela_inputs::{Answer, Loaded};
+use rela_report::{status, text};
+use rela_rows::rows_of;
+use std::alloc::{AllocError, Global};
+
+/// The report on a loaded change, made whole. `states` is the state limit of each verdict.
+///
+/// # Errors
+///
+/// Only where memory is wanted.
+pub fn report_on(alloc: Global, loaded: &Loaded, states: usize) -> Result<Answer, AllocError>
+    requires some { 1 ≤ states }
+    requires checks { AreChecksAt (names_of (loaded_by loaded.now)) loaded.now.pairs.items
+        loaded.now.asked.checks.items }
+    ensures reports { IfOk result (λ answer.
+        Reports states (loaded_by loaded.now) (Ok (answer_by answer))) }
+    ensures status { IfOk result (λ answer. IsOutcomeStatus answer.status) }
+{
+    let names = loaded.locations.alphabet(loaded.asked.level);
+    let rows = rows_of(alloc, &loaded.pairs, &loaded.asked.checks, names, states)?;
+    let text = text(alloc, &rows, names)?;
+    let status = status(&rows);
+    Ok(Answer { text, status })
+}

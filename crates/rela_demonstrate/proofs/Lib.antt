@@ -1,0 +1,2 @@
+pub mod LayerChecks
+pub mod LayerLaws

@@ -1,0 +1,6 @@
+//! The command `fib`: from two table files and the locations to a snapshot.
+#![tactic(auto)]
+
+mod drawing;
+
+pub use drawing::draw;

@@ -1,0 +1,10 @@
+pub mod Answer
+pub mod Given
+pub mod Halts
+pub mod Inputs
+pub mod Loaded
+pub mod Paired
+pub mod Reading
+pub mod Refusal
+pub mod Specifications
+pub mod Specified

@@ -1,0 +1,166 @@
+-- Flows by how they look, and the verdicts that they share.
+use Rattle.std.proofs.Common.{◌≡◌, ℕ, ◌<◌, ◌↔◌, cond, Bool, true, List, [], ◌∷◌, length, get_or, Some, inl, inr, refl, sym, ap, subst, ◌∙◌, arith}
+use Rattle.std.specs.Prelude.{slice_get, IsSomeAnd, nat_eq}
+use Rattle.std.specs.HashMap.{HashMap, get}
+use Rattle.std.specs.List.{All}
+use Rattle.std.proofs.lemmas.Bool.{and_parts, cases_Bool, cond-true, cond-false, eqb-true}
+use Rattle.std.proofs.lemmas.List.{get_or_default}
+use Rattle.std.proofs.lemmas.Option.{slice_get_read}
+use Rattle.rela_engine.specs.declared.compiled.Compiled.{Compiled}
+use Rattle.rela_flows.specs.declared.planning.PlannedRow.{PlannedRow}
+use Rattle.rela_flows.specs.declared.planning.PlannedRow.TheVariants as planned
+use Rattle.rela_graph.proofs.Outlines.{outlines_decide}
+use Rattle.rela_engine.specs.RowOf.{RowOf}
+use Rattle.rela_engine.specs.Scenes.{SamePathSets, paths_of}
+use Rattle.rela_graph.specs.Outline.{Outline, outline_of, same_outline}
+use Rattle.rela_graph.specs.Paths.{Paths, Arrives, Undelivered, locations}
+use Rattle.rela_graph.specs.Topology.{Topology}
+use Rattle.rela_names.specs.declared.level.Level.{Level}
+use Rattle.rela_report.specs.declared.rows.ReportRow.TheVariants.{Checked}
+use Rattle.rela_report.specs.declared.rows.Row.{Row}
+use Rattle.rela_snapshot.specs.declared.pairing.FlowPair.{FlowPair}
+use Rattle.rela_rows.proofs.RowLaws.{under_row}
+use Rattle.rela_translate.specs.Checked.{Checked as Check}
+use Rattle.rela_rows.specs.Sharing.{look_of, same_look, HasLook, AreNumbered, LooksAs, AreAlike, IsVerdict, IsVerdictOf, IsRowBy, same_numbers, AreVerdicts}
+
+-- what `==` calls equal is equal
+equal_looks : (x y : Outline × Outline) → same_look x y ≡ true → x ≡ y
+equal_looks x y same =
+    let parts = and_parts (same_outline x.0 y.0) (same_outline x.1 y.1) same in
+    let first : x.0 ≡ y.0 = (outlines_decide x.0 y.0).0 parts.0 in
+    let second : x.1 ≡ y.1 = (outlines_decide x.1 y.1).0 parts.1 in
+    λ i. (first i, second i)
+
+equal_numbers : (x y : ℕ × ℕ) → same_numbers x y ≡ true → x ≡ y
+equal_numbers x y same =
+    let parts = and_parts (nat_eq x.0 y.0) (nat_eq x.1 y.1) same in
+    let first : x.0 ≡ y.0 = eqb-true x.0 y.0 parts.0 in
+    let second : x.1 ≡ y.1 = eqb-true x.1 y.1 parts.1 in
+    λ i. (first i, second i)
+
+-- a map in which one key got a value: what held of each entry still does, if it holds of the new one
+module _ {K V S : Type 0} (same : K → K → Bool) (decides : (x y : K) → same x y ≡ true → x ≡ y) (P : K → V → Type 0) where
+  pub entries_more : (old new : HashMap K V S) (key : K) (value : V) → ((q : K) → get same new q ≡ cond (same key q) (Some value) (get same old q))
+      → P key value → ((q : K) (v : V) → get same old q ≡ Some v → P q v) → (q : K) (v : V) → get same new q ≡ Some v → P q v
+  entries_more old new key value updates one each q v has = elim (cases_Bool (same key q)) [
+    | inl same_key ↦
+        let is : Some value ≡ Some v = sym (updates q ∙ cond-true (same key q) (Some value) (get same old q) same_key) ∙ has in
+        let equal : value ≡ v = cc in
+        subst (λ (x : V). P q x) equal (subst (λ (k : K). P k value) (decides key q same_key) one)
+    | inr other_key ↦ each q v (sym (updates q ∙ cond-false (same key q) (Some value) (get same old q) other_key) ∙ has)
+  ]
+
+-- how a flow looks
+pub own_look : (level : Level) (pairs : List FlowPair) (n : ℕ) (pair : FlowPair) (before after : Outline) → n < length pairs → pair ≡ get_or pairs n pair
+    → before ≡ outline_of level pair.before → after ≡ outline_of level pair.after → HasLook level pairs n (before, after)
+own_look level pairs n pair before after within pair_is before_is after_is =
+    let first : outline_of level pair.before ≡ before = sym before_is in
+    let second : outline_of level pair.after ≡ after = sym after_is in
+    let look : look_of level pair ≡ (before, after) = λ i. (first i, second i) in
+    (within, λ d. ap (look_of level) (get_or_default pairs n d pair within ∙ sym pair_is) ∙ look)
+
+-- the number that a look has is that of a flow that looks so
+pub number_found : {S : Type 0} (level : Level) (pairs : List FlowPair) (numbers : HashMap (Outline × Outline) ℕ S) (n number : ℕ) (look : Outline × Outline)
+    → AreNumbered level pairs numbers → HasLook level pairs n look → get same_look numbers look ≡ Some number → LooksAs level pairs n number
+number_found level pairs numbers n number look numbered own found =
+    let has = numbered look number found in
+    (has.0, λ d. own.1 d ∙ sym (has.1 d))
+
+pub numbers_more : {S : Type 0} (level : Level) (pairs : List FlowPair) (old new : HashMap (Outline × Outline) ℕ S) (n : ℕ) (look : Outline × Outline)
+    → AreNumbered level pairs old → HasLook level pairs n look
+    → ((q : Outline × Outline) → get same_look new q ≡ cond (same_look look q) (Some n) (get same_look old q)) → AreNumbered level pairs new
+numbers_more level pairs old new n look numbered own updates =
+    entries_more same_look equal_looks (λ q m. HasLook level pairs m q) old new look n updates own numbered
+
+pub looks_as_itself : (level : Level) (pairs : List FlowPair) (n : ℕ) → n < length pairs → LooksAs level pairs n n
+looks_as_itself level pairs n within = (within, λ d. refl)
+
+-- some check tells that each flow has the number of a flow
+pub other_within : (pairs : List FlowPair) (others : List ℕ) (compiled : List Compiled) (flow k : ℕ)
+    → All (λ c. AreAlike c.check.level pairs others) compiled → k < length compiled → flow < length pairs
+    → (flow < length others) × (get_or others flow 0 < length pairs)
+other_within pairs others [] flow k each inside within = absurd (omega (arith, inside))
+other_within pairs others (c ∷ cs) flow k each inside within =
+    let alike = each k c inside in
+    (omega (arith, alike.len, within), (alike.each flow within).0)
+
+-- at the check's level that flow looks the same
+pub other_looks : (pairs : List FlowPair) (others : List ℕ) (compiled : List Compiled) (flow k : ℕ) (by : Compiled)
+    → All (λ c. AreAlike c.check.level pairs others) compiled → k < length compiled → by ≡ get_or compiled k by → flow < length pairs
+    → LooksAs by.check.level pairs flow (get_or others flow 0)
+other_looks pairs others compiled flow k by each inside by_is within =
+    subst (λ (c : Compiled). LooksAs c.check.level pairs flow (get_or others flow 0)) (sym by_is) ((each k by inside).each flow within)
+
+pub verdicts_more : {S : Type 0} (names : List (List ℕ)) (compiled : List Compiled) (pairs : List FlowPair) (old new : HashMap (ℕ × ℕ) Row S) (flow check : ℕ) (row : Row)
+    → AreVerdicts names compiled pairs old → IsVerdictOf names compiled pairs flow check row
+    → ((q : ℕ × ℕ) → get same_numbers new q ≡ cond (same_numbers (flow, check) q) (Some row) (get same_numbers old q)) → AreVerdicts names compiled pairs new
+verdicts_more names compiled pairs old new flow check row kept right updates f c r has =
+    entries_more same_numbers equal_numbers (λ q v. IsVerdictOf names compiled pairs q.0 q.1 v) old new (flow, check) row updates right
+    (λ q v was. kept q.0 q.1 v was) (f, c) r has
+
+module _ (names : List (List ℕ)) (pairs : List FlowPair) (compiled : List Compiled) where
+  -- a verdict that was decided, by the numbers of its flow and its check
+  pub decided_of : (flow k : ℕ) (pair : FlowPair) (by : Compiled) (row : Row) → flow < length pairs → k < length compiled
+      → pair ≡ get_or pairs flow pair → by ≡ get_or compiled k by → IsVerdict names by pair row
+      → IsVerdictOf names compiled pairs flow k row
+  decided_of flow k pair by row flow_inside check_inside pair_is by_is verdict =
+      subst (λ o. IsSomeAnd o (λ (p : FlowPair). IsSomeAnd (slice_get compiled k) (λ (c : Compiled). IsVerdict names c p row)))
+      (sym (slice_get_read pairs (length pairs) flow pair refl flow_inside pair_is))
+      (subst (λ o. IsSomeAnd o (λ (c : Compiled). IsVerdict names c pair row))
+      (sym (slice_get_read compiled (length compiled) k by refl check_inside by_is)) verdict)
+
+  -- and back
+  pub verdict_at : (flow k : ℕ) (pair : FlowPair) (by : Compiled) (row : Row) → flow < length pairs → k < length compiled
+      → pair ≡ get_or pairs flow pair → by ≡ get_or compiled k by → IsVerdictOf names compiled pairs flow k row
+      → IsVerdict names by pair row
+  verdict_at flow k pair by row flow_inside check_inside pair_is by_is verdict =
+      subst (λ o. IsSomeAnd o (λ (c : Compiled). IsVerdict names c pair row)) (slice_get_read compiled (length compiled) k by refl check_inside by_is)
+      (subst (λ o. IsSomeAnd o (λ (p : FlowPair). IsSomeAnd (slice_get compiled k) (λ (c : Compiled). IsVerdict names c p row)))
+      (slice_get_read pairs (length pairs) flow pair refl flow_inside pair_is) verdict)
+
+  -- the row of a flow, from its verdict
+  pub shown_row : (flow k : ℕ) (pair : FlowPair) (by : Compiled) (planned_row : PlannedRow) (row : Row) → flow < length pairs → k < length compiled
+      → pair ≡ get_or pairs flow pair → by ≡ get_or compiled k by → planned_row ≡ planned.Checked flow k → IsVerdict names by pair row
+      → IsRowBy names compiled pairs planned_row (Checked pair.class.name by.check.name row)
+  shown_row flow k pair by planned_row row flow_inside check_inside pair_is by_is is verdict =
+      under_row names pairs compiled flow k pair by planned_row (Checked pair.class.name by.check.name row) is flow_inside check_inside pair_is by_is
+      (record { flow_name = refl; check_name = refl; verdict = verdict.right })
+
+-- two flows that look the same, by their numbers
+pub same_looks : (level : Level) (pairs : List FlowPair) (flow other : ℕ) (pair another : FlowPair) → pair ≡ get_or pairs flow pair
+    → another ≡ get_or pairs other another → LooksAs level pairs flow other → look_of level pair ≡ look_of level another
+same_looks level pairs flow other pair another pair_is another_is looks =
+    ap (look_of level) pair_is ∙ looks.1 pair ∙ ap (look_of level) (get_or_default pairs other pair another looks.0 ∙ sym another_is)
+
+-- what rela_graph says of two graphs that look the same at a level
+pub record LookAlike (level : Level) (g h : Topology) : Type 0 where
+  pub paths : outline_of level g ≡ outline_of level h → (names : List (List ℕ)) (w : List ℕ) → Paths g level names w ↔ Paths h level names w
+  pub arrives : outline_of level g ≡ outline_of level h → (n : ℕ) (w : List ℕ) → Arrives g (locations g level) n w ↔ Arrives h (locations h level) n w
+  pub undelivered : outline_of level g ≡ outline_of level h → (names : List (List ℕ)) (w : List ℕ) → Undelivered g level names w ↔ Undelivered h level names w
+
+same_sets : (level : Level) (names : List (List ℕ)) (pair other : FlowPair) → LookAlike level other.before pair.before → LookAlike level other.after pair.after
+    → look_of level pair ≡ look_of level other
+    → SamePathSets (paths_of level names other.before other.after) (paths_of level names pair.before pair.after)
+same_sets level names pair other before after same =
+    let first : outline_of level other.before ≡ outline_of level pair.before = sym (ap (λ (look : Outline × Outline). look.0) same) in
+    let second : outline_of level other.after ≡ outline_of level pair.after = sym (ap (λ (look : Outline × Outline). look.1) same) in
+    record {
+      pre = before.paths first names;
+      post = after.paths second names;
+      pre_places = record { at_node = before.arrives first; at_end = before.undelivered first names };
+      post_places = record { at_node = after.arrives second; at_end = after.undelivered second names };
+    }
+
+-- a verdict on a flow is one on each flow that looks the same, if rows carry over
+pub verdict_there : (names : List (List ℕ)) (by : Compiled) (pair other : FlowPair) (level : Level) → level ≡ by.check.level
+    → LookAlike level other.before pair.before → LookAlike level other.after pair.after
+    → (SamePathSets (paths_of by.check.level names other.before other.after) (paths_of by.check.level names pair.before pair.after)
+    → (check : Check) (locations limit : ℕ) (row : Row) → RowOf check locations (paths_of by.check.level names other.before other.after) limit row
+    → RowOf check locations (paths_of by.check.level names pair.before pair.after) limit row)
+    → look_of by.check.level pair ≡ look_of by.check.level other → (row : Row) → IsVerdict names by other row → IsVerdict names by pair row
+verdict_there names by pair other level is before after carries same row verdict =
+    let here : look_of level pair ≡ look_of level other = subst (λ (l : Level). look_of l pair ≡ look_of l other) (sym is) same in
+    let sets : SamePathSets (paths_of by.check.level names other.before other.after) (paths_of by.check.level names pair.before pair.after) =
+    subst (λ (l : Level). SamePathSets (paths_of l names other.before other.after) (paths_of l names pair.before pair.after)) is
+    (same_sets level names pair other before after here) in
+    record { right = carries sets by.check (length names) by.states row verdict.right; texts = verdict.texts }

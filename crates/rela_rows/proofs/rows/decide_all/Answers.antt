@@ -1,0 +1,21 @@
+use Rattle.std.proofs.Common.{ℕ, List, All, subst, sym, arith}
+use Rattle.rela_report.specs.Text.{RowHasTexts}
+use Rattle.rela_rows.specs.Sharing.{AreAlike, IsRowBy}
+use Rattle.rela_rows.proofs.Loops.{All-more, zip_more}
+use Rattle.rela_rows.proofs.rows.decide_all.Goals as goal
+
+pub loop-row-preserved : goal.loop-row-preserved
+loop-row-preserved c = record {
+  rows =
+      zip_more (IsRowBy c.args.alphabet.now c.args.compiled.now c.args.pairs.now) c.args.planned.now
+      c.loop-row.rows.items c.push.new.self.items c.loop-row.row-index _ c.in_ok-row_of.field-0 (omega arith)
+      c.loop-row.invariant.rows c.in_ok-push.ensures.items c.in_ok-row_of.ensures.row;
+  texts =
+      All-more (RowHasTexts c.args.alphabet.now) c.loop-row.rows.items c.push.new.self.items c.in_ok-row_of.field-0
+      c.in_ok-push.ensures.items c.loop-row.invariant.texts c.in_ok-row_of.ensures.texts;
+  verdicts = c.in_ok-row_of.ensures.verdicts;
+}
+
+pub row_of-requires-clause-alike : goal.row_of-requires-clause-alike
+row_of-requires-clause-alike c =
+    subst (λ (others : List ℕ). All (λ one. AreAlike one.check.level c.args.pairs.now others) c.args.compiled.now) (sym c.deref.ensures.value) c.in_ok-others.ensures

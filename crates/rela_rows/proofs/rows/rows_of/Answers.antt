@@ -1,0 +1,33 @@
+use Rattle.std.proofs.Common.{◌≡◌, ◌∙◌, ℕ, List, ap, sym, subst, length}
+use Rattle.std.specs.List.{All, AllZip}
+use Rattle.std.proofs.lemmas.List.{length-map}
+use Rattle.rela_flows.specs.declared.planning.PlannedRow.{PlannedRow}
+use Rattle.rela_plan.specs.Within.{IsWithin}
+use Rattle.rela_snapshot.specs.PairsLocated.{ArePairsLocated}
+use Rattle.rela_rows.specs.Rows.{AreRowsOf}
+use Rattle.rela_rows.specs.Sharing.{IsRowBy}
+use Rattle.rela_rows.proofs.Loops.{All-unmap, if_ok}
+use Rattle.rela_rows.proofs.RowLaws.{are_rows}
+use Rattle.rela_rows.proofs.rows.rows_of.Goals as goal
+
+pub decide_all-requires-clause-planned : goal.decide_all-requires-clause-planned
+decide_all-requires-clause-planned c =
+    let count : length c.deref-2.result.now ≡ length c.args.checks.now =
+    ap length c.deref-2.ensures.value ∙ (sym (length-map c.in_ok-compiled.compiled.items (λ compiled. compiled.check)) ∙ ap length c.in_ok-compiled.ensures.checks) in
+    subst (λ (rows : List PlannedRow). All (IsWithin (length c.args.pairs.now) (length c.deref-2.result.now)) rows) (sym c.deref.ensures.value)
+    (subst (λ (n : ℕ). All (IsWithin (length c.args.pairs.now) n) c.in_ok-planned.planned.items) (sym count) c.in_ok-planned.ensures.within)
+
+pub decide_all-requires-clause-located : goal.decide_all-requires-clause-located
+decide_all-requires-clause-located c =
+    subst (λ compiled. All (λ one. ArePairsLocated c.args.alphabet.now one.check.level c.args.pairs.now) compiled) (sym c.deref-2.ensures.value)
+    (All-unmap (λ check. ArePairsLocated c.args.alphabet.now check.level c.args.pairs.now) (λ compiled. compiled.check) c.in_ok-compiled.compiled.items
+    (subst (λ checks. All (λ check. ArePairsLocated c.args.alphabet.now check.level c.args.pairs.now) checks) (sym c.in_ok-compiled.ensures.checks) c.requires.checks.located))
+
+pub returns-clause-rows : goal.returns-clause-rows
+returns-clause-rows c =
+    if_ok (λ rows. AllZip (IsRowBy c.args.alphabet.now c.deref-2.result.now c.args.pairs.now) c.deref.result.now rows.items)
+    (λ rows. AreRowsOf c.args.alphabet.now c.args.states c.args.checks.now c.args.pairs.now rows.items) c.decide_all.result
+    (λ rows each. are_rows c.args.alphabet.now c.args.states c.args.checks.now c.args.pairs.now c.in_ok-compiled.compiled.items c.deref-2.result.now
+    c.in_ok-planned.planned.items c.deref.result.now rows.items c.deref-2.ensures.value c.in_ok-compiled.ensures.checks c.in_ok-compiled.ensures.states
+    c.deref.ensures.value c.in_ok-planned.ensures.planned each)
+    c.decide_all.ensures.rows

@@ -1,0 +1,152 @@
+//! The rows of a run: which there are, and the verdict of each.
+
+ghost use Rattle.std.specs.Prelude.{◌≡◌, ◌≤◌, IfOk, OnOk, All, length, map};
+ghost use Rattle.std.specs.List.{AllZip};
+ghost use Rattle.rela_expand.specs.Listed.{ListsPathSymbols};
+ghost use Rattle.rela_report.specs.Text.{RowHasTexts};
+ghost use Rattle.rela_snapshot.specs.PairsLocated.{ArePairsLocated};
+ghost use Rattle.rela_plan.specs.Within.{IsWithin};
+ghost use Rattle.rela_rows.specs.Rows.{AreChecksAt, AreRowsOf};
+ghost use Rattle.rela_rows.specs.Sharing.{AreAlike, AreVerdicts, IsRowBy};
+
+use crate::sharing::{Verdicts, alike, share_verdicts, verdict_on};
+use rela_engine::{Compiled, compile};
+use rela_flows::PlannedRow;
+use rela_names::Alphabet;
+use rela_plan::plan_rows;
+use rela_report::{ReportRow, Row};
+use rela_snapshot::FlowPair;
+use rela_translate::Check;
+use std::alloc::{AllocError, Global};
+use std::collections::HashMap;
+
+/// The rows of the flows under the checks, whose locations are those of the alphabet: flow after
+/// flow, one for each check that selects it, in the order of the checks, or one alone where none
+/// does. `states` is the state limit. Each check is compiled once, and decided once for all flows
+/// that look the same at its level, where the checks have one level.
+///
+/// # Errors
+///
+/// Only where memory is wanted.
+pub fn rows_of(
+    alloc: Global,
+    pairs: &[FlowPair],
+    checks: &[Check],
+    alphabet: &Alphabet,
+    states: usize,
+) -> Result<Vec<ReportRow>, AllocError>
+    requires some { 1 ≤ states }
+    requires checks { AreChecksAt alphabet.now pairs.now checks.now }
+    ensures rows { IfOk result (λ rows. AreRowsOf alphabet.now states checks.now
+        pairs.now rows.items) }
+    ensures texts { IfOk result (λ rows. All (RowHasTexts alphabet.now) rows.items) }
+{
+    let planned = plan_rows(alloc, pairs, checks)?;
+    let compiled = compile_all(alloc, checks, alphabet, states)?;
+    decide_all(alloc, &planned, pairs, &compiled, alphabet)
+}
+
+/// Each check, compiled under the state limit, in their order.
+fn compile_all<'a>(
+    alloc: Global,
+    checks: &'a [Check],
+    alphabet: &Alphabet,
+    states: usize,
+) -> Result<Vec<Compiled<'a>>, AllocError>
+    requires some { 1 ≤ states }
+    requires listed { All (ListsPathSymbols alphabet.now) checks.now }
+    ensures checks { IfOk result (λ compiled. map (λ c. c.check) compiled.items ≡ checks.now) }
+    ensures locations { IfOk result (λ compiled. All (λ c. c.locations ≡ length alphabet.now)
+        compiled.items) }
+    ensures states { IfOk result (λ compiled. All (λ c. c.states ≡ states) compiled.items) }
+{
+    let mut compiled = Vec::with_capacity(alloc, checks.len())?;
+    for check in checks {
+        compiled.push(compile(alloc, check, alphabet, states)?)?;
+    }
+    Ok(compiled)
+}
+
+/// The rows that are planned, in their order. Under a check, flows that look the same are decided
+/// once.
+fn decide_all(
+    alloc: Global,
+    planned: &[PlannedRow],
+    pairs: &[FlowPair],
+    compiled: &[Compiled<'_>],
+    alphabet: &Alphabet,
+) -> Result<Vec<ReportRow>, AllocError>
+    requires planned { All (IsWithin (length pairs.now) (length compiled.now)) planned.now }
+    requires locations { All (λ c. c.locations ≡ length alphabet.now) compiled.now }
+    requires located { All (λ c. ArePairsLocated alphabet.now c.check.level
+        pairs.now) compiled.now }
+    ensures rows { IfOk result (λ rows. AllZip (IsRowBy alphabet.now compiled.now pairs.now)
+        planned.now rows.items) }
+    ensures texts { IfOk result (λ rows. All (RowHasTexts alphabet.now) rows.items) }
+{
+    let others = alike(alloc, pairs, compiled)?;
+    let mut verdicts = HashMap::new(alloc);
+    let mut rows = Vec::with_capacity(alloc, planned.len())?;
+    for row in planned {
+        rows.push(row_of(
+            alloc,
+            row,
+            pairs,
+            compiled,
+            alphabet,
+            &others,
+            &mut verdicts,
+        )?)?;
+    }
+    Ok(rows)
+}
+
+/// The row that is planned. Its verdict is that on the flow that looks the same, whose index is in
+/// `others`.
+fn row_of(
+    alloc: Global,
+    planned: &PlannedRow,
+    pairs: &[FlowPair],
+    compiled: &[Compiled<'_>],
+    alphabet: &Alphabet,
+    others: &[usize],
+    verdicts: &mut Verdicts,
+) -> Result<ReportRow, AllocError>
+    requires planned { IsWithin (length pairs.now) (length compiled.now) planned.now }
+    requires locations { All (λ c. c.locations ≡ length alphabet.now) compiled.now }
+    requires located { All (λ c. ArePairsLocated alphabet.now c.check.level
+        pairs.now) compiled.now }
+    requires alike { All (λ c. AreAlike c.check.level pairs.now others.now) compiled.now }
+    requires verdicts { AreVerdicts alphabet.now compiled.now pairs.now verdicts.old }
+    ensures row { IfOk result (IsRowBy alphabet.now compiled.now pairs.now planned.now) }
+    ensures texts { IfOk result (RowHasTexts alphabet.now) }
+    ensures verdicts { OnOk result (AreVerdicts alphabet.now compiled.now pairs.now verdicts.new) }
+{
+    match *planned {
+        PlannedRow::Unselected { flow } => Ok(ReportRow::Unselected {
+            flow: pairs[flow].class.name.copy(alloc)?,
+        }),
+        PlannedRow::Checked { flow, check } => {
+            let other = others[flow];
+            let row = verdict_on(alloc, verdicts, other, check, pairs, compiled, alphabet)?;
+            let (pair, by) = (&pairs[flow], &compiled[check]);
+            share_verdicts(by, pair, &pairs[other], alphabet);
+            row_under(alloc, pair, by.check(), row)
+        }
+    }
+}
+
+/// The row of a flow under a check, with this verdict.
+fn row_under(
+    alloc: Global,
+    pair: &FlowPair,
+    check: &Check,
+    row: Row,
+) -> Result<ReportRow, AllocError>
+    ensures { IfOk result (λ made. made ≡ ReportRow.Checked pair.now.class.name
+        check.now.name row) }
+{
+    let flow = pair.class.name.copy(alloc)?;
+    let check = check.name().copy(alloc)?;
+    Ok(ReportRow::Checked { flow, check, row })
+}
