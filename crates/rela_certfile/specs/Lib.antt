@@ -1,0 +1,9 @@
+pub mod Blocks
+pub mod Breaks
+pub mod Cut
+pub mod Held
+pub mod Items
+pub mod Layout
+pub mod Listed
+pub mod Parts
+pub mod Text
