@@ -1,24 +1,22 @@
 -- Where a text that is read so far breaks.
-use Rattle.std.proofs.Common.{◌≡◌, ◌≢◌, ℕ, ◌+◌, ◌^◌, ◌<◌, ◌≤◌, ◌⊎◌, ⊎_elim, List, [], ◌∷◌, ◌++◌, length, map, codes, refl, sym, ◌∙◌, ap, subst, append_assoc, append-nil, length-append, arith}
-use Rattle.std.specs.List.{flat_map}
+use Rattle.std.proofs.Common.{◌≡◌, ◌≢◌, ℕ, ◌+◌, ◌^◌, ◌<◌, ◌≤◌, ⊎_elim, List, [], ◌∷◌, ◌++◌, length, map, codes, refl, sym, ◌∙◌, ap, subst, append_assoc, append-nil, length-append, arith, ◌↔◌, Some, None}
+use Rattle.std.proofs.lemmas.Bool.{cases_lt}
 use Rattle.std.proofs.lemmas.Grind.{flat_map-append}
 use Rattle.std.proofs.lemmas.List.{length-map}
 use Rattle.rela_names.specs.Name.{is_name_byte}
-use Rattle.rela_certfile.specs.declared.rows.ListedRow.{ListedRow}
 use Rattle.rela_certfile.specs.declared.item.Item.{Item}
 use Rattle.rela_certfile.specs.declared.item.State.{State}
 use Rattle.rela_certfile.specs.declared.builder.Builder.{Builder}
-use Rattle.rela_certfile.specs.Breaks.{Begins, BreaksAt}
+use Rattle.rela_certfile.specs.Breaks.{BreaksAt}
 use Rattle.rela_certfile.specs.Cut.{IsCutAt, Lacks}
 use Rattle.rela_certfile.specs.Layout.{Layout, IsLayout}
-use Rattle.rela_certfile.specs.Listed.{AreListed}
-use Rattle.rela_certfile.specs.Text.{ended, header, last_line, lines_of, text_of}
+use Rattle.rela_certfile.specs.Text.{ended, header, last_line, text_of}
 use Rattle.rela_certfile.specs.Items.{item_line, Allowed, after_all, start, Runs}
 use Rattle.rela_certfile.proofs.Closing.{Closes}
 use Rattle.rela_certfile.proofs.Cuts.{cut_once, never_cut}
 use Rattle.rela_certfile.proofs.ItemLines.{item_lacks, never_end, bytes_lack}
 use Rattle.rela_certfile.proofs.Progress.{Read, read_few}
-use Rattle.rela_certfile.proofs.Reading.{Small, small_all, small_fits, small_start, MayFollow, begins_next, begins_nothing, begins_so_far, begins_whole, nothing_follows, not_whole, first_line, lines_are, tells, whole_lines}
+use Rattle.rela_certfile.proofs.Reading.{small_all, small_fits, small_start, MayFollow, begins_next, begins_nothing, begins_so_far, begins_whole, nothing_follows, not_whole, first_line, lines_are, whole_lines}
 use Rattle.rela_certfile.proofs.Rests.{rest_of}
 use Rattle.rela_certfile.proofs.Running.{items_of}
 
@@ -121,6 +119,28 @@ breaks_after l text rest next others line state builder items is short read cut 
       breaks = λ other more same begins. nothing_follows l items other is few read.runs begins;
       unfinished = λ empty rows listed same. omega (arith, some, ap length empty);
     }
+
+some_left : (text : List ℕ) → text ≢ [] → 0 < length text
+some_left [] some = absurd (some refl)
+some_left (c ∷ text) some = omega arith
+
+-- the last line, where it may not stand
+pub breaks_by_end : (l : Layout) (text rest next others : List ℕ) (line broken : ℕ) (state : State) (builder : Builder) (items : List Item) → IsLayout l → length text < 2 ^ 32 → Read l text rest line state builder items → IsCutAt 10 rest next others → next ≡ last_line → (Some broken ≡ None) ↔ ((state.heads ≡ 0) × (others ≡ [])) → (0 < state.heads → Some broken ≡ Some line) → (state.heads ≡ 0 → others ≢ [] → Some broken ≡ Some (line + 1)) → BreaksAt l text broken
+breaks_by_end l text rest next others line broken state builder items is short read cut ends whole missing more = ⊎_elim
+    (λ (left : 0 < state.heads).
+    let told : Some broken ≡ Some line = missing left in
+    let same : line ≡ broken = cc in
+    subst (λ n. BreaksAt l text n) same
+    (breaks_line l text rest next others line state builder items is short read cut
+    (refused_end l text rest line builder items state next is short read ends left)))
+    (λ (none : state.heads ≤ 0).
+    let zero_heads : state.heads ≡ 0 = omega arith in
+    let some : others ≢ [] = λ empty. let never : Some broken ≡ None = whole.1 (zero_heads, empty) in cc in
+    let told : Some broken ≡ Some (line + 1) = more zero_heads some in
+    let same : line + 1 ≡ broken = cc in
+    subst (λ n. BreaksAt l text n) same
+    (breaks_after l text rest next others line state builder items is short read cut ends none (some_left others some)))
+    (cases_lt 0 state.heads)
 
 -- the whole text
 pub text_whole : (l : Layout) (text rest next others : List ℕ) (line : ℕ) (state : State) (builder : Builder) (items : List Item) → Read l text rest line state builder items → IsCutAt 10 rest next others → next ≡ last_line → state.heads ≤ 0 → others ≡ [] → text ≡ text_of l (rest_of items).rows

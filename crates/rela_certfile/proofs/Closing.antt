@@ -1,7 +1,7 @@
 -- Whatever was read can be brought to an end, and runs go on one after another.
-use Rattle.std.proofs.Common.{◌≡◌, ℕ, ◌+◌, ◌-◌, ◌<◌, ◌≤◌, zero, suc, List, [], ◌∷◌, ◌++◌, refl, sym, subst, arith}
+use Rattle.std.proofs.Common.{◌≡◌, ℕ, zero, suc, List, [], ◌∷◌, ◌++◌, refl, arith}
 use Rattle.rela_certfile.specs.declared.item.Item.{Item}
-use Rattle.rela_certfile.specs.declared.item.Item.TheVariants.{Word, Complement, Images, Row}
+use Rattle.rela_certfile.specs.declared.item.Item.TheVariants.{Complement, Images}
 use Rattle.rela_certfile.specs.declared.item.State.{State}
 use Rattle.rela_certfile.specs.Layout.{Layout}
 use Rattle.rela_certfile.specs.Items.{Allowed, after, after_all, Runs}

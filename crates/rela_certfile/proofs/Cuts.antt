@@ -1,5 +1,5 @@
 -- Texts cut at a byte, and lines.
-use Rattle.std.proofs.Common.{◌≡◌, ◌≢◌, ℕ, ◌+◌, ◌<◌, zero, suc, length, get_or, take, drop, arith, List, [], ◌∷◌, ◌++◌, sym, refl, ap, append_assoc}
+use Rattle.std.proofs.Common.{◌≡◌, ◌≢◌, ℕ, ◌<◌, zero, suc, length, get_or, take, drop, arith, List, [], ◌∷◌, ◌++◌, refl, ap}
 use Rattle.rela_certfile.specs.Cut.{IsCutAt, Lacks}
 
 -- the first byte of a value cuts a text in one way

@@ -1,12 +1,12 @@
 -- What follows for listed rows, and for the steps and the words of a block.
-use Rattle.std.proofs.Common.{◌≡◌, ℕ, ◌+◌, ◌<◌, ◌≤◌, ◌↔◌, zero, suc, Option, None, Some, List, [], ◌∷◌, ◌++◌, length, get_or, refl, sym, ◌∙◌, ap, subst, append_assoc, length-append, arith}
+use Rattle.std.proofs.Common.{◌≡◌, ℕ, ◌+◌, ◌<◌, ◌≤◌, zero, suc, Some, List, [], ◌∷◌, ◌++◌, length, get_or, refl, sym, ◌∙◌, ap, subst, length-append, arith}
 use Rattle.std.specs.List.{All, slice_get}
 use Rattle.std.proofs.lemmas.Option.{get_or_from_slice_get, slice_get-get_or}
 use Rattle.rela_certfile.specs.declared.rows.Step.{Step}
 use Rattle.rela_certfile.specs.declared.rows.ListedRow.{ListedRow}
 use Rattle.rela_certfile.specs.Blocks.{block_at, blocks_of, blocks_of_row}
 use Rattle.rela_certfile.specs.Layout.{Layout, shape_at}
-use Rattle.rela_certfile.specs.Listed.{AreListed, AreListedFrom, AreSteps, IsBlock, IsListedAs, words_after, words_of}
+use Rattle.rela_certfile.specs.Listed.{AreListedFrom, AreSteps, IsListedAs, words_after}
 use Rattle.rela_certfile.proofs.Parted.{behind, front_of}
 
 -- a listed row stands at its place or behind it, and its blocks are as its check asks

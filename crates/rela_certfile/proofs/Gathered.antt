@@ -1,14 +1,11 @@
 -- What is gathered, and how it lies.
-use Rattle.std.proofs.Common.{◌≡◌, ℕ, ◌+◌, ◌^◌, ◌<◌, ◌≤◌, Option, None, Some, IsSome, List, [], ◌∷◌, ◌++◌, length, map, refl, sym, ◌∙◌, ap, subst, append_assoc, append-nil, length-append, add-zero, arith}
-use Rattle.std.specs.List.{flat_map}
-use Rattle.std.proofs.lemmas.Grind.{flat_map-append}
+use Rattle.std.proofs.Common.{◌≡◌, ℕ, ◌+◌, ◌^◌, ◌<◌, Option, None, Some, IsSome, List, [], ◌∷◌, ◌++◌, length, map, refl, sym, ◌∙◌, ap, append-nil, arith}
 use Rattle.rela_certfile.specs.declared.rows.Step.{Step}
-use Rattle.rela_certfile.specs.declared.rows.ListedRow.{ListedRow}
 use Rattle.rela_certfile.specs.declared.item.Item.{Item}
 use Rattle.rela_certfile.specs.declared.item.Item.TheVariants.{Word, Complement, Images, Row}
 use Rattle.rela_certfile.specs.declared.item.State.{State}
 use Rattle.rela_certfile.specs.declared.builder.Builder.{Builder}
-use Rattle.rela_certfile.specs.Blocks.{blocks_of, fronts, last_of, row_of}
+use Rattle.rela_certfile.specs.Blocks.{blocks_of, row_of}
 use Rattle.rela_certfile.specs.Held.{all_blocks, Holds}
 use Rattle.rela_certfile.specs.Items.{after, after_all, with_row, start, Runs, Gathers, places_in, firsts_in, starts_in, steps_in}
 use Rattle.rela_certfile.specs.Layout.{Layout, Shape, shape_at}

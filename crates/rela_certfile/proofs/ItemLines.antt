@@ -1,7 +1,6 @@
 -- Lines tell their items.
-use Rattle.std.proofs.Common.{◌≡◌, ◌≢◌, ℕ, ◌+◌, ◌^◌, ◌<◌, ◌≤◌, zero, suc, Bool, true, false, ◌&&◌, IsTrue, Option, None, Some, IsSome, List, [], ◌∷◌, ◌++◌, length, get_or, map, codes, refl, sym, ◌∙◌, ap, subst, ⊎_elim, lit<, lit≤, arith}
-use Rattle.std.specs.List.{All, AllByRecursion, AllPairs, list_all, slice_get}
-use Rattle.std.specs.Char.{digit_value}
+use Rattle.std.proofs.Common.{◌≡◌, ◌≢◌, ℕ, ◌^◌, ◌<◌, ◌≤◌, Bool, true, false, IsTrue, Option, None, Some, IsSome, List, [], ◌∷◌, ◌++◌, length, get_or, codes, refl, sym, ◌∙◌, ap, subst, ⊎_elim, lit≤, arith}
+use Rattle.std.specs.List.{AllPairs, list_all, slice_get}
 use Rattle.std.specs.Fmt.{decimal}
 use Rattle.std.proofs.lemmas.Bool.{and_parts, cases_lt}
 use Rattle.std.proofs.lemmas.List.{length-map}
@@ -16,7 +15,7 @@ use Rattle.rela_certfile.specs.declared.item.Item.{Item}
 use Rattle.rela_certfile.specs.declared.item.Item.TheVariants.{Word, Complement, Images, Row}
 use Rattle.rela_certfile.specs.declared.item.State.{State}
 use Rattle.rela_certfile.specs.Cut.{Lacks}
-use Rattle.rela_certfile.specs.Layout.{Layout, IsLayout, Shape, IsNamed, check_names, shape_at, shape_of, row_line, title_of}
+use Rattle.rela_certfile.specs.Layout.{Layout, IsLayout, IsNamed, check_names, shape_at, shape_of, row_line, title_of}
 use Rattle.rela_certfile.specs.Text.{word_line}
 use Rattle.rela_certfile.specs.Items.{item_line, Allowed}
 use Rattle.rela_certfile.proofs.Cuts.{cut_once, lacks_both}

@@ -1,10 +1,10 @@
 -- Which item a line says.
-use Rattle.std.proofs.Common.{◌≡◌, ◌≢◌, ℕ, ◌+◌, ◌^◌, ◌<◌, ◌≤◌, ◌↔◌, Option, None, Some, IsSome, MatchOption, List, [], ◌∷◌, ◌++◌, get_or, codes, refl, sym, ◌∙◌, ap, subst, arith}
+use Rattle.std.proofs.Common.{◌≡◌, ◌≢◌, ℕ, ◌<◌, ◌≤◌, ◌↔◌, Option, None, Some, MatchOption, List, codes, refl, sym, ◌∙◌, ap, subst, arith}
 use Rattle.rela_certfile.specs.declared.rows.Step.{Step}
 use Rattle.rela_certfile.specs.declared.item.Item.{Item}
 use Rattle.rela_certfile.specs.declared.item.Item.TheVariants.{Word, Complement, Images, Row}
 use Rattle.rela_certfile.specs.declared.item.State.{State}
-use Rattle.rela_certfile.specs.Layout.{Layout, IsLayout, IsRowLine, shape_at, row_line}
+use Rattle.rela_certfile.specs.Layout.{Layout, IsLayout, IsRowLine}
 use Rattle.rela_certfile.specs.Text.{IsWordLine, word_line}
 use Rattle.rela_certfile.specs.Items.{item_line, Allowed, MayStep}
 use Rattle.rela_certfile.proofs.Exactly.{given, refused}

@@ -4,6 +4,7 @@ mod Cuts
 mod Derived
 mod Exactly
 mod Gathered
+mod Heads
 mod ItemLines
 mod ItemOf
 mod Joined
@@ -12,6 +13,7 @@ mod Numerals
 mod Once
 mod OneBreak
 mod Parted
+mod Planned
 mod Progress
 mod Reading
 mod Rests

@@ -1,15 +1,15 @@
 -- Rows that are held, found again.
-use Rattle.std.proofs.Common.{◌≡◌, ℕ, ◌+◌, ◌-◌, ◌^◌, ◌<◌, ◌≤◌, zero, suc, Option, None, Some, IsSome, List, [], ◌∷◌, ◌++◌, length, get_or, map, take, drop, refl, sym, ◌∙◌, ap, subst, append_assoc, append-nil, length-append, arith}
+use Rattle.std.proofs.Common.{◌≡◌, ℕ, ◌+◌, ◌-◌, ◌^◌, ◌<◌, ◌≤◌, zero, suc, Option, None, Some, IsSome, List, [], ◌∷◌, ◌++◌, length, get_or, map, take, refl, sym, ◌∙◌, ap, subst, length-append, arith}
 use Rattle.std.specs.Option.{option_map}
-use Rattle.std.specs.List.{flat_map, slice_get, slice_range, sum_by, zip}
+use Rattle.std.specs.List.{slice_get, slice_range, sum_by, zip}
 use Rattle.std.proofs.lemmas.Grind.{flat_map-append}
 use Rattle.std.proofs.lemmas.List.{length-map, length-take-le, take-map, take_all, take_more}
 use Rattle.std.proofs.lemmas.List.Folds.{flat_map-map}
-use Rattle.std.proofs.lemmas.List.Sums.{sum_by-append, sum_by-cons}
+use Rattle.std.proofs.lemmas.List.Sums.{sum_by-cons}
 use Rattle.std.proofs.lemmas.Option.{slice_get-get_or, slice_get-map, slice_get_within}
 use Rattle.rela_certfile.specs.declared.rows.Step.{Step}
 use Rattle.rela_certfile.specs.declared.rows.ListedRow.{ListedRow}
-use Rattle.rela_certfile.specs.Blocks.{block_at, blocks_of, blocks_of_row, block_height, fronts, head_line, last_of, row_height, row_of}
+use Rattle.rela_certfile.specs.Blocks.{block_at, blocks_of, blocks_of_row, block_height, head_line, last_of, row_height, row_of}
 use Rattle.rela_certfile.specs.Held.{all_blocks, Holds, rows_held}
 use Rattle.rela_certfile.specs.Parts.{end_of, joined, parts, starts_of}
 use Rattle.rela_certfile.proofs.Parted.{before_it, begins_at, behind, cut_out, element_at, front_of, joined_more, joined_within, length-starts_of, parts_again, starts_at}

@@ -12,12 +12,11 @@ use Rattle.rela_certfile.specs.Listed.{AreListed}
 use Rattle.rela_certfile.specs.Text.{ended, header, last_line, lines_of, text_of}
 use Rattle.rela_certfile.specs.Items.{after, item_line, start, Runs}
 use Rattle.rela_certfile.proofs.Breaking.{end_lacks}
-use Rattle.rela_certfile.proofs.ItemLines.{Fits, item_lacks, bytes_lack}
+use Rattle.rela_certfile.proofs.ItemLines.{item_lacks, bytes_lack}
 use Rattle.rela_certfile.proofs.Once.{line_once}
 use Rattle.rela_certfile.proofs.Progress.{ended_long}
 use Rattle.rela_certfile.proofs.Reading.{Small, closes_of, lines_are, small_after, small_fits, small_start}
 use Rattle.rela_certfile.proofs.Running.{items_of}
-use Rattle.rela_certfile.proofs.Written.{ended_both}
 
 -- no line holds a line feed
 abbrev AreLines : List (List ℕ) → Type 0

@@ -1,10 +1,9 @@
 -- Lists that stand one behind the other, told again by where they begin.
-use Rattle.std.proofs.Common.{◌≡◌, ℕ, ◌+◌, ◌-◌, ◌<◌, ◌≤◌, zero, suc, Option, None, Some, List, [], ◌∷◌, ◌++◌, length, get_or, take, drop, refl, sym, ◌∙◌, ap, subst, append_assoc, append-nil, length-append, add_assoc, lit≤, arith}
+use Rattle.std.proofs.Common.{◌≡◌, ℕ, ◌+◌, ◌-◌, ◌<◌, ◌≤◌, zero, suc, Some, List, [], ◌∷◌, ◌++◌, length, get_or, take, drop, refl, sym, ◌∙◌, ap, subst, append_assoc, length-append, lit≤, arith}
 use Rattle.std.specs.List.{slice_get, slice_range}
 use Rattle.std.proofs.Math.Seq.{take-append_seam, take-append-add, drop-append_seam, drop-append-add}
 use Rattle.std.proofs.lemmas.List.{take-append-le}
-use Rattle.std.proofs.lemmas.Option.{slice_get_within}
-use Rattle.rela_certfile.specs.Parts.{end_of, joined, parts, starts_of}
+use Rattle.rela_certfile.specs.Parts.{joined, parts, starts_of}
 
 pub length-starts_of : {X : Type 0} (from : ℕ) (lists : List (List X)) → length (starts_of from lists) ≡ length lists
 length-starts_of from [] = refl

@@ -1,13 +1,12 @@
 -- How far a text is read.
-use Rattle.std.proofs.Common.{◌≡◌, ℕ, ◌+◌, ◌^◌, ◌<◌, ◌≤◌, List, [], ◌∷◌, ◌++◌, length, map, refl, sym, ◌∙◌, ap, subst, append_assoc, append-nil, length-append, lit≤, arith}
-use Rattle.std.specs.List.{flat_map}
+use Rattle.std.proofs.Common.{◌≡◌, ℕ, ◌+◌, ◌^◌, ◌<◌, ◌≤◌, List, [], ◌∷◌, ◌++◌, length, map, sym, ◌∙◌, ap, subst, append_assoc, append-nil, length-append, lit≤, arith}
 use Rattle.std.proofs.lemmas.Grind.{flat_map-append}
 use Rattle.std.proofs.lemmas.List.{map-append, length-map}
 use Rattle.rela_certfile.specs.declared.item.Item.{Item}
 use Rattle.rela_certfile.specs.declared.item.State.{State}
 use Rattle.rela_certfile.specs.declared.builder.Builder.{Builder}
 use Rattle.rela_certfile.specs.Layout.{Layout, IsLayout}
-use Rattle.rela_certfile.specs.Text.{ended, header, last_line}
+use Rattle.rela_certfile.specs.Text.{ended, header}
 use Rattle.rela_certfile.specs.Items.{item_line, Allowed, after, after_all, start, Runs, Gathers}
 use Rattle.rela_certfile.proofs.Closing.{runs_on, after_both}
 use Rattle.rela_certfile.proofs.Reading.{Small, small_all, small_start}

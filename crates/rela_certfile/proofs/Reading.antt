@@ -1,5 +1,5 @@
 -- A certificate that goes on where items end.
-use Rattle.std.proofs.Common.{◌≡◌, ◌≢◌, ℕ, ◌+◌, ◌-◌, ◌^◌, ◌<◌, ◌≤◌, ◌⊎◌, inl, inr, zero, suc, Option, None, Some, IsSome, List, [], ◌∷◌, ◌++◌, length, get_or, map, codes, refl, sym, ◌∙◌, ap, subst, append_assoc, append-nil, lit<, lit≤, arith}
+use Rattle.std.proofs.Common.{◌≡◌, ℕ, ◌+◌, ◌^◌, ◌<◌, ◌≤◌, ◌⊎◌, inl, inr, suc, Option, None, Some, List, [], ◌∷◌, ◌++◌, length, map, codes, refl, sym, ◌∙◌, ap, subst, append_assoc, append-nil, lit<, lit≤, arith}
 use Rattle.std.specs.List.{All, flat_map, slice_get}
 use Rattle.std.proofs.lemmas.List.{map-append}
 use Rattle.std.proofs.lemmas.Option.{get_or_from_slice_get, slice_get_within}
@@ -17,8 +17,8 @@ use Rattle.rela_certfile.specs.Text.{header, last_line, lines_of, row_lines, wor
 use Rattle.rela_certfile.specs.Items.{item_line, Allowed, after, after_all, with_row, start, Runs}
 use Rattle.rela_certfile.proofs.Closing.{Closes, closing, runs_on, runs_from, after_both}
 use Rattle.rela_certfile.proofs.ItemLines.{Fits, same_item, never_end}
-use Rattle.rela_certfile.proofs.Rests.{Rest, Told, told, rest_of, no_steps, AreBlocks, block_lines}
-use Rattle.rela_certfile.proofs.Running.{items_of, items_lines, rows_close, rows_again}
+use Rattle.rela_certfile.proofs.Rests.{Told, told, rest_of, no_steps, AreBlocks, block_lines}
+use Rattle.rela_certfile.proofs.Running.{items_of, items_lines, rows_close}
 
 -- the numbers of a state have 32 bits, and its words are at most so many
 pub record Small (n : ℕ) (state : State) : Type 0 where

@@ -1,5 +1,5 @@
 -- The items of listed rows.
-use Rattle.std.proofs.Common.{◌≡◌, ℕ, ◌+◌, ◌-◌, ◌<◌, ◌≤◌, zero, suc, Option, None, Some, IsSome, List, [], ◌∷◌, ◌++◌, length, map, codes, refl, sym, ◌∙◌, ap, subst, append_assoc, arith}
+use Rattle.std.proofs.Common.{◌≡◌, ℕ, ◌+◌, ◌-◌, ◌≤◌, Option, None, Some, IsSome, List, [], ◌∷◌, ◌++◌, length, map, codes, refl, sym, ◌∙◌, ap, subst, append_assoc, arith}
 use Rattle.std.specs.List.{AllByRecursion, flat_map}
 use Rattle.std.proofs.lemmas.List.{map-append}
 use Rattle.rela_certfile.specs.declared.rows.Step.{Step}
@@ -7,13 +7,13 @@ use Rattle.rela_certfile.specs.declared.rows.ListedRow.{ListedRow}
 use Rattle.rela_certfile.specs.declared.item.Item.{Item}
 use Rattle.rela_certfile.specs.declared.item.Item.TheVariants.{Word, Complement, Images, Row}
 use Rattle.rela_certfile.specs.declared.item.State.{State}
-use Rattle.rela_certfile.specs.Blocks.{fronts, last_of, row_of}
+use Rattle.rela_certfile.specs.Blocks.{fronts, last_of}
 use Rattle.rela_certfile.specs.Layout.{Layout, Shape, shape_at, row_line}
-use Rattle.rela_certfile.specs.Listed.{AreSteps, IsBlock, HasShape, IsListedAs, AreListedFrom}
+use Rattle.rela_certfile.specs.Listed.{AreSteps, IsBlock, IsListedAs, AreListedFrom}
 use Rattle.rela_certfile.specs.Text.{word_line, complement_lines, images_lines, row_lines}
-use Rattle.rela_certfile.specs.Items.{item_line, Allowed, after, after_all, with_row, Runs}
+use Rattle.rela_certfile.specs.Items.{item_line, Allowed, after, with_row}
 use Rattle.rela_certfile.proofs.Closing.{Closes}
-use Rattle.rela_certfile.proofs.Rests.{Rest, before, rest_of}
+use Rattle.rela_certfile.proofs.Rests.{before, rest_of}
 
 -- the lines of a row's blocks
 abbrev pub block_items : List (List Step) → List Step → List Item

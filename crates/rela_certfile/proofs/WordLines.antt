@@ -1,9 +1,9 @@
 -- Word lines, cut at the blank.
-use Rattle.std.proofs.Common.{◌≡◌, ℕ, ◌^◌, ◌<◌, ◌↔◌, Option, None, Some, List, [], ◌∷◌, ◌++◌, refl, sym, ◌∙◌, ap, lit≤, arith}
+use Rattle.std.proofs.Common.{◌≡◌, ℕ, ◌^◌, ◌<◌, ◌↔◌, None, Some, List, ◌∷◌, ◌++◌, refl, sym, ◌∙◌, ap, lit≤}
 use Rattle.std.specs.Fmt.{decimal}
 use Rattle.rela_certfile.specs.declared.rows.Step.{Step}
 use Rattle.rela_certfile.specs.Cut.{IsCutAt, Lacks}
-use Rattle.rela_certfile.specs.Text.{IsWordLine, word_line}
+use Rattle.rela_certfile.specs.Text.{IsWordLine}
 use Rattle.rela_certfile.proofs.Cuts.{cut_once, never_cut}
 use Rattle.rela_certfile.proofs.Numerals.{decimal_lacks}
 

@@ -1,12 +1,12 @@
 -- The text of rows, appended line by line.
-use Rattle.std.proofs.Common.{◌≡◌, ℕ, ◌+◌, ◌<◌, ◌≤◌, zero, suc, Option, None, Some, IsSome, List, [], ◌∷◌, ◌++◌, length, get_or, map, take, codes, refl, sym, ◌∙◌, ap, subst, append_assoc, append-nil, arith}
-use Rattle.std.specs.List.{flat_map, slice_get}
+use Rattle.std.proofs.Common.{◌≡◌, ℕ, ◌+◌, ◌<◌, Option, None, Some, IsSome, List, [], ◌∷◌, ◌++◌, length, get_or, map, take, codes, refl, sym, ◌∙◌, ap, append_assoc, append-nil}
+use Rattle.std.specs.List.{flat_map}
 use Rattle.std.proofs.lemmas.Grind.{flat_map-append}
 use Rattle.std.proofs.lemmas.List.{take_more}
 use Rattle.rela_certfile.specs.declared.rows.Step.{Step}
 use Rattle.rela_certfile.specs.declared.rows.ListedRow.{ListedRow}
-use Rattle.rela_certfile.specs.Layout.{Layout, Shape, shape_at, row_line}
-use Rattle.rela_certfile.specs.Listed.{AreListed, AreListedFrom, IsListedAs}
+use Rattle.rela_certfile.specs.Layout.{Layout, Shape, row_line}
+use Rattle.rela_certfile.specs.Listed.{IsListedAs}
 use Rattle.rela_certfile.specs.Text.{complement_lines, ended, header, images_lines, last_line, lines_of, row_lines, text_begun, text_of, word_line}
 
 -- lines, and then others

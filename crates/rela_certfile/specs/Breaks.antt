@@ -3,7 +3,7 @@ use Rattle.std.specs.Prelude.{◌≡◌, ◌≢◌, ℕ, ◌+◌, List, [], ◌�
 use Rattle.rela_certfile.specs.declared.rows.ListedRow.{ListedRow}
 use Rattle.rela_certfile.specs.Layout.{Layout}
 use Rattle.rela_certfile.specs.Listed.{AreListed}
-use Rattle.rela_certfile.specs.Text.{ended, lines_of, text_of}
+use Rattle.rela_certfile.specs.Text.{ended, lines_of}
 
 -- some certificate begins with these lines
 pub record Begins (l : Layout) (lines : List (List ℕ)) : Type 0 where
@@ -22,4 +22,5 @@ pub record BreaksAt (l : Layout) (text : List ℕ) (number : ℕ) : Type 0 where
   pub begins : Begins l before
   pub breaks : (next : List ℕ) (rest : List ℕ) → after ≡ (next ++ 10 ∷ []) ++ rest →
       ¬ Begins l (before ++ next ∷ [])
-  pub unfinished : after ≡ [] → (rows : List ListedRow) → AreListed l rows → lines_of l rows ≢ before
+  pub unfinished : after ≡ [] → (rows : List ListedRow) → AreListed l rows →
+      lines_of l rows ≢ before

@@ -1,5 +1,5 @@
 -- The lines of listed rows one by one: what each says, and where it may stand.
-use Rattle.std.specs.Prelude.{◌≡◌, ℕ, ◌+◌, ◌-◌, ◌<◌, ◌≤◌, Option, None, Some, IsSome, List, [], ◌∷◌, ◌++◌, length, map, codes, ⊤}
+use Rattle.std.specs.Prelude.{◌≡◌, ℕ, ◌+◌, ◌-◌, ◌<◌, ◌≤◌, Option, None, Some, IsSome, List, [], ◌∷◌, codes, ⊤}
 use Rattle.rela_certfile.specs.declared.rows.Step.{Step}
 use Rattle.rela_certfile.specs.declared.item.Item.{Item}
 use Rattle.rela_certfile.specs.declared.item.Item.TheVariants.{Word, Complement, Images, Row}

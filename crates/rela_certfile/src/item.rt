@@ -6,7 +6,7 @@ ghost use Rattle.rela_certfile.specs.declared.item.Item.{Item};
 ghost use Rattle.rela_certfile.specs.declared.item.Item.TheVariants.{Complement, Images, Word};
 ghost use Rattle.rela_certfile.specs.Layout.{shape_at};
 
-use crate::layout::Outline;
+use crate::layout::PlanLayout;
 use crate::numbers::step_of;
 use crate::rows::Step;
 
@@ -58,12 +58,12 @@ impl State {
     /// What the line says, if it may come next.
     ///
     /// Time: linear in the line, and for the line of a row in the planned rows that are passed.
-    pub(crate) fn item_of(self, outline: &Outline, line: &[u8]) -> Option<Item>
+    pub(crate) fn item_of(self, layout: &PlanLayout, line: &[u8]) -> Option<Item>
         requires { self.words < 2 ^ 32 }
         ensures { (item : Item) → (result ≡ Some item)
-            ↔ ((line.now ≡ item_line outline.now item) × Allowed outline.now self item) }
+            ↔ ((line.now ≡ item_line layout.now item) × Allowed layout.now self item) }
     {
-        outline.is_layout();
+        layout.is_layout();
         if line == b"complement".as_slice() {
             return self.complement();
         }
@@ -76,7 +76,7 @@ impl State {
         if self.heads > 0 {
             return None;
         }
-        let place = outline.find(self.next, line)?;
+        let place = layout.find(self.next, line)?;
         Some(Item::Row(place))
     }
 
@@ -117,10 +117,10 @@ impl State {
     }
 
     /// What may come after a line that says this.
-    pub(crate) fn after(self, outline: &Outline, item: Item) -> State
-        requires allowed { Allowed outline.now self item }
+    pub(crate) fn after(self, layout: &PlanLayout, item: Item) -> State
+        requires allowed { Allowed layout.now self item }
         requires few { self.words < 2 ^ 32 }
-        ensures { result ≡ after outline.now self item }
+        ensures { result ≡ after layout.now self item }
     {
         match item {
             Item::Word(_) => State {
@@ -139,18 +139,18 @@ impl State {
                 bound: self.symbols,
                 ..self
             },
-            Item::Row(place) => self.in_row(outline, place),
+            Item::Row(place) => self.in_row(layout, place),
         }
     }
 
     /// What may come after the line of the row at this place.
-    fn in_row(self, outline: &Outline, place: usize) -> State
-        requires { IsSome (shape_at outline.now place) }
-        ensures { result ≡ with_row self place (shape_at outline.now place) }
+    fn in_row(self, layout: &PlanLayout, place: usize) -> State
+        requires { IsSome (shape_at layout.now place) }
+        ensures { result ≡ with_row self place (shape_at layout.now place) }
     {
-        match outline.shape(place) {
+        match layout.shape(place) {
             Some(shape) => State {
-                next: outline.place_after(place),
+                next: layout.place_after(place),
                 heads: shape.complements() as usize + 1,
                 words: self.words,
                 bound: 0,

@@ -1,14 +1,27 @@
 //! Laws of certificates. Each is a function that does nothing, and its contract is the law.
 
-ghost use Rattle.std.specs.Prelude.{◌≡◌, ◌<◌, ◌≤◌, ◌+◌, ◌^◌, ◌↔◌, ◌++◌, ◌∷◌, [], ℕ, All, List, Some, length, slice_get};
-ghost use Rattle.std.specs.List.{slice_index_or};
+ghost use Rattle.std.specs.Prelude.{◌≡◌, ◌≢◌, ◌<◌, ◌≤◌, ◌+◌, ◌-◌, ◌^◌, ◌↔◌, ◌++◌, ◌∷◌, [], ℕ, All, List, Some, codes, length, slice_get};
+ghost use Rattle.std.specs.List.{AllPairs, slice_index_or};
+ghost use Rattle.rela_flows.specs.Plan.{Plan};
+ghost use Rattle.rela_flows.specs.declared.predicate.FlowClass.{FlowClass};
+ghost use Rattle.rela_flows.specs.declared.predicate.Predicate.{Predicate};
+ghost use Rattle.rela_flows.specs.declared.planning.PlannedRow.{PlannedRow};
 ghost use Rattle.rela_certfile.specs.declared.rows.ListedRow.{ListedRow};
 ghost use Rattle.rela_certfile.specs.declared.rows.Step.{Step};
-ghost use Rattle.rela_certfile.specs.Blocks.{block_at, blocks_of};
+ghost use Rattle.rela_certfile.specs.Blocks.{block_at, blocks_of, head_line};
 ghost use Rattle.rela_certfile.specs.Breaks.{BreaksAt};
-ghost use Rattle.rela_certfile.specs.Layout.{IsLayout, Layout, shape_at};
+ghost use Rattle.rela_certfile.specs.Layout.{IsLayout, IsNamed, Layout, shape_at};
 ghost use Rattle.rela_certfile.specs.Listed.{AreListed, IsBlock, IsListedAs, words_of};
-ghost use Rattle.rela_certfile.specs.Text.{text_of};
+ghost use Rattle.rela_certfile.specs.Text.{lines_of, text_of, word_line};
+
+/// The rows of a plan differ, and name its flows and its checks.
+pub fn planned_rows()
+    ensures differ { (classes : List FlowClass) (checks : List Predicate)
+        (rows : List PlannedRow) → Plan classes checks rows → AllPairs (λ a b. a ≢ b) rows }
+    ensures named { (classes : List FlowClass) (checks : List Predicate)
+        (rows : List PlannedRow) → Plan classes checks rows →
+        All (IsNamed (length classes) (length checks)) rows }
+{}
 
 /// A text, of fewer than 2^32 bytes, is that of one list of rows at most.
 pub fn one_reading()
@@ -50,9 +63,24 @@ pub fn row_appended()
 {}
 
 /// The blocks of a listed row, by their numbers.
-pub fn row_blocks()
+pub fn listed_blocks()
     ensures { (rows : List ListedRow) (i k : ℕ) (row : ListedRow) →
         slice_get rows i ≡ Some row → block_at rows i k ≡ slice_get (blocks_of row) k }
+{}
+
+/// The lines of a block: its head stands at the line of that number, counted from 1, and its word
+/// lines follow in the order of its steps.
+pub fn block_lines()
+    ensures complement { (l : Layout) (rows : List ListedRow) (i k : ℕ) (row : ListedRow) →
+        slice_get rows i ≡ Some row → k < length row.complements →
+        slice_get (lines_of l rows) (head_line rows i k - 1) ≡ Some (codes "complement") }
+    ensures images { (l : Layout) (rows : List ListedRow) (i : ℕ) (row : ListedRow) →
+        slice_get rows i ≡ Some row →
+        slice_get (lines_of l rows) (head_line rows i (length row.complements) - 1)
+        ≡ Some (codes "images") }
+    ensures words { (l : Layout) (rows : List ListedRow) (i k j : ℕ) (steps : List Step)
+        (step : Step) → block_at rows i k ≡ Some steps → slice_get steps j ≡ Some step →
+        slice_get (lines_of l rows) (head_line rows i k + j) ≡ Some (word_line step) }
 {}
 
 /// The steps of a block are those that continue an earlier word, of which the first is the empty

@@ -82,7 +82,7 @@ impl<'a> CheckShape<'a> {
         self.symbols
     }
 
-    /// The check has a name, and its numbers have 32 bits. The call does nothing, and its contract
+    /// The check has a name, and its bounds have 32 bits. The call does nothing, and its contract
     /// is this law.
     fn is_shape(&self)
         ensures name { IsName self.now.name }
@@ -92,10 +92,10 @@ impl<'a> CheckShape<'a> {
     }
 }
 
-/// The rows of a plan, the names of its flows and what its checks ask. Contracts see it as a
-/// `Layout`.
+/// The rows of a plan, the names of its flows and what its checks ask. It tells which rows a
+/// certificate may list, and how their lines read. Contracts see it as a `Layout`.
 #[derive(Drop)]
-pub struct Outline<'a> {
+pub struct PlanLayout<'a> {
     /// The planned rows, in order.
     planned: &'a [PlannedRow],
     /// The names of the flows, in the order by which the planned rows number them.
@@ -104,34 +104,34 @@ pub struct Outline<'a> {
     checks: &'a [CheckShape<'a>],
 }
 
-impl<'a> Model for Outline<'a> {
+impl<'a> Model for PlanLayout<'a> {
     ghost use Rattle.std.specs.Prelude.{map};
     ghost use Rattle.rela_certfile.specs.Layout.{IsLayout, Layout};
 
     ghost Value = { Layout };
 
-    ghost view = { λ outline. record {
-      planned = outline.planned.now;
-      flows = map (λ name. name.now) outline.flows.now;
-      checks = outline.checks.now;
+    ghost view = { λ layout. record {
+      planned = layout.planned.now;
+      flows = map (λ name. name.now) layout.flows.now;
+      checks = layout.checks.now;
     } };
 
-    ghost invariant = { λ outline. IsLayout (record {
-      planned = outline.planned.now;
-      flows = map (λ name. name.now) outline.flows.now;
-      checks = outline.checks.now;
+    ghost invariant = { λ layout. IsLayout (record {
+      planned = layout.planned.now;
+      flows = map (λ name. name.now) layout.flows.now;
+      checks = layout.checks.now;
     }) };
 }
 
-impl<'a> Outline<'a> {
-    /// The outline of these planned rows, which differ, of the flows of these names, which differ,
+impl<'a> PlanLayout<'a> {
+    /// The layout of these planned rows, which differ, of the flows of these names, which differ,
     /// and of these checks, whose names differ. It takes no memory. Time: linear in the flows and
     /// the checks.
     pub fn new(
         planned: &'a [PlannedRow],
         flows: &'a [&'a Name],
         checks: &'a [CheckShape<'a>],
-    ) -> Outline<'a>
+    ) -> PlanLayout<'a>
         requires rows_differ { AllPairs (λ a b. a ≢ b) planned.now }
         requires named { All (IsNamed (length flows.now) (length checks.now)) planned.now }
         requires flows_differ { AllPairs (λ a b. a ≢ b) (map (λ name. name.now) flows.now) }
@@ -142,7 +142,7 @@ impl<'a> Outline<'a> {
     {
         are_named(flows);
         are_shapes(checks);
-        Outline {
+        PlanLayout {
             planned,
             flows,
             checks,
@@ -156,7 +156,7 @@ impl<'a> Outline<'a> {
         self.planned
     }
 
-    /// The rows, the flows and the checks are as [`new`](Outline::new) wants them. The call does
+    /// The rows, the flows and the checks are as [`new`](PlanLayout::new) wants them. The call does
     /// nothing, and its contract is this law.
     pub fn is_layout(&self)
         ensures { IsLayout self.now }
@@ -176,8 +176,8 @@ impl<'a> Outline<'a> {
         requires { IsSome (shape_at self.now place) }
         ensures { result ≡ place + 1 }
     {
-        let count = self.planned().len();
-        if place < count { place + 1 } else { count }
+        prove!(place < self.planned().len());
+        place + 1
     }
 
     /// The flow and the check of the row at this place, or `None` where no planned row stands there
@@ -280,7 +280,7 @@ fn are_named(flows: &[&Name])
     }
 }
 
-/// Each of these checks has a name and numbers of 32 bits. The call does nothing but look at each,
+/// Each of these checks has a name and bounds of 32 bits. The call does nothing but look at each,
 /// and its contract is this law.
 fn are_shapes(checks: &[CheckShape])
     ensures named { All IsName (check_names checks.now) }

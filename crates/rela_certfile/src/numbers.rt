@@ -1,6 +1,6 @@
 //! Numbers in decimal, and word lines.
 
-ghost use Rattle.std.specs.Prelude.{◌≡◌, ◌<◌, ◌≤◌, ◌+◌, ◌^◌, ◌++◌, ◌∷◌, [], ℕ, ◌↔◌, Some, OnOk, decimal, length};
+ghost use Rattle.std.specs.Prelude.{◌≡◌, ◌<◌, ◌≤◌, ◌+◌, ◌^◌, ◌++◌, ◌∷◌, [], ℕ, ◌↔◌, Some, IsTrue, OnOk, decimal, length, slice_index};
 ghost use Rattle.std.specs.Str.Parse.{IsNumeral, digits_value};
 ghost use Rattle.rela_certfile.specs.Text.{IsWordLine, word_line};
 
@@ -13,7 +13,7 @@ use std::alloc::AllocError;
 fn number_of(text: &[u8]) -> Option<u32>
     ensures { (n : ℕ) → (result ≡ Some n) ↔ ((n < 2 ^ 32) × (text.now ≡ decimal n)) }
 {
-    if text.len() > 1 && text[0] == b'0' {
+    if has_leading_zero(text) {
         return None;
     }
     let number = short_number(text)?;
@@ -22,6 +22,13 @@ fn number_of(text: &[u8]) -> Option<u32>
     } else {
         None
     }
+}
+
+/// Whether the text begins with a zero, and more follows.
+fn has_leading_zero(text: &[u8]) -> bool
+    ensures { IsTrue result ↔ ((1 < length text.now) × (slice_index text.now 0 ≡ 48)) }
+{
+    text.len() > 1 && text[0] == b'0'
 }
 
 /// The number that one to ten digits write, or `None` where the text is no such numeral.

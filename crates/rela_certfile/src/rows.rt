@@ -12,8 +12,9 @@ pub struct Step {
     pub symbol: u32,
 }
 
-/// A listed row.
-#[derive(Debug, Drop)]
+/// A listed row: one of the plan, with a block for each complement of its check and a block of
+/// images.
+#[derive(Drop)]
 pub struct ListedRow {
     /// The place of the row in the plan, counted from 0.
     pub place: usize,

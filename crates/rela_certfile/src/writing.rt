@@ -7,7 +7,7 @@ ghost use Rattle.rela_certfile.specs.Layout.{Layout, shape_at};
 ghost use Rattle.rela_certfile.specs.Listed.{AreListed, IsListedAs};
 ghost use Rattle.rela_certfile.specs.Text.{complement_lines, ended, text_begun, text_of, word_line};
 
-use crate::layout::Outline;
+use crate::layout::PlanLayout;
 use crate::numbers::push_step;
 use crate::rows::{ListedRow, Step};
 use rela_names::List;
@@ -47,12 +47,12 @@ impl Writer {
     /// # Errors
     ///
     /// Only where memory is wanted. What is written then is of no use.
-    pub fn push_row(&mut self, outline: &Outline, row: &ListedRow) -> Result<(), AllocError>
-        requires { IsListedAs (shape_at outline.now row.now.place) row.now }
-        ensures { OnOk result ((rows : List ListedRow) → self.old ≡ text_begun outline.now rows →
-            self.new ≡ text_begun outline.now (rows ++ row.now ∷ [])) }
+    pub fn push_row(&mut self, layout: &PlanLayout, row: &ListedRow) -> Result<(), AllocError>
+        requires { IsListedAs (shape_at layout.now row.now.place) row.now }
+        ensures { OnOk result ((rows : List ListedRow) → self.old ≡ text_begun layout.now rows →
+            self.new ≡ text_begun layout.now (rows ++ row.now ∷ [])) }
     {
-        outline.push_row_line(&mut self.text, row.place)?;
+        layout.push_row_line(&mut self.text, row.place)?;
         push_complements(&mut self.text, row.complements.as_slice())?;
         push_block(
             &mut self.text,
@@ -105,13 +105,13 @@ fn push_block(text: &mut Vec<u8>, head: &[u8], steps: &[Step]) -> Result<(), All
 /// # Errors
 ///
 /// Only where memory is wanted.
-pub fn text(alloc: Global, outline: &Outline, rows: &[ListedRow]) -> Result<Vec<u8>, AllocError>
-    requires { AreListed outline.now rows.now }
-    ensures { IfOk result (λ text. text.items ≡ text_of outline.now rows.now) }
+pub fn text(alloc: Global, layout: &PlanLayout, rows: &[ListedRow]) -> Result<Vec<u8>, AllocError>
+    requires { AreListed layout.now rows.now }
+    ensures { IfOk result (λ text. text.items ≡ text_of layout.now rows.now) }
 {
     let mut writer = Writer::new(alloc)?;
     for row in rows {
-        writer.push_row(outline, row)?;
+        writer.push_row(layout, row)?;
     }
     writer.finish()
 }

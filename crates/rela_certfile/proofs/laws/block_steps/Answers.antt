@@ -1,5 +1,4 @@
-use Rattle.std.proofs.Common.{◌≡◌, ◌+◌, ◌<◌, ◌≤◌, Some, arith}
-use Rattle.std.specs.List.{slice_get}
+use Rattle.std.proofs.Common.{◌+◌, ◌<◌, ◌≤◌, arith}
 use Rattle.rela_certfile.proofs.Derived.{step_within, steps_within}
 use Rattle.rela_certfile.proofs.laws.block_steps.Goals as goal
 

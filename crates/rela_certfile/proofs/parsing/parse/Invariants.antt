@@ -6,7 +6,7 @@ use Rattle.rela_certfile.proofs.parsing.parse.Given as goal
 -- the items so far
 abbrev pub invariant-loop-next : goal.invariant-loop-next
 invariant-loop-next l =
-    (items : List Item) × Read l.outline l.text l.rest l.line l.state l.builder items
+    (items : List Item) × Read l.layout l.text l.rest l.line l.state l.builder items
 
 abbrev pub decreases-loop-next : goal.decreases-loop-next
 decreases-loop-next l = length l.rest

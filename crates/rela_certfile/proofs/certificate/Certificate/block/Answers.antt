@@ -1,5 +1,4 @@
 use Rattle.std.proofs.Common.{◌≤◌, length, ap, ◌∙◌, rules, arith}
-use Rattle.std.specs.List.{slice_range}
 use Rattle.rela_certfile.specs.Parts.{end_of}
 use Rattle.rela_certfile.proofs.Lookups.{Found, block_found, start_there, seen}
 use Rattle.rela_certfile.proofs.certificate.Certificate.block.Goals as goal

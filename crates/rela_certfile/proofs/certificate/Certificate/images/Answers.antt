@@ -1,8 +1,7 @@
-use Rattle.std.proofs.Common.{◌≡◌, ◌-◌, Some, IsSome, subst, ap, sym, refl, ◌∙◌}
+use Rattle.std.proofs.Common.{◌≡◌, Some, IsSome, subst, ap, sym, refl, ◌∙◌}
 use Rattle.std.specs.List.{slice_get}
 use Rattle.std.specs.Option.{option_map}
 use Rattle.rela_certfile.specs.declared.rows.ListedRow.{ListedRow}
-use Rattle.rela_certfile.specs.Blocks.{block_at}
 use Rattle.rela_certfile.proofs.Lookups.{images_at, row_of_number}
 use Rattle.rela_certfile.proofs.certificate.Certificate.images.Goals as goal
 

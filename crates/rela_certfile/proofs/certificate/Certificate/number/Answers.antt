@@ -1,4 +1,4 @@
-use Rattle.std.proofs.Common.{◌≡◌, ℕ, ◌+◌, ◌^◌, ◌<◌, length, take, ap, arith}
+use Rattle.std.proofs.Common.{◌≡◌, ◌+◌, ◌^◌, ◌<◌, length, take, ap, arith}
 use Rattle.rela_certfile.specs.Held.{all_blocks}
 use Rattle.rela_certfile.proofs.Lookups.{number_found, row_there, seen}
 use Rattle.rela_certfile.proofs.certificate.Certificate.number.Goals as goal

@@ -1,9 +1,7 @@
-use Rattle.std.proofs.Common.{◌≡◌, ℕ, false, true, Option, IsSome, None, Some, refl, subst, sym, ◌∙◌, append_assoc}
-use Rattle.std.specs.List.{slice_get}
-use Rattle.rela_flows.specs.declared.planning.PlannedRow.TheVariants.{Checked}
+use Rattle.std.proofs.Common.{◌≡◌, ℕ, false, true, Option, IsSome, None, Some, refl, subst, append_assoc}
 use Rattle.rela_certfile.specs.Layout.{Shape, shape_at}
 use Rattle.rela_certfile.proofs.Joined.{named_in, shape_none, title_checked}
-use Rattle.rela_certfile.proofs.layout.Outline.push_row_line.Goals as goal
+use Rattle.rela_certfile.proofs.layout.PlanLayout.push_row_line.Goals as goal
 
 pub flow_name-requires : goal.flow_name-requires
 flow_name-requires c = (named_in c.args.self.now c.args.place _ _ c.checked.ensures.layout ((c.in-Some.ensures.row _ _).0 refl)).0

@@ -1,6 +1,6 @@
-use Rattle.std.proofs.Common.{ℕ, length, arith, ap}
+use Rattle.std.proofs.Common.{length, arith, ap}
 use Rattle.rela_certfile.proofs.Joined.{no_prefix, row_place}
-use Rattle.rela_certfile.proofs.layout.Outline.find.Goals as goal
+use Rattle.rela_certfile.proofs.layout.PlanLayout.find.Goals as goal
 
 pub returns-in_err-names : goal.returns-in_err-names
 returns-in_err-names c =

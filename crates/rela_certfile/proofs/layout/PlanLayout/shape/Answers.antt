@@ -1,6 +1,6 @@
 use Rattle.std.proofs.Common.{◌≡◌, ℕ, None, Some, refl, sym, ◌∙◌}
 use Rattle.rela_certfile.proofs.Joined.{shape_checked, shape_none}
-use Rattle.rela_certfile.proofs.layout.Outline.shape.Goals as goal
+use Rattle.rela_certfile.proofs.layout.PlanLayout.shape.Goals as goal
 
 pub returns-in-Some : goal.returns-in-Some
 returns-in-Some c =

@@ -1,7 +1,6 @@
-use Rattle.std.proofs.Common.{◌≡◌, ◌++◌, ◌∷◌, ◌↔◌, IsTrue, get_or, [], ℕ, None, Some, refl, codes}
-use Rattle.rela_certfile.specs.Layout.{check_names}
+use Rattle.std.proofs.Common.{◌≡◌, ℕ, None, Some, refl}
 use Rattle.rela_certfile.proofs.Joined.{is_row, no_row, named_in}
-use Rattle.rela_certfile.proofs.layout.Outline.has_names.Goals as goal
+use Rattle.rela_certfile.proofs.layout.PlanLayout.has_names.Goals as goal
 
 pub flow_name-requires : goal.flow_name-requires
 flow_name-requires c = (named_in c.args.self.now c.args.place _ _ c.checked.ensures.layout ((c.in-Some.ensures.row _ _).0 refl)).0
