@@ -1,5 +1,5 @@
 -- The lists of sets that listed words reach, in a table, and what leads from one to another.
-use Rattle.std.specs.Prelude.{◌≡◌, ◌≢◌, ℕ, ◌<◌, ◌⊎◌, ◌||◌, Bool, true, false, List, [], ◌∷◌, ◌++◌, length, slice_index_or, slice_set, Some, None}
+use Rattle.std.specs.Prelude.{◌≡◌, ◌≢◌, ℕ, ◌<◌, ◌⊎◌, ◌↔◌, ◌||◌, Bool, IsTrue, true, false, List, [], ◌∷◌, ◌++◌, length, slice_index_or, slice_set, Some, None}
 use Rattle.std.specs.HashMap.{HashMap, get}
 use Rattle.std.specs.List.{All}
 use Rattle.std.specs.Prelude.{nat_eq}
@@ -9,7 +9,7 @@ use Rattle.rela_names.specs.Shortlex.{IsBefore}
 use Rattle.rela_nfa.specs.Automaton.{Automaton, IsMove, Move}
 use Rattle.rela_nfa.specs.Runs.{StepIn}
 use Rattle.rela_build.specs.Complement.{IsOver}
-use Rattle.rela_closed.specs.Sets.{AreReached, Leads}
+use Rattle.rela_closed.specs.Sets.{AreReached, HasFinal, Leads}
 use Rattle.rela_closed.specs.Words.{IsUpTo}
 
 -- each word has the number of the sets that it reaches, that of the first is 0, and some word reaches each
@@ -44,6 +44,20 @@ pub record IsLeft (over : List Bool) (automata : List Automaton)
   pub read : has over letter ≡ true
   pub leads : Leads automata (slice_index_or table from []) letter next
   pub lacking : (j : ℕ) → j < length table → slice_index_or table j [] ≢ next
+
+-- whether the n-th of the sets with each of these numbers has a final state of the automaton
+pub record TellsFinals (a : Automaton) (n : ℕ) (table : List (List (List ℕ)))
+    (numbers : List ℕ) (flags : List Bool) : Type 0 where
+  pub each : length flags ≡ length numbers
+  pub final_states : (i : ℕ) → i < length numbers → IsTrue (slice_index_or flags i false)
+      ↔ HasFinal a (slice_index_or (slice_index_or table (slice_index_or numbers i 0) []) n [])
+
+-- so for each automaton
+pub record TellAllFinals (automata : List Automaton) (table : List (List (List ℕ)))
+    (numbers : List ℕ) (accepted : List (List Bool)) : Type 0 where
+  pub each : length accepted ≡ length automata
+  pub finals : (n : ℕ) (a : Automaton) → n < length automata →
+      TellsFinals (slice_index_or automata n a) n table numbers (slice_index_or accepted n [])
 
 -- edges by the letters of the set below k, each to where its letters lead
 pub record AreEdges (over : List Bool) (automata : List Automaton) (table : List (List (List ℕ)))

@@ -3,10 +3,11 @@
 //! `AllocError` comes only where memory is refused.
 #![tactic(auto)]
 
+mod acceptance;
 mod closed_laws;
-mod closed_list;
 mod closedness;
 mod closure;
+mod following;
 mod marks;
 mod numbering;
 mod reader;
@@ -15,5 +16,5 @@ mod table;
 mod visited;
 
 pub use closed_laws::{closed_lists_decide, listed_words_are_over};
-pub use closed_list::is_closed_list;
+pub use following::{Followed, follow};
 pub use step::Step;
