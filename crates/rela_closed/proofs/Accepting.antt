@@ -1,9 +1,9 @@
 -- Words that automata accept, told by the final states of the sets that they reach.
-use Rattle.std.proofs.Common.{◌≡◌, ℕ, ◌+◌, ◌<◌, ◌≤◌, ◌↔◌, Bool, false, List, [], ◌∷◌, ◌++◌, length, get_or, map, take, refl, sym, ap, ◌∙◌, subst, inl, inr, arith}
+use Rattle.std.proofs.Common.{◌≡◌, ℕ, ◌+◌, ◌<◌, ◌≤◌, ◌↔◌, Bool, true, false, not, List, [], ◌∷◌, ◌++◌, length, get_or, map, take, refl, sym, ap, ◌∙◌, subst, inl, inr, arith}
 use Rattle.std.specs.Bool.{IsTrue}
 use Rattle.std.specs.List.{All}
 use Rattle.std.proofs.lemmas.Bool.{cases_lt, false≢true}
-use Rattle.std.proofs.lemmas.List.{get_or-map, get_or_append_left, get_or_push, length-map, length_push, map_push, take_all}
+use Rattle.std.proofs.lemmas.List.{get_or-map, get_or_append_left, get_or_push, length-map, length_push, take_all}
 use Rattle.std.proofs.lemmas.List.Elements.{All-from_get_or, All-get_or}
 use Rattle.std.proofs.lemmas.Option.{get_or_from_slice_get, slice_get_within}
 use Rattle.rela_nfa.specs.Automaton.{Automaton}
@@ -28,9 +28,16 @@ pub set_at : {Y : Type 0} (items : Y → List ℕ) (sets : List Y) (n : ℕ) (y 
 set_at items sets n y all set view below at is =
     ap (λ (l : List (List ℕ)). get_or l n []) (sym view) ∙ get_or-map items sets n y [] (omega (arith, below, ap length view, length-map sets items)) ∙ ap items (sym at) ∙ sym is
 
--- lists that get one more
-pub map_pushed : {X Y : Type 0} (f : X → Y) (xs xs' : List X) (x : X) → xs' ≡ xs ++ x ∷ [] → map f xs' ≡ map f xs ++ f x ∷ []
-map_pushed f xs xs' x pushed = ap (map f) pushed ∙ map_push f xs x
+-- the other flags
+pub others_tell : (P : ℕ → Type 0) (flags others : List Bool) (n : ℕ) → length flags ≡ n → others ≡ map not flags → ((i : ℕ) → i < n → IsTrue (get_or flags i false) ↔ P i)
+    → (i : ℕ) → i < n → IsTrue (get_or others i false) ↔ (¬ P i)
+others_tell P flags others n len are tell i below =
+    subst (λ flag. IsTrue flag ↔ (¬ P i)) (sym (ap (λ (l : List Bool). get_or l i false) are ∙ get_or-map not flags i false false (omega arith)))
+    (other (get_or flags i false) (P i) (tell i below))
+  where
+    other : (b : Bool) (Q : Type 0) → IsTrue b ↔ Q → IsTrue (not b) ↔ (¬ Q)
+    other true Q tells = (λ yes'. absurd (false≢true yes'), λ none. absurd (none (tells.0 refl)))
+    other false Q tells = (λ _ q. false≢true (tells.1 q), λ _. refl)
 
 -- one flag more
 pub flags_longer : (flags flags' : List Bool) (n : ℕ) (b : Bool) → length flags ≡ n → flags' ≡ flags ++ b ∷ [] → length flags' ≡ n + 1

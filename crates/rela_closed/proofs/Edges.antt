@@ -1,13 +1,13 @@
 -- Edges that are put among those out of one set, letter by letter.
-use Rattle.std.proofs.Common.{◌≡◌, ℕ, ◌+◌, ◌<◌, ◌⊎◌, ◌↔◌, ◌||◌, Bool, true, false, List, [], ◌∷◌, length, get_or, set, Option, None, Some, refl, sym, ap, ◌∙◌, subst, inl, inr, arith}
+use Rattle.std.proofs.Common.{◌≡◌, ℕ, ◌+◌, ◌<◌, ◌⊎◌, ◌↔◌, ◌||◌, Bool, true, false, List, [], ◌∷◌, ◌++◌, length, get_or, set, Option, None, Some, refl, sym, ap, ◌∙◌, subst, inl, inr, arith}
 use Rattle.std.specs.List.{All, Contains}
 use Rattle.std.proofs.lemmas.Bool.{cases_eq, cases_lt, false≢true, or_cases}
-use Rattle.std.proofs.lemmas.List.{get_or-set_other, get_or-set_same, get_or_default, length-set}
+use Rattle.std.proofs.lemmas.List.{get_or-set_other, get_or-set_same, get_or_append_left, get_or_default, get_or_past, get_or_push, length-set}
 use Rattle.std.proofs.lemmas.List.Elements.{All-nil, All-push, All-set, Contains-append_left, Contains-push, Contains-push_cases}
 use Rattle.rela_labels.specs.Letters.{has}
 use Rattle.rela_nfa.specs.Automaton.{Automaton, IsMove, Move}
 use Rattle.rela_nfa.specs.Runs.{StepIn}
-use Rattle.rela_closed.specs.Listing.{AreEdges, IsPutIn, takes}
+use Rattle.rela_closed.specs.Listing.{AreAllEdges, AreEdges, AreFollowed, IsPutIn, takes}
 use Rattle.rela_closed.specs.Sets.{Leads}
 use Rattle.rela_closed.proofs.Targets.{Contains-nil}
 
@@ -177,3 +177,36 @@ module _ (over : List Bool) (automata : List Automaton) (table : List (List (Lis
     ];
     moves = put_moves label to out out' put (length over) (length table) len below are.moves;
   }
+
+-- the edges out of one more
+pub all_edges_more : (over : List Bool) (automata : List Automaton) (table : List (List (List ℕ))) (n : ℕ) (edges edges' : List (List Move)) (out : List Move) → length edges ≡ n
+    → edges' ≡ edges ++ out ∷ [] → AreAllEdges over automata table n edges → AreEdges over automata table (get_or table n []) (length over) out → AreAllEdges over automata table (n + 1) edges'
+all_edges_more over automata table n edges edges' out len pushed before here i below =
+    subst (λ (l : List (List Move)). AreEdges over automata table (get_or table i []) (length over) (get_or l i [])) (sym pushed) (elim (cases_lt i n) [
+      | inl earlier ↦
+          subst (AreEdges over automata table (get_or table i []) (length over)) (sym (get_or_append_left edges (out ∷ []) [] i (omega arith))) (before i earlier)
+      | inr last ↦
+          let same : n ≡ i = omega arith in
+          subst (AreEdges over automata table (get_or table i []) (length over)) (sym (get_or_push edges out [] i (len ∙ same)))
+          (subst (λ m. AreEdges over automata table (get_or table m []) (length over) out) same here)
+    ])
+
+pub letter_below : (over : List Bool) (k : ℕ) → has over k ≡ true → k < length over
+letter_below over k read = elim (cases_lt k (length over)) [
+  | inl below ↦ below
+  | inr past ↦ absurd (false≢true (sym (get_or_past over k false past) ∙ read))
+]
+
+-- edges lead to sets of the table
+pub edges_followed : (over : List Bool) (automata : List Automaton) (table : List (List (List ℕ))) (n : ℕ) (edges : List (List Move)) → AreAllEdges over automata table n edges
+    → AreFollowed over automata table n
+edges_followed over automata table n edges are i k below read =
+    let (to, step) = (are i below).all k (letter_below over k read) read in
+    let (also_read, to_below, leads) = (are i below).sound k to step in
+    (to, record { below = to_below; leads = leads })
+
+-- the same of what is equal
+pub edges_as : (over : List Bool) (automata automata' : List Automaton) (table table' : List (List (List ℕ))) (p k : ℕ) (out : List Move) → automata' ≡ automata → table' ≡ table
+    → AreEdges over automata' table' (get_or table' p []) k out → AreEdges over automata table (get_or table p []) k out
+edges_as over automata automata' table table' p k out one two are =
+    subst (λ l. AreEdges over l table (get_or table p []) k out) one (subst (λ t. AreEdges over automata' t (get_or t p []) k out) two are)

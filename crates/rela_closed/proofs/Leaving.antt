@@ -4,7 +4,7 @@ use Rattle.std.proofs.lemmas.Bool.{cases_lt, false≢true}
 use Rattle.std.proofs.lemmas.List.{get_or_past}
 use Rattle.rela_labels.specs.Letters.{has}
 use Rattle.rela_nfa.specs.Automaton.{Automaton}
-use Rattle.rela_closed.specs.Listing.{AreFollowed, IsFollowed, IsLeft}
+use Rattle.rela_closed.specs.Listing.{AreFollowed, IsFollowed, IsLeft, LeadsOut, LeadsTo}
 use Rattle.rela_closed.specs.Sets.{AreDistinct, AreNumbered, Leads}
 use Rattle.rela_closed.proofs.Listed.{table_kept}
 
@@ -27,20 +27,12 @@ module _ (automata : List Automaton) (sets : List (List ℕ)) (table table' : Li
   new_lacking at distinct j below same =
       distinct j n (omega arith) numbered.within (table_kept automata sets table table' n numbered j below ∙ same ∙ sym numbered.at)
 
-  module _ (over : List Bool) (p k : ℕ) (p_in : p < length table) (leads : Leads automata (get_or table p []) k sets) where
-    pub goes_on : (n ≡ length table → ⊥) → IsFollowed automata table (get_or table p []) k
-    goes_on other = (n, known_below other, subst (λ s. Leads automata (get_or table p []) k s) (sym (known_at other)) leads)
+  module _ (here : List (List ℕ)) (k : ℕ) (leads : Leads automata here k sets) where
+    pub goes_on : (n ≡ length table → ⊥) → LeadsTo automata table here k n
+    goes_on other = record { below = known_below other; leads = subst (λ s. Leads automata here k s) (sym (known_at other)) leads }
 
-    pub goes_out : has over k ≡ true → n ≡ length table → AreDistinct table' → IsLeft over automata table
-    goes_out read at distinct = record {
-      from = p;
-      letter = k;
-      next = sets;
-      within = p_in;
-      read = read;
-      leads = leads;
-      lacking = new_lacking at distinct;
-    }
+    pub goes_out : n ≡ length table → AreDistinct table' → LeadsOut automata table here k
+    goes_out at distinct = record { next = sets; leads = leads; lacking = new_lacking at distinct }
 
 module _ (over : List Bool) (automata : List Automaton) (table : List (List (List ℕ))) (sets : List (List ℕ)) (k : ℕ) where
   pub followed_more : ((j : ℕ) → j < k → has over j ≡ true → IsFollowed automata table sets j) → (has over k ≡ true → IsFollowed automata table sets k)
@@ -68,6 +60,11 @@ left_more over automata table p before here i k below read = elim (cases_lt i p)
 ]
 
 -- the same of what is equal
+pub leads_as : (automata automata' : List Automaton) (table table' : List (List (List ℕ))) (p k to : ℕ) → automata' ≡ automata → table' ≡ table
+    → LeadsTo automata' table' (get_or table' p []) k to → LeadsTo automata table (get_or table p []) k to
+leads_as automata automata' table table' p k to one two is =
+    subst (λ l. LeadsTo l table (get_or table p []) k to) one (subst (λ t. LeadsTo automata' t (get_or t p []) k to) two is)
+
 pub followed_as : (automata automata' : List Automaton) (table table' : List (List (List ℕ))) (p k : ℕ) → automata' ≡ automata → table' ≡ table
     → IsFollowed automata' table' (get_or table' p []) k → IsFollowed automata table (get_or table p []) k
 followed_as automata automata' table table' p k one two is =

@@ -10,6 +10,7 @@ pub mod JointSets
 pub mod LastLetters
 pub mod Machine
 pub mod Marking
+pub mod Placing
 pub mod Readers
 pub mod Searching
 pub mod SetsFound

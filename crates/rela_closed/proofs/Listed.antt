@@ -114,9 +114,9 @@ module _ (automata : List Automaton) where
     pub closed_list : (over : List Bool) → AreFollowed over automata table (length table) → IsClosed over automata words
     closed_list over followed word k among read =
         let (m, m_below, reached) = listed_sets word among in
-        let (to, to_below, leads) = followed m k m_below read in
-        let (j, j_below, there) = met_by to to_below in
-        (get_or words j [], Contains-get_or words j [] j_below, sets_same automata (get_or words j []) (word ++ k ∷ []) (get_or table to []) there (leads word reached))
+        let (to, there) = followed m k m_below read in
+        let (j, j_below, met) = met_by to there.below in
+        (get_or words j [], Contains-get_or words j [] j_below, sets_same automata (get_or words j []) (word ++ k ∷ []) (get_or table to []) met (there.leads word reached))
 
     -- and open where one leads out of it
     pub open_list : (over : List Bool) → IsLeft over automata table → ¬ IsClosed over automata words
@@ -125,7 +125,7 @@ module _ (automata : List Automaton) where
         let word = get_or words i [] in
         let (v, among, same) = closed word left.letter (Contains-get_or words i [] i_below) left.read in
         let (m, m_below, there) = listed_sets v among in
-        left.lacking m m_below (same_sets automata v (word ++ left.letter ∷ []) (get_or table m []) left.next there (left.leads word reached) same)
+        left.out.lacking m m_below (same_sets automata v (word ++ left.letter ∷ []) (get_or table m []) left.out.next there (left.out.leads word reached) same)
 
 -- the same for automata that equal those
 pub all_met_by : (old mid : List Automaton) (words : List (List ℕ)) (table : List (List (List ℕ))) (numbers : List ℕ) → mid ≡ old → AreListed old words table numbers → All (AreMet mid) table

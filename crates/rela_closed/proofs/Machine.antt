@@ -4,7 +4,7 @@ use Rattle.std.specs.Bool.{IsTrue}
 use Rattle.std.specs.List.{All, Contains}
 use Rattle.std.specs.Option.{option_to_list, unwrap_or}
 use Rattle.std.proofs.lemmas.Bool.{cases_Bool, cases_lt, false≢true}
-use Rattle.std.proofs.lemmas.List.{append-nil, append_assoc, get_or_past}
+use Rattle.std.proofs.lemmas.List.{append-nil, append_assoc}
 use Rattle.std.proofs.lemmas.List.Elements.{All-from_get_or, All-get_or, All-head, All-nil, All-push, All-tail}
 use Rattle.rela_labels.specs.Letters.{has}
 use Rattle.rela_nfa.specs.Automaton.{Automaton, IsAutomaton, IsFinal, IsMove, Move, moves_of}
@@ -12,10 +12,16 @@ use Rattle.rela_nfa.specs.Runs.{Accepts, HasStep, Reach, StepIn}
 use Rattle.rela_nfa.proofs.Reaching.{reach_each, reach_start, reach_step}
 use Rattle.rela_closed.specs.Closed.{SameStates}
 use Rattle.rela_build.specs.Complement.{IsComplement, IsOver, ReachApart, ReachSame, TellsAll}
-use Rattle.rela_closed.specs.Listing.{AreAllEdges, takes}
+use Rattle.rela_closed.specs.Listing.{AreAllEdges, AreListed, takes}
 use Rattle.rela_closed.specs.Sets.{AreDistinct, AreMet, AreReached, HasFinal, Lists, ReachedBy}
+use Rattle.rela_closed.specs.Words.{words_of}
+use Rattle.rela_closed.specs.declared.step.Step.{Step}
+use Rattle.rela_closed.proofs.Accepting.{accepts_final}
 use Rattle.rela_closed.proofs.Alike.{same_refl}
+use Rattle.rela_closed.proofs.Edges.{letter_below}
 use Rattle.rela_closed.proofs.JointSets.{same_sets, sets_apart, sets_same}
+use Rattle.rela_closed.proofs.Listed.{all_met}
+use Rattle.rela_closed.proofs.WordLists.{words_first, words_of_length}
 use Rattle.rela_closed.proofs.Targets.{Contains-cons_cases, Contains-head, Contains-nil, Contains-one, Contains-tail}
 
 -- where the first edge by a letter leads
@@ -107,15 +113,9 @@ module _ (over : List Bool) (a : Automaton) (table : List (List (List ℕ))) (r 
           here ∙ same,
         )
 
-    has_below : (k : ℕ) → has over k ≡ true → k < length over
-    has_below k read = elim (cases_lt k (length over)) [
-      | inl below ↦ below
-      | inr past ↦ absurd (false≢true (sym (get_or_past over k false past) ∙ read))
-    ]
-
     is_next : (q k : ℕ) → q < length table → has over k ≡ true → IsNext q k
     is_next q k q_in read =
-        let (to, step) = (is.edges q q_in).all k (has_below k read) read in
+        let (to, step) = (is.edges q q_in).all k (letter_below over k read) read in
         (step_next q k to q_in step).1
 
     -- where a word leads on
@@ -195,11 +195,7 @@ module _ (over : List Bool) (a : Automaton) (table : List (List (List ℕ))) (r 
     set_of (set ∷ sets) word reached = reached.0
 
     accepted : (word : List ℕ) → IsOver over word → Accepts a word ↔ HasFinal a (get_or (get_or table (after word) []) 0 [])
-    accepted word read =
-        let lists = set_of (get_or table (after word) []) word (is_led word read).reached in (
-          λ (q, reach, final). (q, (lists.members q).1 reach, final),
-          λ (q, among, final). (q, (lists.members q).0 among, final),
-        )
+    accepted word read = accepts_final a word (get_or (get_or table (after word) []) 0 []) (set_of (get_or table (after word) []) word (is_led word read).reached)
 
     pub language_after : (word : List ℕ) → Accepts r word ↔ (IsOver over word × (¬ Accepts a word))
     language_after word = (
@@ -234,3 +230,39 @@ module _ (over : List Bool) (a : Automaton) (table : List (List (List ℕ))) (r 
       told = told_after;
       language = language_after;
     }
+
+-- the automaton of a table whose sets listed words reach
+pub machine : (over : List Bool) (a : Automaton) (steps : List Step) (table : List (List (List ℕ))) (numbers : List ℕ) (r : Automaton) → AreListed (a ∷ []) (words_of steps) table numbers
+    → AreDistinct table → r.letters ≡ length over → r.start ≡ 0 → length r.finals ≡ length table → length r.edges ≡ length table → AreAllEdges over (a ∷ []) table (length table) r.edges
+    → ((i : ℕ) → i < length table → IsTrue (get_or r.finals i false) ↔ (¬ HasFinal a (get_or (get_or table i []) 0 []))) → IsMachine over a table r
+machine over a steps table numbers r listed distinct letters start finals each edges final_states =
+    let some : 0 < length (words_of steps) = omega (arith, words_of_length steps) in
+    let within : get_or numbers 0 0 < length table = listed.within 0 some in
+    record {
+      letters = letters;
+      start = start;
+      finals = finals;
+      each = each;
+      edges = edges;
+      first =
+          subst (λ n. AreReached (a ∷ []) [] (get_or table n [])) listed.first
+          (subst (λ w. AreReached (a ∷ []) w (get_or table (get_or numbers 0 0) [])) (words_first steps) (listed.reached 0 some));
+      some = omega arith;
+      met = all_met (a ∷ []) (words_of steps) table numbers listed;
+      distinct = distinct;
+      final_states = final_states;
+    }
+
+-- the same for automata, a table and parts that equal those
+pub machine_by : (over : List Bool) (a : Automaton) (steps : List Step) (old mid : List Automaton) (table table' : List (List (List ℕ))) (numbers : List ℕ) (flags : List Bool) (edges : List (List Move))
+    (r : Automaton) → old ≡ a ∷ [] → mid ≡ old → table' ≡ table → AreListed old (words_of steps) table numbers → AreDistinct table → length over ≡ a.letters → length flags ≡ length table'
+    → ((i : ℕ) → i < length table' → IsTrue (get_or flags i false) ↔ (¬ HasFinal a (get_or (get_or table' i []) 0 []))) → length edges ≡ length table
+    → AreAllEdges over mid table (length table) edges → r.letters ≡ a.letters → r.start ≡ 0 → r.finals ≡ flags → r.edges ≡ edges → IsMachine over a table r
+machine_by over a steps old mid table table' numbers flags edges r one two three listed distinct size len refused each are letters start finals is_edges =
+    machine over a steps table numbers r (subst (λ (l : List Automaton). AreListed l (words_of steps) table numbers) one listed) distinct (letters ∙ sym size) start
+    (ap length finals ∙ len ∙ ap length three) (ap length is_edges ∙ each)
+    (subst (λ (es : List (List Move)). AreAllEdges over (a ∷ []) table (length table) es) (sym is_edges)
+    (subst (λ (l : List Automaton). AreAllEdges over l table (length table) edges) (two ∙ one) are))
+    (λ i below.
+    subst (λ (fs : List Bool). IsTrue (get_or fs i false) ↔ (¬ HasFinal a (get_or (get_or table i []) 0 []))) (sym finals)
+    (subst (λ (t : List (List (List ℕ))). IsTrue (get_or flags i false) ↔ (¬ HasFinal a (get_or (get_or t i []) 0 []))) three (refused i (omega (arith, below, ap length three)))))

@@ -1,7 +1,7 @@
 -- Automata that are read one after the other.
 use Rattle.std.proofs.Common.{◌≡◌, ℕ, ◌+◌, ◌<◌, List, [], ◌∷◌, ◌++◌, length, get_or, map, take, sym, ap, ◌∙◌, subst, arith}
 use Rattle.std.specs.List.{All}
-use Rattle.std.proofs.lemmas.List.{get_or-map, length-map, map_more}
+use Rattle.std.proofs.lemmas.List.{get_or-map, length-map, map_more, map_push}
 use Rattle.std.proofs.lemmas.List.Elements.{All-get_or}
 use Rattle.rela_nfa.specs.Automaton.{Automaton}
 use Rattle.rela_closed.specs.Sets.{AreReached, Lists, ReachedBy}
@@ -10,6 +10,9 @@ use Rattle.rela_closed.proofs.JointSets.{reached_more}
 -- one item more
 pub map_take_more : {X Y : Type 0} (f : X → Y) (xs : List X) (i : ℕ) (x : X) → i < length xs → x ≡ get_or xs i x → map f (take (i + 1) xs) ≡ map f (take i xs) ++ f x ∷ []
 map_take_more f xs i x below at = map_more f xs i x below ∙ ap (λ y. map f (take i xs) ++ f y ∷ []) (sym at)
+
+pub map_pushed : {X Y : Type 0} (f : X → Y) (xs xs' : List X) (x : X) → xs' ≡ xs ++ x ∷ [] → map f xs' ≡ map f xs ++ f x ∷ []
+map_pushed f xs xs' x pushed = ap (map f) pushed ∙ map_push f xs x
 
 -- what holds of all holds of an item
 pub all_at : {X Y : Type 0} (P : Y → Type 0) (f : X → Y) (xs : List X) (i : ℕ) (x : X) → i < length xs → x ≡ get_or xs i x → All P (map f xs) → P (f x)

@@ -24,12 +24,24 @@ pub record AreListed (automata : List Automaton) (words : List (List ℕ))
   pub met : (n : ℕ) → n < length table → (i : ℕ) × (i < length words)
       × (slice_index_or numbers i 0 ≡ n)
 
+-- the letter leads from the sets to those of the table with the number `to`
+pub record LeadsTo (automata : List Automaton) (table : List (List (List ℕ)))
+    (sets : List (List ℕ)) (k to : ℕ) : Type 0 where
+  pub below : to < length table
+  pub leads : Leads automata sets k (slice_index_or table to [])
+
 -- the letter leads from the sets to sets of the table
 abbrev pub IsFollowed : List Automaton → List (List (List ℕ)) → List (List ℕ) → ℕ → Type 0
-IsFollowed automata table sets k =
-    (to : ℕ) × (to < length table) × Leads automata sets k (slice_index_or table to [])
+IsFollowed automata table sets k = (to : ℕ) × LeadsTo automata table sets k to
 
--- so does each of the letters from each of the first n of the table
+-- it leads to sets that aren't in the table
+pub record LeadsOut (automata : List Automaton) (table : List (List (List ℕ)))
+    (sets : List (List ℕ)) (k : ℕ) : Type 0 where
+  pub next : List (List ℕ)
+  pub leads : Leads automata sets k next
+  pub lacking : (j : ℕ) → j < length table → slice_index_or table j [] ≢ next
+
+-- each of the letters leads from each of the first n of the table to sets of the table
 abbrev pub AreFollowed : List Bool → List Automaton → List (List (List ℕ)) → ℕ → Type 0
 AreFollowed over automata table n =
     (i k : ℕ) → i < n → has over k ≡ true → IsFollowed automata table (slice_index_or table i []) k
@@ -39,11 +51,9 @@ pub record IsLeft (over : List Bool) (automata : List Automaton)
     (table : List (List (List ℕ))) : Type 0 where
   pub from : ℕ
   pub letter : ℕ
-  pub next : List (List ℕ)
   pub within : from < length table
   pub read : has over letter ≡ true
-  pub leads : Leads automata (slice_index_or table from []) letter next
-  pub lacking : (j : ℕ) → j < length table → slice_index_or table j [] ≢ next
+  pub out : LeadsOut automata table (slice_index_or table from []) letter
 
 -- whether the n-th of the sets with each of these numbers has a final state of the automaton
 pub record TellsFinals (a : Automaton) (n : ℕ) (table : List (List (List ℕ)))

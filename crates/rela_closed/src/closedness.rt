@@ -5,6 +5,7 @@ ghost use Rattle.rela_labels.specs.Letters.{has};
 ghost use Rattle.rela_closed.specs.Listing.{AreFollowed, IsFollowed, IsLeft};
 ghost use Rattle.rela_closed.specs.Sets.{AreMet};
 
+use crate::followers::follower;
 use crate::reader::Reader;
 use crate::table::Table;
 use rela_labels::LabelSet;
@@ -83,10 +84,6 @@ fn leads_back<'a, L: LabelSet>(
     if !over.contains(letter) {
         return Ok(true);
     }
-    let known = table.len();
-    let next = reader.next(alloc, table.get(number), letter)?;
-    if table.number(next)? == known {
-        return Ok(false);
-    }
-    Ok(true)
+    let next = follower(alloc, reader, table, number, letter)?;
+    Ok(next.is_some())
 }

@@ -4,17 +4,22 @@
 #![tactic(auto)]
 
 mod acceptance;
+mod bundle;
 mod closed_laws;
 mod closedness;
 mod closure;
+mod complementing;
+mod followers;
 mod following;
 mod marks;
 mod numbering;
 mod reader;
 mod step;
 mod table;
+mod transitions;
 mod visited;
 
 pub use closed_laws::{closed_lists_decide, listed_words_are_over};
+pub use complementing::complement;
 pub use following::{Followed, follow};
 pub use step::Step;

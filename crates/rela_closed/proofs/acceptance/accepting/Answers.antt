@@ -2,8 +2,8 @@ use Rattle.std.proofs.Common.{◌+◌, Bor, map, take, ap, sym, ◌∙◌, arith
 use Rattle.std.proofs.lemmas.List.{get_or-map, length-map, length-take-le}
 use Rattle.rela_nfa.specs.Automaton.{Automaton}
 use Rattle.rela_nfa.specs.declared.nfa.Nfa.{Nfa}
-use Rattle.rela_closed.proofs.Accepting.{finals_more, map_pushed, met_set, some_set}
-use Rattle.rela_closed.proofs.Readers.{map_take_more}
+use Rattle.rela_closed.proofs.Accepting.{finals_more, met_set, some_set}
+use Rattle.rela_closed.proofs.Readers.{map_pushed, map_take_more}
 use Rattle.rela_closed.proofs.acceptance.accepting.Goals as goal
 
 pub finals_at-requires-clause-some : goal.finals_at-requires-clause-some

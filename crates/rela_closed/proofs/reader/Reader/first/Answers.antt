@@ -1,10 +1,10 @@
 use Rattle.std.proofs.Common.{◌≤◌, Bor, [], map, take, ap, ◌∙◌, subst, arith}
 use Rattle.std.specs.List.{All}
-use Rattle.std.proofs.lemmas.List.{map_push, take_all}
+use Rattle.std.proofs.lemmas.List.{take_all}
 use Rattle.rela_nfa.specs.Automaton.{Automaton, states}
 use Rattle.rela_nfa.specs.declared.nfa.Nfa.{Nfa}
 use Rattle.rela_closed.specs.Sets.{AreReached}
-use Rattle.rela_closed.proofs.Readers.{all_at, map_take_more, reached_pushed}
+use Rattle.rela_closed.proofs.Readers.{all_at, map_pushed, map_take_more, reached_pushed}
 use Rattle.rela_closed.proofs.SetsFound.{sets_in}
 use Rattle.rela_closed.proofs.reader.Reader.first.Goals as goal
 
@@ -25,7 +25,7 @@ loop-a-preserved g c =
       reached =
           reached_pushed (map now (take c.loop-a.a-index c.self.inside.automata.now)) _ c.a-item.result.now [] (sets_in c.loop-a.sets.items) _ c.in_ok-first_set.field-0.items
           (map_take_more now c.self.inside.automata.now c.loop-a.a-index c.a-item.result c.loop-a-test.true c.a-item.is)
-          (ap sets_in c.in_ok-push.ensures.items ∙ map_push (λ set. set.items) c.loop-a.sets.items c.in_ok-first_set.field-0) c.loop-a.invariant.reached c.in_ok-first_set.ensures.first;
+          (map_pushed (λ set. set.items) c.loop-a.sets.items c.push.new.self.items c.in_ok-first_set.field-0 c.in_ok-push.ensures.items) c.loop-a.invariant.reached c.in_ok-first_set.ensures.first;
     }
 
 pub returns-clause-first : goal.returns-clause-first

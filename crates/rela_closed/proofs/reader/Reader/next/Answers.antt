@@ -1,10 +1,10 @@
 use Rattle.std.proofs.Common.{rules, ◌≡◌, ℕ, ◌<◌, ◌≤◌, Bor, List, [], ◌∷◌, ◌++◌, length, get_or, map, take, refl, sym, ap, ◌∙◌, subst, arith}
-use Rattle.std.proofs.lemmas.List.{get_or-map, get_or_default, length-map, map_push, take_all}
+use Rattle.std.proofs.lemmas.List.{get_or-map, get_or_default, length-map, take_all}
 use Rattle.rela_nfa.specs.Automaton.{Automaton, states}
 use Rattle.rela_nfa.specs.declared.nfa.Nfa.{Nfa}
 use Rattle.rela_closed.specs.Sets.{AreReached, Lists, ReachedBy}
 use Rattle.rela_closed.proofs.JointSets.{reached_at, reached_each}
-use Rattle.rela_closed.proofs.Readers.{all_at, map_take_more, reached_pushed}
+use Rattle.rela_closed.proofs.Readers.{all_at, map_pushed, map_take_more, reached_pushed}
 use Rattle.rela_closed.proofs.SetsFound.{sets_in}
 use Rattle.rela_closed.proofs.reader.Reader.next.Given
 use Rattle.rela_closed.proofs.reader.Reader.next.Goals as goal
@@ -81,7 +81,7 @@ loop-i-preserved g c =
           (place_of now mine (map now mine) c.loop-i.i c.index-self-i.result word (sets_in c.args.sets.now) refl inside c.index-self-i.is before)) in
           reached_pushed (map now (take c.loop-i.i mine)) _ (now here) (word ++ c.args.letter ∷ []) (sets_in c.loop-i.next.items) _ c.in_ok-next_set.field-0.items
           (map_take_more now mine c.loop-i.i here inside (get_or_default mine c.loop-i.i c.index-self-i.result here inside))
-          (ap sets_in c.in_ok-push.ensures.items ∙ map_push (λ set. set.items) c.loop-i.next.items c.in_ok-next_set.field-0)
+          (map_pushed (λ set. set.items) c.loop-i.next.items c.push.new.self.items c.in_ok-next_set.field-0 c.in_ok-push.ensures.items)
           (c.loop-i.invariant.reached word before) (c.in_ok-next_set.ensures.next word is_here);
     }
 
