@@ -144,3 +144,10 @@ module _ (over : List Bool) (automata : List Automaton) (words : List (List ℕ)
       let bound : length numbers ≤ length words = length-le_from_distinct_below numbers (length words) (IsDistinct-from_apart eqb numbers differ) below in
       let counted = reach.count in
       omega arith
+
+-- the search that has left all sets
+pub search_done : (over : List Bool) (automata old : List Automaton) (words : List (List ℕ)) (table : List (List (List ℕ))) (p : ℕ) → old ≡ automata → p ≤ length table → length table ≤ p
+    → IsSearched over old words table p 0 → IsSearched over automata words table (length words) 0
+search_done over automata old words table p same within all searched =
+    let last : p ≡ length words = let each = searched.each in omega arith in
+    subst (λ (l : List Automaton). IsSearched over l words table (length words) 0) same (subst (λ n. IsSearched over old words table n 0) last searched)

@@ -20,6 +20,9 @@ module _ (automata : List Automaton) (sets : List (List ℕ)) (table table' : Li
   known_at other = ap (λ t. get_or t n []) (sym (known_same other)) ∙ numbered.at
 
   -- sets that are new
+  pub new_at : length table ≤ n → n ≡ length table
+  new_at past = elim numbered.grown [ inl old ↦ absurd (let below = old.1 in omega arith) | inr new ↦ new.1 ]
+
   pub new_pushed : n ≡ length table → table' ≡ table ++ sets ∷ []
   new_pushed at = elim numbered.grown [ inl old ↦ absurd (let below = old.1 in omega arith) | inr new ↦ new.0 ]
 

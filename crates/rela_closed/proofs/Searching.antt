@@ -12,10 +12,12 @@ use Rattle.rela_closed.specs.Closed.{AreApart, ReachSets}
 use Rattle.rela_build.specs.Complement.{IsOver}
 use Rattle.rela_closed.specs.Listing.{IsSearched}
 use Rattle.rela_closed.specs.Sets.{AreDistinct, AreNumbered, AreReached, Leads}
-use Rattle.rela_closed.specs.Words.{IsUpTo}
+use Rattle.rela_closed.specs.Words.{IsUpTo, words_of}
+use Rattle.rela_closed.specs.declared.step.Step.{Step}
 use Rattle.rela_closed.proofs.JointSets.{sets_apart}
 use Rattle.rela_closed.proofs.LastLetters.{before_last, before_push, nil_before}
 use Rattle.rela_closed.proofs.Listed.{table_kept}
+use Rattle.rela_closed.proofs.WordLists.{word_by, words_of_push}
 
 module _ (over : List Bool) (automata : List Automaton) where
   -- the empty word alone
@@ -68,8 +70,8 @@ module _ (over : List Bool) (automata : List Automaton) where
     }
 
     -- the next sets
-    pub search_next : (k' : ℕ) → k ≤ k' → ((j : ℕ) → k ≤ j → has over j ≡ true → ⊥) → IsSearched over automata words table (p + 1) 0
-    search_next k' upto none = record {
+    pub search_next : ((j : ℕ) → k ≤ j → has over j ≡ true → ⊥) → IsSearched over automata words table (p + 1) 0
+    search_next none = record {
       each = so_far.each;
       some = so_far.some;
       first = so_far.first;
@@ -215,3 +217,15 @@ module _ (over : List Bool) (automata : List Automaton) where
     -- so many sets are reached as there are words
     pub search_sets : AreDistinct table → ReachSets over automata (length words)
     search_sets distinct = record { words = words; count = refl; letters = so_far.read; apart = words_apart distinct }
+
+-- more sets are reached than the limit
+pub search_passed : (over : List Bool) (automata : List Automaton) (words : List (List ℕ)) (word : List ℕ) (table : List (List (List ℕ))) (p k limit : ℕ)
+    → IsSearched over automata (words ++ word ∷ []) table p k → AreDistinct table → length words ≡ limit → ReachSets over automata (limit + 1)
+search_passed over automata words word table p k limit searched distinct len =
+    subst (ReachSets over automata) (length_push words word ∙ ap (λ n. n + 1) len) (search_sets over automata (words ++ word ∷ []) table p k searched distinct)
+
+-- the word that was put in is that of a step
+pub search_step : (over : List Bool) (automata : List Automaton) (steps steps' : List Step) (step : Step) (table : List (List (List ℕ))) (p k : ℕ) → steps' ≡ steps ++ step ∷ []
+    → IsSearched over automata (words_of steps ++ word_by (words_of steps) step ∷ []) table p k → IsSearched over automata (words_of steps') table p k
+search_step over automata steps steps' step table p k pushed searched =
+    subst (λ ws. IsSearched over automata ws table p k) (sym (ap words_of pushed ∙ words_of_push steps step)) searched

@@ -1,7 +1,8 @@
 -- Lists of words that get one word more.
-use Rattle.std.proofs.Common.{◌≡◌, ℕ, ◌+◌, ◌<◌, List, [], ◌∷◌, ◌++◌, length, get_or, take, refl, ap, ◌∙◌, arith}
-use Rattle.std.proofs.lemmas.List.{get_or_append_left, length_push, take_more}
-use Rattle.rela_closed.specs.Words.{words_from, words_of}
+use Rattle.std.proofs.Common.{◌≡◌, ℕ, ◌+◌, ◌<◌, ◌≤◌, List, [], ◌∷◌, ◌++◌, length, get_or, take, refl, sym, ap, ◌∙◌, subst, inl, inr, arith}
+use Rattle.std.proofs.lemmas.Bool.{cases_lt}
+use Rattle.std.proofs.lemmas.List.{get_or_append_left, get_or_push, length_push, take_more}
+use Rattle.rela_closed.specs.Words.{AreOrdered, words_from, words_of}
 use Rattle.rela_closed.specs.declared.step.Step.{Step}
 
 -- the word of a step
@@ -34,3 +35,12 @@ words_keep words (first ∷ steps) i below =
 
 pub words_first : (steps : List Step) → get_or (words_of steps) 0 [] ≡ []
 words_first steps = words_keep ([] ∷ []) steps 0 (omega arith)
+
+-- one step more
+pub ordered_push : (steps steps' : List Step) (step : Step) → steps' ≡ steps ++ step ∷ [] → AreOrdered steps → step.parent ≤ length steps → AreOrdered steps'
+ordered_push steps steps' step pushed ordered parent = subst AreOrdered (sym pushed) (λ i d below. elim (cases_lt i (length steps)) [
+  | inl old ↦ subst (λ (s : Step). s.parent ≤ i) (sym (get_or_append_left steps (step ∷ []) d i old)) (ordered i d old)
+  | inr not_old ↦
+      let here : i ≡ length steps = omega (arith, below, length_push steps step) in
+      subst (λ (s : Step). s.parent ≤ i) (sym (get_or_push steps step d i (sym here))) (omega arith)
+])

@@ -9,6 +9,7 @@ mod closed_laws;
 mod closedness;
 mod closure;
 mod complementing;
+mod finding;
 mod followers;
 mod following;
 mod marks;
@@ -21,5 +22,6 @@ mod visited;
 
 pub use closed_laws::{closed_lists_decide, listed_words_are_over};
 pub use complementing::complement;
+pub use finding::find;
 pub use following::{Followed, follow};
 pub use step::Step;

@@ -1,0 +1,29 @@
+use Rattle.std.proofs.Common.{◌≡◌, ◌∷◌, ◌++◌, [], length, map, ap, ◌∙◌, subst, arith}
+use Rattle.rela_closed.specs.Listing.{IsSearched}
+use Rattle.rela_closed.specs.Words.{words_of}
+use Rattle.rela_closed.proofs.FirstWords.{search_apart, search_ascending, search_closed, search_done, search_few, search_first}
+use Rattle.rela_closed.proofs.finding.find.Goals as goal
+
+module _ (g : Rattle.rela_closed.proofs.finding.find.Given.Over) (c : goal.After-drop-reader-inside-3 g) where
+  found : IsSearched (g.L.LabelSet.letters c.args.over.now) (map (λ a. a.now) c.args.automata.now) (words_of c.loop-number.steps.items) c.loop-number.table
+      (length (words_of c.loop-number.steps.items)) 0
+  found =
+      search_done (g.L.LabelSet.letters c.args.over.now) (map (λ a. a.now) c.args.automata.now) c.loop-number.reader (words_of c.loop-number.steps.items) c.loop-number.table
+      c.loop-number.number c.loop-number.invariant.automata c.loop-number.invariant.number (omega (arith, c.len.ensures.len, c.loop-number-test.false)) c.loop-number.invariant.searched
+
+pub returns-clause-closed : goal.returns-clause-closed
+returns-clause-closed g c = search_closed _ _ _ c.loop-number.table (found g c) c.len.ensures.distinct
+
+pub returns-clause-first : goal.returns-clause-first
+returns-clause-first g c = search_first _ _ _ c.loop-number.table (found g c) c.len.ensures.distinct
+
+pub returns-clause-ascending : goal.returns-clause-ascending
+returns-clause-ascending g c = search_ascending _ _ _ c.loop-number.table (found g c) c.len.ensures.distinct
+
+pub returns-clause-apart : goal.returns-clause-apart
+returns-clause-apart g c = search_apart _ _ _ c.loop-number.table (found g c) c.len.ensures.distinct
+
+pub returns-clause-told : goal.returns-clause-told
+returns-clause-told g c =
+    search_few _ _ (words_of c.loop-number.steps.items) c.loop-number.table (found g c) c.len.ensures.distinct c.args.limit
+    (omega (arith, c.loop-number.invariant.searched.each, c.loop-number.invariant.few))
