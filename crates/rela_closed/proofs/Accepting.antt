@@ -78,8 +78,8 @@ flags_at a n table numbers finals flags tell within are = record {
 }
 
 module _ (table : List (List (List ℕ))) (numbers : List ℕ) where
-  pub finals_none : TellAllFinals [] table numbers []
-  finals_none = record { each = refl; finals = λ n a below. absurd (omega (arith, below)) }
+  pub finals_none : (accepted : List (List Bool)) → accepted ≡ [] → TellAllFinals [] table numbers accepted
+  finals_none accepted none = record { each = ap length none; finals = λ n a below. absurd (omega (arith, below)) }
 
   -- one automaton more
   pub finals_more : (automata automata' : List Automaton) (n : ℕ) (a : Automaton) (accepted accepted' : List (List Bool)) (flags : List Bool) → length automata ≡ n → automata' ≡ automata ++ a ∷ []

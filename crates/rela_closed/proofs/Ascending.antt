@@ -1,5 +1,5 @@
 -- Lists of numbers in ascending order are sets.
-use Rattle.std.proofs.Common.{◌≡◌, ◌≢◌, ℕ, suc, ◌<◌, ◌⊎◌, ◌↔◌, List, [], ◌∷◌, get_or, refl, sym, ap, ◌∙◌, inl, inr, arith}
+use Rattle.std.proofs.Common.{◌≡◌, ℕ, suc, ◌<◌, ◌⊎◌, ◌↔◌, List, [], ◌∷◌, get_or, refl, sym, ap, ◌∙◌, inl, inr, arith}
 use Rattle.std.specs.List.{Contains}
 use Rattle.std.specs.List.Sorted.{IsStrictlySortedBy}
 use Rattle.std.specs.Ordering.{nat_cmp}
@@ -60,17 +60,4 @@ same_lists P Q xs ys first second same = elim (same_or_apart xs ys first.ordered
     | inl one ↦ one.1 ((second.members apart.0).1 ((same apart.0).0 ((first.members apart.0).0 one.0)))
     | inr one ↦ one.1 ((first.members apart.0).1 ((same apart.0).1 ((second.members apart.0).0 one.0)))
   ])
-]
-
--- two lists that differ tell the sets apart
-pub apart_lists : (P Q : ℕ → Type 0) (xs ys : List ℕ) → Lists P xs → Lists Q ys → xs ≢ ys → (q : ℕ) × ((P q × ¬ Q q) ⊎ (Q q × ¬ P q))
-apart_lists P Q xs ys first second differ = elim (same_or_apart xs ys first.ordered second.ordered) [
-  | inl equal ↦ absurd (differ equal)
-  | inr apart ↦ (
-    apart.0,
-    elim apart.1 [
-      | inl one ↦ inl ((first.members apart.0).0 one.0, λ q. one.1 ((second.members apart.0).1 q))
-      | inr one ↦ inr ((second.members apart.0).0 one.0, λ q. one.1 ((first.members apart.0).1 q))
-    ],
-  )
 ]

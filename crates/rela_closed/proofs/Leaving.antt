@@ -72,6 +72,3 @@ pub followed_as : (automata automata' : List Automaton) (table table' : List (Li
     → IsFollowed automata' table' (get_or table' p []) k → IsFollowed automata table (get_or table p []) k
 followed_as automata automata' table table' p k one two is =
     subst (λ l. IsFollowed l table (get_or table p []) k) one (subst (λ t. IsFollowed automata' t (get_or t p []) k) two is)
-
-pub left_as : (over : List Bool) (automata automata' : List Automaton) (table table' : List (List (List ℕ))) → automata' ≡ automata → table' ≡ table → IsLeft over automata' table' → IsLeft over automata table
-left_as over automata automata' table table' one two is = subst (λ l. IsLeft over l table) one (subst (λ t. IsLeft over automata' t) two is)

@@ -16,12 +16,13 @@ use Rattle.rela_closed.proofs.WordLists.{word_by, words_of_length, words_of_more
 
 module _ (automata : List Automaton) where
   -- the first word alone
-  pub listed_first : (first : List (List ℕ)) (table : List (List (List ℕ))) (n : ℕ) → AreReached automata [] first → AreNumbered first [] table n → AreListed automata ([] ∷ []) table (n ∷ [])
-  listed_first first table n reached numbered = elim numbered.grown [
-    | inl old ↦ absurd (omega (arith, old.1))
+  pub listed_first : (first : List (List ℕ)) (old table : List (List (List ℕ))) (n : ℕ) (numbers : List ℕ) → old ≡ [] → AreReached automata [] first → AreNumbered first old table n
+      → numbers ≡ n ∷ [] → AreListed automata ([] ∷ []) table numbers
+  listed_first first old table n numbers none reached numbered one' = subst (AreListed automata ([] ∷ []) table) (sym one') (elim numbered.grown [
+    | inl known ↦ let empty = ap length none in let below = known.1 in absurd (omega arith)
     | inr new ↦
-        let zero' : n ≡ 0 = new.1 in
-        let one : length table ≡ 1 = ap length new.0 in
+        let zero' : n ≡ 0 = new.1 ∙ ap length none in
+        let one : length table ≡ 1 = ap length (new.0 ∙ ap (λ (l : List (List (List ℕ))). l ++ first ∷ []) none) in
         record {
           each = refl;
           first = zero';
@@ -31,7 +32,7 @@ module _ (automata : List Automaton) where
               (subst (λ s. AreReached automata [] s) (sym numbered.at) reached);
           met = λ m below. (0, omega arith, let here : n ≡ m = omega arith in here);
         }
-  ]
+  ])
 
   module _ (sets : List (List ℕ)) (table table' : List (List (List ℕ))) (n : ℕ) (numbered : AreNumbered sets table table' n) where
     pub table_kept : (m : ℕ) → m < length table → get_or table' m [] ≡ get_or table m []

@@ -19,10 +19,17 @@ use Rattle.rela_closed.proofs.LastLetters.{before_last, before_push, nil_before}
 use Rattle.rela_closed.proofs.Listed.{table_kept}
 use Rattle.rela_closed.proofs.WordLists.{word_by, words_of_push}
 
+first_alone : (first : List (List ℕ)) (old table : List (List (List ℕ))) (n : ℕ) → old ≡ [] → AreNumbered first old table n → table ≡ first ∷ []
+first_alone first old table n none numbered = elim numbered.grown [
+  | inl known ↦ let empty = ap length none in let below = known.1 in absurd (omega arith)
+  | inr new ↦ new.0 ∙ ap (λ (l : List (List (List ℕ))). l ++ first ∷ []) none
+]
+
 module _ (over : List Bool) (automata : List Automaton) where
   -- the empty word alone
-  pub search_start : (first : List (List ℕ)) (table : List (List (List ℕ))) → table ≡ first ∷ [] → AreReached automata [] first → IsSearched over automata ([] ∷ []) table 0 0
-  search_start first table one reached = subst (λ t. IsSearched over automata ([] ∷ []) t 0 0) (sym one) (record {
+  pub search_start : (first : List (List ℕ)) (old table : List (List (List ℕ))) (n : ℕ) → old ≡ [] → AreNumbered first old table n → AreReached automata [] first
+      → IsSearched over automata ([] ∷ []) table 0 0
+  search_start first old table n none numbered reached = subst (λ t. IsSearched over automata ([] ∷ []) t 0 0) (sym (first_alone first old table n none numbered)) (record {
     each = refl;
     some = omega arith;
     first = refl;

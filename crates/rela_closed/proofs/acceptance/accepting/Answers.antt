@@ -2,7 +2,7 @@ use Rattle.std.proofs.Common.{◌+◌, Bor, map, take, ap, sym, ◌∙◌, arith
 use Rattle.std.proofs.lemmas.List.{get_or-map, length-map, length-take-le}
 use Rattle.rela_nfa.specs.Automaton.{Automaton}
 use Rattle.rela_nfa.specs.declared.nfa.Nfa.{Nfa}
-use Rattle.rela_closed.proofs.Accepting.{finals_more, met_set, some_set}
+use Rattle.rela_closed.proofs.Accepting.{finals_more, finals_none, met_set, some_set}
 use Rattle.rela_closed.proofs.Readers.{map_pushed, map_take_more}
 use Rattle.rela_closed.proofs.acceptance.accepting.Goals as goal
 
@@ -28,3 +28,6 @@ loop-n-preserved g c =
     (map_take_more now c.args.automata.now c.loop-n.n c.index-automata-n.result c.loop-n-test.true c.index-automata-n.is)
     (map_pushed (λ flags. flags.items) c.loop-n.accepted.items c.push.new.self.items c.in_ok-finals_at.field-0 c.in_ok-push.ensures.items)
     c.loop-n.invariant c.in_ok-finals_at.ensures
+
+pub loop-n-init : goal.loop-n-init
+loop-n-init g c = finals_none c.args.table.now c.args.numbers.now (map (λ flags. flags.items) c.in_ok-accepted.accepted.items) (ap (map (λ flags. flags.items)) c.in_ok-accepted.ensures.items)

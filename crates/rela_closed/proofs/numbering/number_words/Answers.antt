@@ -1,13 +1,22 @@
-use Rattle.std.proofs.Common.{◌+◌, [], get_or, take, sym, ◌∙◌, subst, arith}
+use Rattle.std.proofs.Common.{◌+◌, [], ◌∷◌, ◌++◌, get_or, take, sym, ap, ◌∙◌, subst, arith}
 use Rattle.rela_closed.specs.Listing.{AreListed}
 use Rattle.rela_closed.specs.Words.{words_of}
 use Rattle.rela_closed.specs.declared.step.Step.{Step}
-use Rattle.rela_closed.proofs.Listed.{from_below, from_reached, listed_step, parent_numbered}
+use Rattle.rela_closed.proofs.Listed.{from_below, from_reached, listed_first, listed_step, parent_numbered}
 use Rattle.rela_closed.proofs.SetsFound.{sets_in}
 use Rattle.rela_closed.proofs.numbering.number_words.Goals as goal
 
 abbrev no_step : Step
 no_step = record { parent = 0; letter = 0 }
+
+pub loop-step-init : goal.loop-step-init
+loop-step-init g c = record {
+  same = c.in_ok-first.ensures.same;
+  listed =
+      subst (λ l. AreListed l ([] ∷ []) c.number.new.self c.push.new.self.items) (sym c.in_ok-first.ensures.same)
+      (listed_first c.args.reader.now (sets_in c.in_ok-first.first.items) c.args.table.now c.number.new.self c.in_ok-number.field-0 c.push.new.self.items c.requires.empty
+      c.in_ok-first.ensures.first c.in_ok-number.ensures.numbered (c.in_ok-push.ensures.items ∙ ap (λ l. l ++ c.in_ok-number.field-0 ∷ []) c.in_ok-numbers.ensures.items));
+}
 
 pub index-from-requires : goal.index-from-requires
 index-from-requires g c =

@@ -1,8 +1,26 @@
-use Rattle.std.proofs.Common.{◌≡◌, [], get_or, length, sym, ◌∙◌, subst, arith}
+use Rattle.std.proofs.Common.{◌≡◌, [], get_or, length, refl, sym, ◌∙◌, subst, arith}
 use Rattle.rela_closed.specs.Listing.{AreEdges}
-use Rattle.rela_closed.proofs.Edges.{edges_more}
+use Rattle.rela_closed.proofs.Edges.{edges_more, edges_none, edges_skip}
 use Rattle.rela_closed.proofs.Leaving.{leads_as}
 use Rattle.rela_closed.proofs.transitions.edges_from.Goals as goal
+
+pub loop-letter-init : goal.loop-letter-init
+loop-letter-init g c = record {
+  same = refl;
+  kept = refl;
+  edges =
+      subst (AreEdges (g.L.LabelSet.letters c.args.over.now) c.args.reader.now c.args.table.now (get_or c.args.table.now c.args.number []) 0) (sym c.new-bundle.ensures)
+      (edges_none (g.L.LabelSet.letters c.args.over.now) c.args.reader.now c.args.table.now (get_or c.args.table.now c.args.number []));
+}
+
+pub loop-letter-preserved-then-not-contains : goal.loop-letter-preserved-then-not-contains
+loop-letter-preserved-then-not-contains g c = record {
+  same = c.loop-letter.invariant.same;
+  kept = c.loop-letter.invariant.kept;
+  edges =
+      edges_skip (g.L.LabelSet.letters c.args.over.now) c.args.reader.now c.args.table.now (get_or c.args.table.now c.args.number []) c.loop-letter.letter c.loop-letter.bundle
+      (sym c.contains.ensures.has ∙ c.if-not-contains.true) c.loop-letter.invariant.edges;
+}
 
 pub loop-letter-preserved : goal.loop-letter-preserved
 loop-letter-preserved g c =
