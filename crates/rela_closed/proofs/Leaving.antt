@@ -4,7 +4,7 @@ use Rattle.std.proofs.lemmas.Bool.{cases_lt, false≢true}
 use Rattle.std.proofs.lemmas.List.{get_or_past}
 use Rattle.rela_labels.specs.Letters.{has}
 use Rattle.rela_nfa.specs.Automaton.{Automaton}
-use Rattle.rela_closed.specs.Listing.{AreFollowed, IsFollowed, IsLeft, LeadsOut, LeadsTo}
+use Rattle.rela_closed.specs.Listing.{AreFollowed, IsFollowed, LeadsOut, LeadsTo}
 use Rattle.rela_closed.specs.Sets.{AreDistinct, AreNumbered, Leads}
 use Rattle.rela_closed.proofs.Listed.{table_kept}
 

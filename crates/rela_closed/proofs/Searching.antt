@@ -226,10 +226,12 @@ module _ (over : List Bool) (automata : List Automaton) where
     search_sets distinct = record { words = words; count = refl; letters = so_far.read; apart = words_apart distinct }
 
 -- more sets are reached than the limit
-pub search_passed : (over : List Bool) (automata : List Automaton) (words : List (List ℕ)) (word : List ℕ) (table : List (List (List ℕ))) (p k limit : ℕ)
-    → IsSearched over automata (words ++ word ∷ []) table p k → AreDistinct table → length words ≡ limit → ReachSets over automata (limit + 1)
-search_passed over automata words word table p k limit searched distinct len =
-    subst (ReachSets over automata) (length_push words word ∙ ap (λ n. n + 1) len) (search_sets over automata (words ++ word ∷ []) table p k searched distinct)
+pub search_passed : (over : List Bool) (automata : List Automaton) (words : List (List ℕ)) (table : List (List (List ℕ))) (p k limit : ℕ) → IsSearched over automata words table p k
+    → AreDistinct table → limit < length table → length table ≤ limit + 1 → ReachSets over automata (limit + 1)
+search_passed over automata words table p k limit searched distinct above upto =
+    let each = searched.each in
+    let len : length words ≡ limit + 1 = omega arith in
+    subst (ReachSets over automata) len (search_sets over automata words table p k searched distinct)
 
 -- the word that was put in is that of a step
 pub search_step : (over : List Bool) (automata : List Automaton) (steps steps' : List Step) (step : Step) (table : List (List (List ℕ))) (p k : ℕ) → steps' ≡ steps ++ step ∷ []

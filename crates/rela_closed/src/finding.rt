@@ -11,7 +11,7 @@ use crate::step::Step;
 use crate::table::Table;
 use rela_labels::LabelSet;
 use rela_nfa::{BuildError, Nfa};
-use std::alloc::Global;
+use std::alloc::{AllocError, Global};
 
 /// The list of words that is closed for the automata and lists, for each list of sets of states that
 /// words over the letters reach, just the first such word, in shortlex order. It begins with the
@@ -53,7 +53,15 @@ pub fn find<L: LabelSet>(
     let mut steps = Vec::new(alloc);
     let mut number = 0;
     while number < table.len() {
-        leave(alloc, &mut reader, over, &mut table, &mut steps, number, limit)?;
+        leave(
+            alloc,
+            &mut reader,
+            over,
+            &mut table,
+            &mut steps,
+            number,
+            limit,
+        )?;
         number += 1;
     }
     Ok(steps)
@@ -87,14 +95,16 @@ fn leave<'a, L: LabelSet>(
         ReachSets (L.letters over.now) reader.old (limit + 1)) }
 {
     for letter in 0..over.size() {
-        leave_by(alloc, reader, over, table, steps, number, letter, limit)?;
+        leave_by(alloc, reader, over, table, steps, number, letter)?;
+        if table.len() > limit {
+            return Err(BuildError::Limit);
+        }
     }
     Ok(())
 }
 
-/// Leaves the sets of this number by the letter, if it is one of `over`. If no letter led to those
-/// that follow before, they are put into the table, and the step to them behind the others. `Limit`
-/// where there are then more than `limit`.
+/// Leaves the sets of this number by the letter, if it is one of `over`. If no letter led before to
+/// those that follow, they are put into the table, and the step to them behind the others.
 fn leave_by<'a, L: LabelSet>(
     alloc: Global,
     reader: &mut Reader<'a, L>,
@@ -103,11 +113,9 @@ fn leave_by<'a, L: LabelSet>(
     steps: &mut Vec<Step>,
     number: usize,
     letter: u32,
-    limit: usize,
-) -> Result<(), BuildError>
-    requires numbered { limit ≤ 2 ^ 32 }
+) -> Result<(), AllocError>
+    requires numbered { number < 2 ^ 32 }
     requires number { number < length table.old }
-    requires few { length table.old ≤ limit }
     requires ordered { AreOrdered steps.old.items }
     requires searched { IsSearched (L.letters over.now) reader.old (words_of steps.old.items)
         table.old number letter }
@@ -115,10 +123,8 @@ fn leave_by<'a, L: LabelSet>(
         (words_of steps.new.items) table.new number (letter + 1)) }
     ensures ordered { IfOk result (λ _. AreOrdered steps.new.items) }
     ensures more { IfOk result (λ _. length table.old ≤ length table.new) }
-    ensures few { IfOk result (λ _. length table.new ≤ limit) }
+    ensures one { IfOk result (λ _. length table.new ≤ length table.old + 1) }
     ensures same { reader.new ≡ reader.old }
-    ensures limit { IfErr result (λ e. e ≡ BuildError.Limit →
-        ReachSets (L.letters over.now) reader.old (limit + 1)) }
 {
     if !over.contains(letter) {
         return Ok(());
@@ -128,9 +134,6 @@ fn leave_by<'a, L: LabelSet>(
     let to = table.number(next)?;
     if to < known {
         return Ok(());
-    }
-    if known == limit {
-        return Err(BuildError::Limit);
     }
     let parent = number as u32;
     steps.push(Step { parent, letter })?;

@@ -1,4 +1,4 @@
-use Rattle.std.proofs.Common.{◌≡◌, ◌∷◌, ◌++◌, [], length, map, sym, ap, ◌∙◌, subst, arith}
+use Rattle.std.proofs.Common.{◌∷◌, [], length, map, sym, ap, ◌∙◌, subst, arith}
 use Rattle.rela_closed.specs.Listing.{IsSearched}
 use Rattle.rela_closed.specs.Sets.{AreReached}
 use Rattle.rela_closed.specs.Words.{words_of}
