@@ -1,0 +1,13 @@
+pub mod MappedWords
+pub mod ByStates
+pub mod RowWords
+pub mod RowStops
+pub mod FlagWords
+pub mod ImageNames
+pub mod RowJudged
+pub mod ComplementCounts
+pub mod PlanRows
+pub mod ListedRows
+pub mod Listings
+pub mod AuditedRows
+pub mod AuditSays

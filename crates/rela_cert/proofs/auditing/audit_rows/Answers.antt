@@ -1,0 +1,18 @@
+use Rattle.std.proofs.Common.{◌≡◌, ◌<◌, ◌≤◌, ℕ, Some, get_or, subst, sym, ⊎_elim, arith}
+use Rattle.std.specs.List.{slice_get}
+use Rattle.std.proofs.lemmas.Bool.{cases_lt}
+use Rattle.std.proofs.lemmas.Option.{slice_get-get_or}
+use Rattle.rela_cert.proofs.auditing.audit_rows.Goals as goal
+
+pub loop-number-preserved : goal.loop-number-preserved
+loop-number-preserved c k row below at =
+    let met = rw c.in_default.is at c.in_ok-audit.ensures.met in
+    ⊎_elim
+    (λ (before : k < c.loop-number.number). c.loop-number.invariant k row before at)
+    (λ (last : c.loop-number.number ≤ k).
+    let same : k ≡ c.loop-number.number = omega arith in
+    met row (subst (λ (i : ℕ). slice_get c.args.certificate.now i ≡ Some row) same at))
+    (cases_lt k c.loop-number.number)
+
+pub returns : goal.returns
+returns c = (sym c.len.ensures, λ k d below. c.loop-number.invariant k (get_or c.args.certificate.now k d) (omega arith) (slice_get-get_or c.args.certificate.now k d below))

@@ -1,0 +1,11 @@
+use Rattle.std.proofs.Common.{◌≡◌, ◌<◌, ℕ, Some}
+use Rattle.std.specs.List.{slice_get}
+use Rattle.rela_certfile.specs.declared.rows.ListedRow.{ListedRow}
+use Rattle.rela_cert.specs.Audited.{IsMet}
+use Rattle.rela_cert.specs.Inputs.{subject_of}
+use Rattle.rela_cert.proofs.auditing.audit_rows.Given as goal
+
+-- the rows so far are met
+abbrev pub invariant-loop-number : goal.invariant-loop-number
+invariant-loop-number l = (k : ℕ) (row : ListedRow) → k < l.number → slice_get l.certificate k ≡ Some row
+    → IsMet (subject_of l.inputs) l.planning.rows.items row

@@ -1,0 +1,11 @@
+pub mod Closed
+pub mod Rows
+pub mod Letters
+pub mod WordsJudged
+pub mod Subject
+pub mod Inputs
+pub mod Planned
+pub mod RowAt
+pub mod RowParts
+pub mod Audited
+pub mod Answers

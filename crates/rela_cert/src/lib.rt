@@ -1,0 +1,21 @@
+//! Certificates of compliance: a text that lists rows with words from which anyone can compute that
+//! their checks are met, and its audit, which searches for nothing.
+#![tactic(auto)]
+
+mod answer;
+mod auditing;
+mod checking;
+mod complement_count;
+mod images;
+mod inputs;
+mod judgement;
+mod lettered;
+mod listed_row;
+mod planning;
+mod row;
+mod row_audit;
+mod words;
+
+pub use answer::Audit;
+pub use auditing::audit;
+pub use row_audit::MAX_STATES;
