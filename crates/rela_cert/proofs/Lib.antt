@@ -6,7 +6,6 @@ pub mod FlagWords
 pub mod ImageNames
 pub mod RowJudged
 pub mod ComplementCounts
-pub mod PlanRows
 pub mod ListedRows
 pub mod Listings
 pub mod AuditedRows

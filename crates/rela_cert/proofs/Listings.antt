@@ -3,7 +3,7 @@ use Rattle.std.proofs.Common.{◌≡◌, ◌∙◌, ℕ, zero, suc, ◌<◌, Non
 use Rattle.std.specs.List.{All, slice_get}
 use Rattle.std.specs.Prelude.{option_map}
 use Rattle.std.proofs.lemmas.Option.{slice_get-get_or, slice_get_within}
-use Rattle.rela_certfile.specs.Layout.{Shape, shape_at}
+use Rattle.rela_certfile.specs.Layout.{Shape, check_names, shape_at}
 use Rattle.rela_certfile.specs.Listed.{HasShape, IsListedAs}
 use Rattle.rela_certfile.specs.declared.rows.ListedRow.{ListedRow}
 use Rattle.rela_flows.specs.declared.planning.PlannedRow.{PlannedRow}
@@ -63,3 +63,8 @@ within_there s planned within place flow number is =
     let row : PlannedRow = Checked flow number in
     let read : get_or planned place row ≡ row = let e : Some (get_or planned place row) ≡ Some row = sym (slice_get-get_or planned place row (slice_get_within planned place row is)) ∙ is in cc in
     subst (IsWithin (length s.pairs) (length s.checks)) read (within place row (slice_get_within planned place row is))
+
+-- what the checks ask has their names
+pub names_of_shapes : (n : ℕ) (checks : List Check) → check_names (map (shape_of n) checks) ≡ map (λ check. check.name) checks
+names_of_shapes n [] = refl
+names_of_shapes n (check ∷ checks) = ap (λ (names : List (List ℕ)). check.name ∷ names) (names_of_shapes n checks)

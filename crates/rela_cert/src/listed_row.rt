@@ -17,7 +17,7 @@ use crate::judgement::Judgement;
 use crate::planning::Planning;
 use crate::row::row_at;
 use crate::row_audit::{MAX_STATES, audit_row};
-use rela_certfile::{Certificate, row_blocks};
+use rela_certfile::{Certificate, listed_blocks};
 use std::alloc::{AllocError, Global};
 
 /// The answer that the listed row of this number gives the audit, and `None` where its check is
@@ -40,7 +40,7 @@ pub(crate) fn answer_of_row(
     ensures answer { IfOk result (λ found. IfSome found (λ audit.
         Finds (subject_of inputs.now) planning.now.rows.items MAX_STATES certificate.now audit)) }
 {
-    row_blocks();
+    listed_blocks();
     let row = row_at(inputs, planning, certificate, number);
     let complements = certificate.complements(alloc, number)?;
     let images = certificate.images(number);

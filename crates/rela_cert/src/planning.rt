@@ -9,7 +9,7 @@ ghost use Rattle.rela_cert.specs.Subject.{IsSubject, layout_of, shape_of};
 use crate::complement_count::count_complements;
 use crate::inputs::Inputs;
 use rela_blocks::symbols_of;
-use rela_certfile::{CheckShape, PlanLayout};
+use rela_certfile::{CheckShape, PlanLayout, planned_rows};
 use rela_flows::PlannedRow;
 use rela_names::{Alphabet, Name};
 use rela_plan::plan_rows;
@@ -55,6 +55,7 @@ impl<'a> Planning<'a> {
         requires planned { IsPlanned (subject_of inputs.now) self.now }
         ensures { result ≡ layout_of (subject_of inputs.now) self.now.rows.items }
     {
+        planned_rows();
         PlanLayout::new(
             self.rows.as_slice(),
             self.flows.as_slice(),

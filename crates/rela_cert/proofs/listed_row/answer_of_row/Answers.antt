@@ -74,7 +74,7 @@ pub answer_to-requires-clause-blocks : goal.answer_to-requires-clause-blocks
 answer_to-requires-clause-blocks c k below =
     let found = row_there c.args.certificate.now c.args.number c.requires.number in
     let count = counted (goal.at.answer_to-requires-clause-blocks c).After-len found.0 found.1 in
-    blocks_there c.args.certificate.now c.args.number found.0 (λ i. c.row_blocks.ensures c.args.certificate.now c.args.number i found.0 found.1) k (omega (arith, count))
+    blocks_there c.args.certificate.now c.args.number found.0 (λ i. c.listed_blocks.ensures c.args.certificate.now c.args.number i found.0 found.1) k (omega (arith, count))
 
 pub answer_to-requires-clause-block : goal.answer_to-requires-clause-block
 answer_to-requires-clause-block c k is =

@@ -3,12 +3,12 @@ use Rattle.std.specs.List.{AllPairs}
 use Rattle.rela_certfile.specs.Layout.{check_names}
 use Rattle.rela_flows.specs.declared.planning.PlannedRow.{PlannedRow}
 use Rattle.rela_translate.specs.Checked.{Checked}
-use Rattle.rela_cert.proofs.PlanRows.{names_of_shapes, rows_differ}
+use Rattle.rela_cert.proofs.Listings.{names_of_shapes}
 use Rattle.rela_cert.proofs.planning.Planning.layout.Goals as goal
 
 pub new-requires-clause-rows_differ : goal.new-requires-clause-rows_differ
 new-requires-clause-rows_differ c =
-    subst (λ (rows : List PlannedRow). AllPairs (λ a b. a ≢ b) rows) (sym c.as_slice.ensures.value) (rows_differ _ _ _ c.requires.planned.plan)
+    subst (λ (rows : List PlannedRow). AllPairs (λ a b. a ≢ b) rows) (sym c.as_slice.ensures.value) (c.planned_rows.ensures.differ _ _ _ c.requires.planned.plan)
 
 pub new-requires-clause-checks_differ : goal.new-requires-clause-checks_differ
 new-requires-clause-checks_differ c =
