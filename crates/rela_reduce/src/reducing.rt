@@ -34,9 +34,9 @@ const MOST_STEPS: usize = 4_096;
 /// the same states still do, and a state tells no two words apart that none told apart before.
 ///
 /// States are compared where the automaton is small, and else none is said to simulate another.
-/// Time: for each of a few rounds a look at each pair of states, with pairs of their edges, and a
-/// copy of each edge; space: a flag for each pair of states, and the edges. An automaton that isn't
-/// small costs the copy alone, with a look at each letter for each label.
+/// Time: for each round, of which there are at most 256, a look at each pair of states, with pairs
+/// of their edges, and a copy of each edge; space: a flag for each pair of states, and the edges. An
+/// automaton that isn't small costs the copy alone, with a look at each letter for each label.
 pub fn reduce<L: LabelSet>(alloc: Global, a: &Nfa<L>) -> Result<Nfa<L>, AllocError>
     ensures letters { IfOk result (λ nfa. nfa.letters ≡ a.now.letters) }
     ensures states { IfOk result (λ nfa. states nfa ≡ states a.now) }

@@ -11,8 +11,9 @@ use crate::numbered::Numbered;
 use std::alloc::{AllocError, Global};
 
 /// How often all pairs of states are looked at before no state is said to simulate another. Where
-/// states are numbered from the start on, few rounds are needed, since the last come first.
-const ROUNDS: usize = 32;
+/// states are numbered from the start on, few rounds are needed, since the last come first. A part
+/// with complements in it may need dozens, which cost far less than the sets that it would reach.
+const ROUNDS: usize = 256;
 
 /// For each state a flag for each state, whether it simulates that one: it can go along with each
 /// arrow of it to a state that simulates the arrow's end, by a label with all its letters, where
