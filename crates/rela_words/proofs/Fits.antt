@@ -5,7 +5,7 @@ use Rattle.std.specs.Fmt.{decimal}
 use Rattle.std.specs.Str.{bytes_eq}
 use Rattle.std.proofs.lemmas.Fmt.{decimal_injective}
 use Rattle.std.proofs.lemmas.Slice.Eq.{bytes_eq-Decides}
-use Rattle.rela_words.specs.Words.{Command, Check, Fmt, Fib, Zone, Rir, Demo, Fit, IsUpTo, Parts, row_of}
+use Rattle.rela_words.specs.Words.{Command, Check, Fmt, Fib, Zone, Rir, Audit, Demo, Fit, IsUpTo, Parts, row_of}
 use Rattle.rela_words.specs.Parts.{FitJust, FitNothing, HaveNoOptions, IsLimitUpTo, IsNumber}
 use Rattle.rela_words.specs.declared.errors.WordsError.{WordsError}
 use Rattle.rela_words.specs.declared.errors.WordsError.TheVariants.{Bad}
@@ -60,6 +60,9 @@ same_zone l s c l' s' c' n n' operands number = cc
 same_rir : (b a l s b' a' l' s' : Word) (n n' : ℕ) → b ∷ a ∷ l ∷ s ∷ [] ≡ b' ∷ a' ∷ l' ∷ s' ∷ [] → n ≡ n' → Rir b a l s n ≡ Rir b' a' l' s' n'
 same_rir b a l s b' a' l' s' n n' operands number = cc
 
+same_audit : (b a l s t b' a' l' s' t' : Word) → b ∷ a ∷ l ∷ s ∷ t ∷ [] ≡ b' ∷ a' ∷ l' ∷ s' ∷ t' ∷ [] → Audit b a l s t ≡ Audit b' a' l' s' t'
+same_audit b a l s t b' a' l' s' t' e = cc
+
 module _ (parts : Parts) where
   one_fits : (c d : Command) → (row_of c).name ≡ (row_of d).name → Fit parts c → Fit parts d → c ≡ d
   one_fits (Check b a l s n f) (Check b' a' l' s' n' f') e one other =
@@ -105,6 +108,19 @@ module _ (parts : Parts) where
   one_fits (Demo n) (Fib t' o' l') e one other = absurd (differ e refl)
   one_fits (Demo n) (Zone l' s' c' n') e one other = absurd (differ e refl)
   one_fits (Demo n) (Rir b' a' l' s' n') e one other = absurd (differ e refl)
+  one_fits (Audit b a l s t) (Audit b' a' l' s' t') e one other = same_audit b a l s t b' a' l' s' t' (sym one.are_operands ∙ other.are_operands)
+  one_fits (Check b a l s n f) (Audit b' a' l' s' t') e one other = absurd (differ e refl)
+  one_fits (Fmt s) (Audit b' a' l' s' t') e one other = absurd (differ e refl)
+  one_fits (Fib t o l) (Audit b' a' l' s' t') e one other = absurd (differ e refl)
+  one_fits (Zone l s c n) (Audit b' a' l' s' t') e one other = absurd (differ e refl)
+  one_fits (Rir b a l s n) (Audit b' a' l' s' t') e one other = absurd (differ e refl)
+  one_fits (Demo n) (Audit b' a' l' s' t') e one other = absurd (differ e refl)
+  one_fits (Audit b a l s t) (Check b' a' l' s' n' f') e one other = absurd (differ e refl)
+  one_fits (Audit b a l s t) (Fmt s') e one other = absurd (differ e refl)
+  one_fits (Audit b a l s t) (Fib t' o' l') e one other = absurd (differ e refl)
+  one_fits (Audit b a l s t) (Zone l' s' c' n') e one other = absurd (differ e refl)
+  one_fits (Audit b a l s t) (Rir b' a' l' s' n') e one other = absurd (differ e refl)
+  one_fits (Audit b a l s t) (Demo n') e one other = absurd (differ e refl)
 
   -- one command of this name
   pub just : (name : Word) (made : Command) → (row_of made).name ≡ name → Fit parts made → FitJust name parts made
@@ -136,6 +152,9 @@ module _ (parts : Parts) where
   pub fib_just : (t o l : Word) → parts.operands ≡ t ∷ o ∷ l ∷ [] → HaveNoOptions parts → FitJust (codes "fib") parts (Fib t o l)
   fib_just t o l operands none = just (codes "fib") (Fib t o l) refl (record { are_operands = operands; is_limit = none.0; is_flag = none.1; numbers = tt })
 
+  pub audit_just : (b a l s t : Word) → parts.operands ≡ b ∷ a ∷ l ∷ s ∷ t ∷ [] → HaveNoOptions parts → FitJust (codes "audit") parts (Audit b a l s t)
+  audit_just b a l s t operands none = just (codes "audit") (Audit b a l s t) refl (record { are_operands = operands; is_limit = none.0; is_flag = none.1; numbers = tt })
+
   pub demo_just : (w : Word) (n : ℕ) → parts.operands ≡ w ∷ [] → HaveNoOptions parts → IsNumber 200 w n → FitJust (codes "demo") parts (Demo n)
   demo_just w n operands none number = just (codes "demo") (Demo n) refl
       (record { are_operands = operands ∙ ap (λ v. v ∷ []) number.0; is_limit = none.0; is_flag = none.1; numbers = number.1 })
@@ -143,6 +162,7 @@ module _ (parts : Parts) where
   -- ---- what isn't the parts of any
 
   pub check_unlimited : ((k : ℕ) → ¬ IsLimitUpTo 4000000 parts.limits k) → FitNothing (codes "check") parts
+  check_unlimited none (Audit b a l s t) e fit = absurd (differ e refl)
   check_unlimited none (Check b a l s n f) e fit = none n (fit.is_limit, fit.numbers)
   check_unlimited none (Fmt s) e fit = absurd (differ e refl)
   check_unlimited none (Fib t o l) e fit = absurd (differ e refl)
@@ -151,6 +171,7 @@ module _ (parts : Parts) where
   check_unlimited none (Demo n) e fit = absurd (differ e refl)
 
   pub zone_unlimited : ((k : ℕ) → ¬ (IsLimitUpTo 4000000 parts.limits k × (parts.blame ≡ false))) → FitNothing (codes "zone") parts
+  zone_unlimited none (Audit b a l s t) e fit = absurd (differ e refl)
   zone_unlimited none (Zone l s c n) e fit = none n ((fit.is_limit, fit.numbers), fit.is_flag)
   zone_unlimited none (Check b a l s n f) e fit = absurd (differ e refl)
   zone_unlimited none (Fmt s) e fit = absurd (differ e refl)
@@ -159,6 +180,7 @@ module _ (parts : Parts) where
   zone_unlimited none (Demo n) e fit = absurd (differ e refl)
 
   pub rir_unlimited : ((k : ℕ) → ¬ (IsLimitUpTo 4000000 parts.limits k × (parts.blame ≡ false))) → FitNothing (codes "rir") parts
+  rir_unlimited none (Audit b a l s t) e fit = absurd (differ e refl)
   rir_unlimited none (Rir b a l s n) e fit = none n ((fit.is_limit, fit.numbers), fit.is_flag)
   rir_unlimited none (Check b a l s n f) e fit = absurd (differ e refl)
   rir_unlimited none (Fmt s) e fit = absurd (differ e refl)
@@ -167,6 +189,7 @@ module _ (parts : Parts) where
   rir_unlimited none (Demo n) e fit = absurd (differ e refl)
 
   pub demo_unnumbered : (w : Word) → parts.operands ≡ w ∷ [] → ((k : ℕ) → ¬ IsNumber 200 w k) → FitNothing (codes "demo") parts
+  demo_unnumbered w operands none (Audit b a l s t) e fit = absurd (differ e refl)
   demo_unnumbered w operands none (Demo n) e fit = none n (head_same w (decimal n) (sym operands ∙ fit.are_operands), fit.numbers)
   demo_unnumbered w operands none (Check b a l s n f) e fit = absurd (differ e refl)
   demo_unnumbered w operands none (Fmt s) e fit = absurd (differ e refl)

@@ -33,6 +33,16 @@ four (x ∷ y ∷ z ∷ []) a b c g d e f h least most ea eb ec eg = absurd (ome
 four (x ∷ y ∷ z ∷ w ∷ []) a b c g d e f h least most ea eb ec eg = cc
 four (x ∷ y ∷ z ∷ w ∷ v ∷ xs) a b c g d e f h least most ea eb ec eg = absurd (omega (arith, most))
 
+five : (xs : Texts) (a b c g i : Word) (d e f h j : Bor Word) → 5 ≤ length xs → length xs < 6 → a ≡ (get_or xs 0 d).now → b ≡ (get_or xs 1 e).now
+    → c ≡ (get_or xs 2 f).now → g ≡ (get_or xs 3 h).now → i ≡ (get_or xs 4 j).now → bytes_of xs ≡ a ∷ b ∷ c ∷ g ∷ i ∷ []
+five [] a b c g i d e f h j least most ea eb ec eg ei = absurd (omega (arith, least))
+five (x ∷ []) a b c g i d e f h j least most ea eb ec eg ei = absurd (omega (arith, least))
+five (x ∷ y ∷ []) a b c g i d e f h j least most ea eb ec eg ei = absurd (omega (arith, least))
+five (x ∷ y ∷ z ∷ []) a b c g i d e f h j least most ea eb ec eg ei = absurd (omega (arith, least))
+five (x ∷ y ∷ z ∷ w ∷ []) a b c g i d e f h j least most ea eb ec eg ei = absurd (omega (arith, least))
+five (x ∷ y ∷ z ∷ w ∷ v ∷ []) a b c g i d e f h j least most ea eb ec eg ei = cc
+five (x ∷ y ∷ z ∷ w ∷ v ∷ u ∷ xs) a b c g i d e f h j least most ea eb ec eg ei = absurd (omega (arith, most))
+
 module _ (r : Option (Bor Texts)) (texts : Bor Texts) (is : r ≡ Some texts) where
   pub one_word : (a : Word) (d : Bor Word) → 1 ≤ length texts.now → length texts.now < 2 → a ≡ (get_or texts.now 0 d).now → words_of r ≡ a ∷ []
   one_word a d least most ea = ap words_of is ∙ one texts.now a d least most ea
@@ -44,6 +54,11 @@ module _ (r : Option (Bor Texts)) (texts : Bor Texts) (is : r ≡ Some texts) wh
   pub four_words : (a b c g : Word) (d e f h : Bor Word) → 4 ≤ length texts.now → length texts.now < 5 → a ≡ (get_or texts.now 0 d).now
       → b ≡ (get_or texts.now 1 e).now → c ≡ (get_or texts.now 2 f).now → g ≡ (get_or texts.now 3 h).now → words_of r ≡ a ∷ b ∷ c ∷ g ∷ []
   four_words a b c g d e f h least most ea eb ec eg = ap words_of is ∙ four texts.now a b c g d e f h least most ea eb ec eg
+
+  pub five_words : (a b c g i : Word) (d e f h j : Bor Word) → 5 ≤ length texts.now → length texts.now < 6 → a ≡ (get_or texts.now 0 d).now
+      → b ≡ (get_or texts.now 1 e).now → c ≡ (get_or texts.now 2 f).now → g ≡ (get_or texts.now 3 h).now → i ≡ (get_or texts.now 4 j).now
+      → words_of r ≡ a ∷ b ∷ c ∷ g ∷ i ∷ []
+  five_words a b c g i d e f h j least most ea eb ec eg ei = ap words_of is ∙ five texts.now a b c g i d e f h j least most ea eb ec eg ei
 
 head_same : (v w : Word) → v ∷ [] ≡ w ∷ [] → v ≡ w
 head_same v w e = cc

@@ -72,6 +72,21 @@ pub struct Rir {
     pub states: usize,
 }
 
+/// To audit a certificate of a change.
+#[derive(Debug, Drop)]
+pub struct Audit {
+    /// The name of the file with the snapshot before the change.
+    pub before: String,
+    /// The name of the file with the snapshot after the change.
+    pub after: String,
+    /// The name of the file with the locations.
+    pub locations: String,
+    /// The name of the file with the specification.
+    pub spec: String,
+    /// The name of the file with the certificate.
+    pub certificate: String,
+}
+
 /// To check the change of a layered input that is made.
 #[derive(Clone, Copy, Debug)]
 pub struct Demo {
@@ -92,6 +107,8 @@ pub enum Command {
     Zone(Zone),
     /// `rir [--states N] BEFORE AFTER LOCATIONS ASSERTIONS`
     Rir(Rir),
+    /// `audit BEFORE AFTER LOCATIONS SPEC CERT`
+    Audit(Audit),
     /// `demo N`
     Demo(Demo),
 }

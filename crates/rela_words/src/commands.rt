@@ -4,7 +4,7 @@ ghost use Rattle.std.specs.Prelude.{◌≡◌, IfOk, IfErr, codes, string_bytes,
 ghost use Rattle.rela_words.specs.Commands.{command_of};
 ghost use Rattle.rela_words.specs.Parts.{FitJust, FitNothing, parts_of};
 
-use crate::command::{Check, Command, Demo, Fib, Fmt, MAX_LAYERS, Rir, Zone};
+use crate::command::{Audit, Check, Command, Demo, Fib, Fmt, MAX_LAYERS, Rir, Zone};
 use crate::errors::WordsError;
 use crate::number::number_of;
 use crate::parts::Parts;
@@ -120,6 +120,31 @@ pub(crate) fn read_rir(alloc: Global, parts: &Parts<'_>) -> Result<Command, Word
         locations: String::from_str(alloc, locations)?,
         assertions: String::from_str(alloc, assertions)?,
         states,
+    }))
+}
+
+/// `audit`: five operands.
+///
+/// # Errors
+///
+/// `Bad` where the parts aren't those of such a command.
+pub(crate) fn read_audit(alloc: Global, parts: &Parts<'_>) -> Result<Command, WordsError>
+    ensures fits { IfOk result (λ c. FitJust (codes "audit") (parts_of parts.now) (command_of c)) }
+    ensures bad { IfErr result (λ e. e ≡ WordsError.Bad
+        → FitNothing (codes "audit") (parts_of parts.now)) }
+{
+    if !parts.have_no_options() {
+        return Err(WordsError::Bad);
+    }
+    let Some([before, after, locations, spec, certificate]) = parts.operands() else {
+        return Err(WordsError::Bad);
+    };
+    Ok(Command::Audit(Audit {
+        before: String::from_str(alloc, before)?,
+        after: String::from_str(alloc, after)?,
+        locations: String::from_str(alloc, locations)?,
+        spec: String::from_str(alloc, spec)?,
+        certificate: String::from_str(alloc, certificate)?,
     }))
 }
 

@@ -136,3 +136,24 @@ returns-in-demo-clause-numbers c =
     (ap (map string_bytes) c.in-Some.ensures.cases.0)
     (parts_of c.in_ok-parts.parts) c.in_ok-parts.ensures.parts (codes "demo") (sym c.as_str.ensures.value ∙ c.in-demo.is) c.read_demo.result
     c.read_demo.ensures.fits
+
+pub returns-in-audit-clause-asked : goal.returns-in-audit-clause-asked
+returns-in-audit-clause-asked c =
+    ok_asked (map string_bytes c.args.words.now) (string_bytes c.in-Some.name.now) (map string_bytes c.in-Some.rest.now)
+    (ap (map string_bytes) c.in-Some.ensures.cases.0)
+    (parts_of c.in_ok-parts.parts) c.in_ok-parts.ensures.parts (codes "audit") (sym c.as_str.ensures.value ∙ c.in-audit.is) c.read_audit.result
+    c.read_audit.ensures.fits
+
+pub returns-in-audit-clause-bad : goal.returns-in-audit-clause-bad
+returns-in-audit-clause-bad c =
+    err_asked (map string_bytes c.args.words.now) (string_bytes c.in-Some.name.now) (map string_bytes c.in-Some.rest.now)
+    (ap (map string_bytes) c.in-Some.ensures.cases.0)
+    (parts_of c.in_ok-parts.parts) c.in_ok-parts.ensures.parts (codes "audit") (sym c.as_str.ensures.value ∙ c.in-audit.is) c.read_audit.result
+    c.read_audit.ensures.bad
+
+pub returns-in-audit-clause-numbers : goal.returns-in-audit-clause-numbers
+returns-in-audit-clause-numbers c =
+    numbers_asked (map string_bytes c.args.words.now) (string_bytes c.in-Some.name.now) (map string_bytes c.in-Some.rest.now)
+    (ap (map string_bytes) c.in-Some.ensures.cases.0)
+    (parts_of c.in_ok-parts.parts) c.in_ok-parts.ensures.parts (codes "audit") (sym c.as_str.ensures.value ∙ c.in-audit.is) c.read_audit.result
+    c.read_audit.ensures.fits
