@@ -5,3 +5,4 @@ pub mod TreeLaws
 pub mod SpecifiedLaws
 pub mod PairLaws
 pub mod ChangeLaws
+pub mod NameLaws

@@ -1,5 +1,5 @@
 -- What the four inputs of a change give: what is loaded, or the first refusal in the order in which they are read.
-use Rattle.std.specs.Prelude.{◌≡◌, ℕ, List, Result, Ok}
+use Rattle.std.specs.Prelude.{◌≡◌, ◌≢◌, ℕ, List, AllPairs, map, Result, Ok}
 use Rattle.rela_locations.specs.Network.{Network, alphabet_of}
 use Rattle.rela_snapshot.specs.Steps.{Is, ◌>>=◌}
 use Rattle.rela_snapshot.specs.declared.pairing.FlowPair.{FlowPair}
@@ -34,6 +34,11 @@ pub record SameLoaded (x y : Loaded) : Type 0 where
 -- the names of the locations at the checks' level
 abbrev pub names_of : Loaded → List (List ℕ)
 names_of loaded = alphabet_of loaded.specified.level loaded.network
+
+-- no two checks have one name, and no two flows
+pub record NamesDiffer (loaded : Loaded) : Type 0 where
+  pub checks : AllPairs (λ a b. a ≢ b) (map (λ check. check.name) loaded.specified.checks)
+  pub flows : AllPairs (λ a b. a ≢ b) (map (λ pair. pair.class.name) loaded.pairs)
 
 -- what was loaded, as data
 abbrev pub loaded_by : declared.Loaded → Loaded

@@ -11,7 +11,7 @@ use Rattle.rela_flows.specs.Notation.{text_of}
 use Rattle.rela_flows.specs.declared.predicate.FlowClass.{FlowClass}
 use Rattle.rela_report.specs.Text.{line}
 use Rattle.rela_inputs.specs.declared.refusal.Input.{Input}
-use Rattle.rela_inputs.specs.declared.refusal.Input.TheVariants.{Locations, Before, After, Pair, Spec, Tables, Other, Assertions, Words}
+use Rattle.rela_inputs.specs.declared.refusal.Input.TheVariants.{Locations, Before, After, Pair, Spec, Tables, Other, Assertions, Certificate, Words}
 use Rattle.rela_inputs.specs.declared.refusal.Reason.{Reason}
 use Rattle.rela_inputs.specs.declared.refusal.Reason.TheVariants.{TooLong, Load, FlowDiffers, Specification, Snapshot, UnknownCheck}
 use Rattle.rela_inputs.specs.declared.refusal.Refusal.{Refusal}
@@ -25,6 +25,7 @@ input_text Spec = codes "spec"
 input_text Tables = codes "tables"
 input_text Other = codes "other"
 input_text Assertions = codes "assertions"
+input_text Certificate = codes "certificate"
 input_text Words = codes "words"
 
 -- a refusal with the row that it stands in

@@ -6,7 +6,7 @@ ghost use Rattle.rela_io.specs.Held.{HoldsName};
 ghost use Rattle.rela_snapshot.specs.PairsLocated.{ArePairsLocated};
 ghost use Rattle.rela_inputs.specs.Given.{IsGiven, seen};
 ghost use Rattle.rela_inputs.specs.Inputs.{BytesOf};
-ghost use Rattle.rela_inputs.specs.Loaded.{Loads, SameLoaded, loaded_by, names_of};
+ghost use Rattle.rela_inputs.specs.Loaded.{Loads, NamesDiffer, SameLoaded, loaded_by, names_of};
 ghost use Rattle.rela_inputs.specs.Reading.{Ends};
 ghost use Rattle.rela_inputs.specs.declared.refusal.Input.TheVariants as input;
 
@@ -53,6 +53,7 @@ pub fn load_change<F: Files>(
         loaded.asked.checks.items) }
     ensures located { IfOk result (λ loaded. All (λ check. ArePairsLocated
         (names_of (loaded_by loaded)) check.level loaded.pairs.items) loaded.asked.checks.items) }
+    ensures names_differ { IfOk result (λ loaded. NamesDiffer (loaded_by loaded)) }
     ensures ends { Ends (F.faults files.old) (F.faults files.new) (F.given files.new) result }
     ensures steady_is_no_fault { IsTrue (F.steady files.old) →
         HoldsName (F.holds files.old) before.now →
@@ -60,6 +61,8 @@ pub fn load_change<F: Files>(
         HoldsName (F.holds files.old) locations.now →
         HoldsName (F.holds files.old) spec.now →
         result ≢ Err Halt.ReadFault }
+    ensures same_holds { F.holds files.new ≡ F.holds files.old }
+    ensures same_steady { F.steady files.new ≡ F.steady files.old }
 {
     let locations = load_locations(alloc, files, locations)?;
     let pairs = load_pairs(alloc, files, before, after, &locations)?;

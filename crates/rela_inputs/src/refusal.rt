@@ -28,6 +28,8 @@ pub enum Input {
     Other,
     /// The file with assertions.
     Assertions,
+    /// The certificate.
+    Certificate,
     /// The words of the command line.
     Words,
 }
@@ -98,6 +100,7 @@ fn input_text(input: Input) -> &'static str
         Input::Tables => "tables",
         Input::Other => "other",
         Input::Assertions => "assertions",
+        Input::Certificate => "certificate",
         Input::Words => "words",
     }
 }

@@ -3,6 +3,7 @@ use Rattle.rela_locations.specs.Network.{alphabet_of}
 use Rattle.rela_inputs.specs.Specified.{specified_by}
 use Rattle.rela_inputs.proofs.ChangeLaws.{locations_stopped, pairs_stopped, spec_stopped, loaded, located_checks}
 use Rattle.rela_inputs.proofs.GivenLaws.{ends_later, ends_stopped}
+use Rattle.rela_inputs.proofs.NameLaws.{checks_apart, flows_apart}
 use Rattle.rela_inputs.proofs.change.load_change.Goals as goal
 
 pub returns-in_err-locations-clause-given : goal.returns-in_err-locations-clause-given
@@ -52,6 +53,12 @@ returns-clause-located g c =
     let level = c.in_ok-asked.asked.level in
     located_checks (alphabet_of level c.in_ok-locations.locations) c.in_ok-pairs.pairs.items level c.in_ok-asked.asked.checks.items
     (c.in_ok-pairs.ensures.located level) c.in_ok-asked.ensures.levels
+
+pub returns-clause-names_differ : goal.returns-clause-names_differ
+returns-clause-names_differ g c = record {
+  checks = checks_apart c.in_ok-locations.locations _ (specified_by c.in_ok-asked.asked) c.in_ok-asked.ensures.given.told_by;
+  flows = flows_apart c.in_ok-locations.locations _ _ c.in_ok-pairs.pairs.items c.in_ok-pairs.ensures.given.told_by;
+}
 
 pub returns-clause-ends : goal.returns-clause-ends
 returns-clause-ends g c = record {
