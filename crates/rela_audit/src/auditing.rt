@@ -18,9 +18,9 @@ use rela_inputs::{
 use rela_io::Files;
 use std::alloc::{AllocError, Global};
 
-/// Loads the change in the files of these names, as [`load_change`] does, then reads the certificate
-/// in the file of the last name, and audits it. Time and space: those of decoding the files and of
-/// [`audit`].
+/// Loads the change in the files of these names, as [`load_change`] does, then reads the
+/// certificate in the file of the last name, and audits it. Time and space: those of decoding the
+/// files and of [`audit`].
 ///
 /// # Errors
 ///
