@@ -9,8 +9,9 @@ use rela_labels::LabelSet;
 use rela_nfa::Nfa;
 use std::alloc::{AllocError, Global};
 
-/// For each automaton and each of these numbers of the table whether the automaton's set has a final
-/// state. Time: a look at each state of the table's sets, and a step for each automaton and number.
+/// For each automaton and each of these numbers of the table whether the automaton's set has a
+/// final state. Time: a look at each state of the table's sets, and a step for each automaton and
+/// number.
 pub(crate) fn accepting<L: LabelSet>(
     alloc: Global,
     automata: &[&Nfa<L>],
@@ -30,8 +31,8 @@ pub(crate) fn accepting<L: LabelSet>(
     Ok(accepted)
 }
 
-/// For each of these numbers of the table whether the set of the automaton, which is the `n`-th, has
-/// a final state.
+/// For each of these numbers of the table whether the set of the automaton, which is the `n`-th,
+/// has a final state.
 fn finals_at<L: LabelSet>(
     alloc: Global,
     a: &Nfa<L>,

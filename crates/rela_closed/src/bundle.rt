@@ -4,8 +4,7 @@ ghost use Rattle.std.specs.List.{All};
 ghost use Rattle.std.specs.Option.{ForSome};
 ghost use Rattle.rela_labels.specs.Letters.{has};
 ghost use Rattle.rela_nfa.specs.Stored.{move_of};
-ghost use Rattle.rela_closed.specs.Listing.{takes};
-ghost use Rattle.rela_closed.specs.Listing.{IsPutIn};
+ghost use Rattle.rela_closed.specs.Listing.{IsPutIn, takes};
 
 use rela_labels::LabelSet;
 use rela_nfa::Edge;

@@ -11,8 +11,8 @@ use crate::table::Table;
 use rela_labels::LabelSet;
 use std::alloc::{AllocError, Global};
 
-/// Whether each letter of `over` leads from all sets of the table to sets of the table. Time: a step
-/// of the reader for each of the sets and each letter.
+/// Whether each letter of `over` leads from all sets of the table to sets of the table. Time: a
+/// step of the reader for each of the sets and each letter.
 pub(crate) fn is_closed<'a, L: LabelSet>(
     alloc: Global,
     reader: &mut Reader<'a, L>,

@@ -30,8 +30,8 @@ pub(crate) fn first_set<L: LabelSet>(
 }
 
 /// The states that a word with the letter behind it reaches, in ascending order, where the word
-/// reaches those of the set. Time: a look at each edge out of the set, and at each silent edge on the
-/// way, and a sort of the states.
+/// reaches those of the set. Time: a look at each edge out of the set, and at each silent edge on
+/// the way, and a sort of the states.
 pub(crate) fn next_set<L: LabelSet>(
     alloc: Global,
     a: &Nfa<L>,

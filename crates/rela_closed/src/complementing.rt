@@ -16,10 +16,10 @@ use rela_labels::LabelSet;
 use rela_nfa::Nfa;
 use std::alloc::{AllocError, Global};
 
-/// The words over these letters that the automaton doesn't accept, where the list of words is closed
-/// for it, and `None` where it isn't. The states are the different sets of states that listed words
-/// reach, in the order in which the list meets them, so that words that lead to one of them reach
-/// the same states of `a`.
+/// The words over these letters that the automaton doesn't accept, where the list of words is
+/// closed for it, and `None` where it isn't. The states are the different sets of states that
+/// listed words reach, in the order in which the list meets them, so that words that lead to one of
+/// them reach the same states of `a`.
 ///
 /// Time and space: those of [`follow`](crate::follow), and the edges: one from a set to each set
 /// that follows it.

@@ -1,5 +1,5 @@
 //! The search for a closed list of words.
-ghost use Rattle.std.specs.Prelude.{◌≡◌, ℕ, ◌+◌, ◌^◌, ◌<◌, ◌≤◌, [], IfErr, IfOk, length, map};
+ghost use Rattle.std.specs.Prelude.{◌≡◌, ◌+◌, ◌^◌, ◌<◌, ◌≤◌, IfErr, IfOk, length, map};
 ghost use Rattle.std.specs.List.{All, AllPairs};
 ghost use Rattle.rela_names.specs.Shortlex.{First, IsBefore};
 ghost use Rattle.rela_closed.specs.Closed.{AreApart, IsClosed, ReachSets, ReachesLike};
@@ -13,12 +13,13 @@ use rela_labels::LabelSet;
 use rela_nfa::{BuildError, Nfa};
 use std::alloc::{AllocError, Global};
 
-/// The list of words that is closed for the automata and lists, for each list of sets of states that
-/// words over the letters reach, just the first such word, in shortlex order. It begins with the
-/// empty word, and each other word is given by its step.
+/// The list of words that is closed for the automata and lists, for each list of sets of states
+/// that words over the letters reach, just the first such word, in shortlex order. It begins with
+/// the empty word, and each other word is given by its step.
 ///
-/// Time: for each listed word and each letter a look at each edge out of the states that it reaches,
-/// and a look-up of the states that follow. Space: linear in the words and their sets of states.
+/// Time: for each listed word and each letter a look at each edge out of the states that it
+/// reaches, and a look-up of the states that follow. Space: linear in the words and their sets of
+/// states.
 ///
 /// # Errors
 ///

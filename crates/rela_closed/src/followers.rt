@@ -8,8 +8,9 @@ use crate::table::Table;
 use rela_labels::LabelSet;
 use std::alloc::{AllocError, Global};
 
-/// The number of the sets to which the letter leads from those of this number, and `None` where they
-/// aren't in the table, behind whose sets they are then put. Time: a step of the reader, and a look-up.
+/// The number of the sets to which the letter leads from those of this number, and `None` where
+/// they aren't in the table, behind whose sets they are then put. Time: a step of the reader, and a
+/// look-up.
 pub(crate) fn follower<'a, L: LabelSet>(
     alloc: Global,
     reader: &mut Reader<'a, L>,

@@ -15,8 +15,8 @@ use rela_nfa::Edge;
 use std::alloc::{AllocError, Global};
 
 /// The edges by the letters of `over` out of all sets of the table, in the order of their numbers,
-/// and `None` where a letter leads to sets that aren't in the table. Time: a step of the reader and a
-/// set operation for each of the sets and each letter.
+/// and `None` where a letter leads to sets that aren't in the table. Time: a step of the reader and
+/// a set operation for each of the sets and each letter.
 pub(crate) fn transitions<'a, L: LabelSet>(
     alloc: Global,
     reader: &mut Reader<'a, L>,
