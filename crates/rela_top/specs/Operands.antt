@@ -1,9 +1,9 @@
 -- The files that a command reads.
 use Rattle.std.specs.Prelude.{◌≡◌, ◌∷◌, ℕ, All, List, [], Option}
 use Rattle.rela_io.specs.Held.{FilesByName, HoldsName}
-use Rattle.rela_words.specs.Words.{Command, Check, Fmt, Fib, Zone, Rir, Demo, Ask}
+use Rattle.rela_words.specs.Words.{Command, Check, Fmt, Fib, Zone, Rir, Audit, Demo, Ask}
 use Rattle.rela_inputs.specs.declared.refusal.Input.{Input}
-use Rattle.rela_inputs.specs.declared.refusal.Input.TheVariants.{Locations, Before, After, Spec, Tables, Other, Assertions}
+use Rattle.rela_inputs.specs.declared.refusal.Input.TheVariants.{Locations, Before, After, Spec, Tables, Other, Assertions, Certificate}
 
 -- the inputs of a command, each with the name of its file, in the order in which they are read
 abbrev pub operands_of : Command → List (Input × List ℕ)
@@ -15,6 +15,9 @@ operands_of (Fib tables other locations) =
 operands_of (Zone locations spec name states) = (Locations, locations) ∷ (Spec, spec) ∷ []
 operands_of (Rir before after locations assertions states) =
     (Locations, locations) ∷ (Before, before) ∷ (After, after) ∷ (Assertions, assertions) ∷ []
+operands_of (Audit before after locations spec certificate) =
+    (Locations, locations) ∷ (Before, before) ∷ (After, after) ∷ (Spec, spec)
+    ∷ (Certificate, certificate) ∷ []
 operands_of (Demo layers) = []
 
 -- what the last of these inputs gave, where the file opened last gave so many bytes: none where there is no input

@@ -12,6 +12,7 @@ ghost use Rattle.rela_words.specs.Commands.{command_of};
 
 use crate::delivering::deliver;
 use rela_assert::report_assertions;
+use rela_audit::audit_files;
 use rela_check::report_asked;
 use rela_demonstrate::demonstrate;
 use rela_draw::draw;
@@ -166,6 +167,15 @@ fn carry_out<F: Files>(alloc: Global, files: &mut F, command: &Command) -> Resul
             rir.locations.as_str(),
             rir.assertions.as_str(),
             rir.states,
+        ),
+        Command::Audit(audit) => audit_files(
+            alloc,
+            files,
+            audit.before.as_str(),
+            audit.after.as_str(),
+            audit.locations.as_str(),
+            audit.spec.as_str(),
+            audit.certificate.as_str(),
         ),
         Command::Demo(demo) => demonstrate(alloc, demo.layers as u32),
     }

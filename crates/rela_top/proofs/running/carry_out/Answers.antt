@@ -2,7 +2,7 @@ use Rattle.std.proofs.Common.{◌≡◌, ℕ, List, [], ◌∷◌, ap, sym, subs
 use Rattle.std.specs.List.{All}
 use Rattle.rela_io.specs.Held.{HoldsName}
 use Rattle.rela_words.specs.Commands.{command_of}
-use Rattle.rela_words.specs.Words.{Command, Fmt, Fib, Rir, Zone, HasNumbers}
+use Rattle.rela_words.specs.Words.{Command, Fmt, Fib, Rir, Audit, Zone, HasNumbers}
 use Rattle.rela_inputs.specs.Answer.{answer_by}
 use Rattle.rela_change_report.specs.Reports.{SameReports}
 use Rattle.rela_demonstrate.specs.Demos.{Demos}
@@ -11,7 +11,7 @@ use Rattle.rela_top.specs.Operands.{HoldsFiles, given_to, operands_of}
 use Rattle.rela_top.specs.Outcome.{Outcome, SameAnswer}
 use Rattle.rela_inputs.specs.Reading.{Ends}
 use Rattle.rela_inputs.specs.declared.refusal.Input.{Input}
-use Rattle.rela_inputs.specs.declared.refusal.Input.TheVariants.{Locations, Before, After, Spec, Tables, Other, Assertions}
+use Rattle.rela_inputs.specs.declared.refusal.Input.TheVariants.{Locations, Before, After, Spec, Tables, Other, Assertions, Certificate}
 use Rattle.rela_inputs.proofs.GivenLaws.{read_given}
 use Rattle.rela_top.proofs.running.carry_out.Goals as goal
 
@@ -24,6 +24,10 @@ same_zone l locations s spec m name n el es em = cc
 same_rir : (b before a after l locations s assertions : List ℕ) (n : ℕ) → b ≡ before → a ≡ after → l ≡ locations → s ≡ assertions
     → Rir b a l s n ≡ Rir before after locations assertions n
 same_rir b before a after l locations s assertions n eb ea el es = cc
+
+same_audit : (b before a after l locations s spec t certificate : List ℕ) → b ≡ before → a ≡ after → l ≡ locations → s ≡ spec → t ≡ certificate
+    → Audit b a l s t ≡ Audit before after locations spec certificate
+same_audit b before a after l locations s spec t certificate eb ea el es et = cc
 
 pub report_asked-requires : goal.report_asked-requires
 report_asked-requires g c = record { some = (subst HasNumbers (ap command_of c.in-Check.is) c.requires).0 }
@@ -168,4 +172,35 @@ returns-in-Rir-clause-ends g c =
 pub returns-in-Rir-clause-opens_nothing : goal.returns-in-Rir-clause-opens_nothing
 returns-in-Rir-clause-opens_nothing g c = λ none.
     let never = subst (λ (x : Command). operands_of x ≡ []) (ap command_of c.in-Rir.is) none in
+    absurd (cc)
+
+pub returns-in-Audit-clause-given : goal.returns-in-Audit-clause-given
+returns-in-Audit-clause-given g c =
+    subst (λ (x : Command). IsGiven (is_some (g.F.Files.holds c.args.files.now)) (g.F.Files.steady c.args.files.now) (SameAnswer x)
+    (Outcome (g.F.Files.holds c.args.files.now) x) (seen answer_by c.audit_files.result))
+    (same_audit _ _ _ _ _ _ _ _ _ _ c.as_str-in-Audit.ensures.value c.as_str-in-Audit-2.ensures.value c.as_str-in-Audit-3.ensures.value
+    c.as_str-in-Audit-4.ensures.value c.as_str-in-Audit-5.ensures.value ∙ sym (ap command_of c.in-Audit.is)) c.audit_files.ensures.given
+
+pub returns-in-Audit-clause-steady_is_no_fault : goal.returns-in-Audit-clause-steady_is_no_fault
+returns-in-Audit-clause-steady_is_no_fault g c = λ steady all.
+    let audit = c.in-Audit.audit in
+    let held : All (λ (operand : Input × List ℕ). HoldsName (g.F.Files.holds c.args.files.now) operand.1)
+    ((Locations, string_bytes audit.locations) ∷ (Before, string_bytes audit.before) ∷ (After, string_bytes audit.after) ∷ (Spec, string_bytes audit.spec)
+    ∷ (Certificate, string_bytes audit.certificate) ∷ []) =
+    subst (λ (x : Command). HoldsFiles (g.F.Files.holds c.args.files.now) x) (ap command_of c.in-Audit.is) all in
+    c.audit_files.ensures.steady_is_no_fault steady
+    (subst (HoldsName (g.F.Files.holds c.args.files.now)) (sym c.as_str-in-Audit.ensures.value) (held 1 (Spec, []) (omega arith)))
+    (subst (HoldsName (g.F.Files.holds c.args.files.now)) (sym c.as_str-in-Audit-2.ensures.value) (held 2 (Spec, []) (omega arith)))
+    (subst (HoldsName (g.F.Files.holds c.args.files.now)) (sym c.as_str-in-Audit-3.ensures.value) (held 0 (Spec, []) (omega arith)))
+    (subst (HoldsName (g.F.Files.holds c.args.files.now)) (sym c.as_str-in-Audit-4.ensures.value) (held 3 (Spec, []) (omega arith)))
+    (subst (HoldsName (g.F.Files.holds c.args.files.now)) (sym c.as_str-in-Audit-5.ensures.value) (held 4 (Spec, []) (omega arith)))
+
+pub returns-in-Audit-clause-ends : goal.returns-in-Audit-clause-ends
+returns-in-Audit-clause-ends g c =
+    subst (λ (x : Command). Ends (g.F.Files.faults c.args.files.now) (g.F.Files.faults c.audit_files.new.files) (given_to x (g.F.Files.given c.audit_files.new.files)) c.audit_files.result)
+    (sym (ap command_of c.in-Audit.is)) c.audit_files.ensures.ends
+
+pub returns-in-Audit-clause-opens_nothing : goal.returns-in-Audit-clause-opens_nothing
+returns-in-Audit-clause-opens_nothing g c = λ none.
+    let never = subst (λ (x : Command). operands_of x ≡ []) (ap command_of c.in-Audit.is) none in
     absurd (cc)
