@@ -1,5 +1,5 @@
 -- What the judgement of a listed row says of its certificate.
-use Rattle.std.proofs.Common.{◌≡◌, ℕ, ◌+◌, ◌<◌, Option, None, Some, List, length, map, inl, inr, refl, sym, subst, arith, Bor}
+use Rattle.std.proofs.Common.{◌≡◌, ℕ, ◌+◌, ◌<◌, Some, List, length, map, inl, inr, refl, sym, subst, arith, Bor}
 use Rattle.std.specs.Prelude.{IfNone, IfSome, Contains}
 use Rattle.std.specs.List.{All, slice_get}
 use Rattle.std.proofs.lemmas.List.{get_or-map, length-map}
@@ -36,11 +36,6 @@ contains_at xs k x at = (k, slice_get_within xs k x at, get_or_from_slice_get xs
 all_of_mapped : {X Y : Type 0} (P : Y → Type 0) (f : X → Y) (xs : List X) → All P (map f xs) → All (λ x. P (f x)) xs
 all_of_mapped P f xs all k d below =
     subst P (get_or-map f xs k d (f d) below) (all k (f d) (omega (arith, below, length-map xs f)))
-
--- what holds of each where nothing is found
-pub if_none_each : {X Y : Type 0} (A Q : Y → Type 0) (o : Option X) → ((y : Y) → A y → IfNone o (Q y)) → IfNone o ((y : Y) → A y → Q y)
-if_none_each A Q None each = each
-if_none_each A Q (Some x) each = tt
 
 module _ (s : Subject) (planned : List PlannedRow) (rows : List ListedRow) (number : ℕ) (row : ListedRow) (at : slice_get rows number ≡ Some row)
     (r : Row) (is : IsRowAt s planned row r) where

@@ -10,7 +10,7 @@ use Rattle.rela_build.proofs.Readings.{covered}
 use Rattle.rela_labels.specs.Letters.{has}
 use Rattle.rela_labels.proofs.LettersOfWords.{has_below}
 use Rattle.rela_nfa.specs.Automaton.{Automaton}
-use Rattle.rela_rir.specs.Places.{Scene, Agree, At}
+use Rattle.rela_rir.specs.Places.{Scene, Agree, At, Place}
 use Rattle.rela_rir.specs.declared.term.PathTerm.{PathTerm}
 use Rattle.rela_closed.specs.Closed.{IsClosed, SameStates}
 use Rattle.rela_cert.specs.Closed.{AgreeOnAll, Closed}
@@ -35,12 +35,12 @@ module _ (E : Type 0) (l : Lettering) (are : AreLetterBlocks l) (paths : Paths) 
   same_states x a made v w agree q =
       (lead_on x a made v w agree q, lead_on x a made w v (λ p. ((agree p).1, (agree p).0)) q)
 
-  same_one : (x : PathTerm) (a : Automaton) → IsMade E l paths x a → (v w : List ℕ) → AgreeOnAll m (x ∷ []) v w → SameStates (a ∷ []) (map f v) (map f w)
+  pub same_one : (x : PathTerm) (a : Automaton) → IsMade E l paths x a → (v w : List ℕ) → AgreeOnAll m (x ∷ []) v w → SameStates (a ∷ []) (map f v) (map f w)
   same_one x a made v w agree =
       All-cons (λ b. ReachSame b (map f v) (map f w)) a []
       (same_states x a made v w (All-head (λ y. Agree (At m y) v w) x [] agree)) (All-nil (λ b. ReachSame b (map f v) (map f w)))
 
-  same_two : (x y : PathTerm) (a b : Automaton) → IsMade E l paths x a → IsMade E l paths y b → (v w : List ℕ) → AgreeOnAll m (x ∷ y ∷ []) v w
+  pub same_two : (x y : PathTerm) (a b : Automaton) → IsMade E l paths x a → IsMade E l paths y b → (v w : List ℕ) → AgreeOnAll m (x ∷ y ∷ []) v w
       → SameStates (a ∷ b ∷ []) (map f v) (map f w)
   same_two x y a b one two v w agree =
       All-cons (λ c. ReachSame c (map f v) (map f w)) a (b ∷ [])
@@ -51,7 +51,7 @@ module _ (E : Type 0) (l : Lettering) (are : AreLetterBlocks l) (paths : Paths) 
 
   module _ (n : ℕ) (over : List Bool) (holds : HoldsJust l.blocks (λ s. s < n) over) where
     -- a letter of the set is that of a symbol below n
-    symbol_for : (k : ℕ) → has over k ≡ true → (s : ℕ) × (s < n) × (f s ≡ k)
+    pub symbol_for : (k : ℕ) → has over k ≡ true → (s : ℕ) × (s < n) × (f s ≡ k)
     symbol_for k among =
         let less : k < length over = has_below over k among in
         let found = covered l.blocks are.partition k (omega (arith, less, holds.size)) in
@@ -77,3 +77,36 @@ module _ (E : Type 0) (l : Lettering) (are : AreLetterBlocks l) (paths : Paths) 
     pub closed_two : (x y : PathTerm) (a b : Automaton) → IsMade E l paths x a → IsMade E l paths y b → (words : List (List ℕ)) → Closed m n (x ∷ y ∷ []) words
         → IsClosed over (a ∷ b ∷ []) (letter_words l.blocks words)
     closed_two x y a b one two words closed = closed_by (x ∷ y ∷ []) (a ∷ b ∷ []) (same_two x y a b one two) words closed
+
+-- ---- and the other way round, where the states tell places apart
+
+module _ (l : Lettering) (paths : Paths) where
+  abbrev here : Scene
+  here = scene_of l paths
+
+  abbrev letter : ℕ → ℕ
+  letter = read_by l.blocks
+
+  -- words that reach the same states reach the same places
+  reach_on : (x : PathTerm) (a : Automaton) → IsMade (Unit {0}) l paths x a → (v w : List ℕ) → ReachSame a (map letter v) (map letter w) → (p : Place) → At here x p v → At here x p w
+  unfolding IsMade
+  reach_on x a made v w same p at =
+      let exact = made.exact tt in
+      let entry = exact.entered p v at in
+      exact.only p entry.0 w entry.1
+      ((same entry.0).0 ((made.placed.reached entry.0 v).1 (record { place = p; entry = entry.1; reached = at })))
+
+  agree_one : (x : PathTerm) (a : Automaton) → IsMade (Unit {0}) l paths x a → (v w : List ℕ) → ReachSame a (map letter v) (map letter w) → Agree (At here x) v w
+  agree_one x a made v w same p = (reach_on x a made v w same p, reach_on x a made w v (λ q. ((same q).1, (same q).0)) p)
+
+  pub agree_part : (x : PathTerm) (a : Automaton) → IsMade (Unit {0}) l paths x a → (v w : List ℕ) → SameStates (a ∷ []) (map letter v) (map letter w) → AgreeOnAll here (x ∷ []) v w
+  agree_part x a made v w same =
+      All-cons (λ y. Agree (At here y) v w) x []
+      (agree_one x a made v w (All-head (λ b. ReachSame b (map letter v) (map letter w)) a [] same)) (All-nil (λ y. Agree (At here y) v w))
+
+  pub agree_images : (x y : PathTerm) (a b : Automaton) → IsMade (Unit {0}) l paths x a → IsMade (Unit {0}) l paths y b → (v w : List ℕ)
+      → SameStates (a ∷ b ∷ []) (map letter v) (map letter w) → AgreeOnAll here (x ∷ y ∷ []) v w
+  agree_images x y a b one two v w same =
+      All-cons (λ z. Agree (At here z) v w) x (y ∷ [])
+      (agree_one x a one v w (All-head (λ c. ReachSame c (map letter v) (map letter w)) a (b ∷ []) same))
+      (agree_part y b two v w (All-tail (λ c. ReachSame c (map letter v) (map letter w)) a (b ∷ []) same))

@@ -1,5 +1,5 @@
 -- What the flags of listed words tell of two automata.
-use Rattle.std.proofs.Common.{◌≡◌, ℕ, ◌<◌, ◌⊎◌, ◌↔◌, Bool, true, false, List, [], ◌∷◌, length, get_or, inl, inr, refl, subst, arith}
+use Rattle.std.proofs.Common.{◌≡◌, ◌∙◌, ℕ, ◌<◌, ◌⊎◌, ◌↔◌, Bool, true, false, List, [], ◌∷◌, length, get_or, inl, inr, refl, sym, subst, arith}
 use Rattle.std.specs.Prelude.{Contains, IsTrue}
 use Rattle.std.proofs.lemmas.Bool.{false≢true}
 use Rattle.std.proofs.lemmas.List.{get_or_default}
@@ -9,7 +9,7 @@ use Rattle.rela_build.proofs.LetterWords.{reached_letters}
 use Rattle.rela_labels.specs.Letters.{has}
 use Rattle.rela_nfa.specs.Automaton.{Automaton, IsAutomaton}
 use Rattle.rela_nfa.specs.Runs.{Accepts}
-use Rattle.rela_closed.specs.Closed.{AreAccepted, AreEqualOn, AreIncludedOn}
+use Rattle.rela_closed.specs.Closed.{AreAccepted, AreEqualOn, AreIncludedOn, IsClosed}
 use Rattle.rela_translate.specs.Verdict.{AreMet, Offends}
 use Rattle.rela_cert.specs.WordsJudged.{JudgesFlags, JudgesWords, OffendsAt, flag_offends}
 use Rattle.rela_cert.specs.declared.judgement.Judgement.{Judgement}
@@ -131,3 +131,17 @@ module _ (a b : Automaton) (words : List (List ℕ)) (flags : List (List Bool)) 
           by_flags BadImages some = inr (found at_most some.0 some.1 some.2)
           by_flags (OpenComplement number) none = absurd none
           by_flags TooLarge none = absurd none
+
+-- where the words are closed and the check isn't met, one of them offends
+pub offence : (at_most : Bool) (a b : Automaton) (over : List Bool) (words : List (List ℕ)) → IsClosed over (a ∷ b ∷ []) words
+    → (j : Judgement) → JudgesWords at_most a b over words j → ¬ (j ≡ Met) → (word : List ℕ) × Contains words word × Offends at_most (Accepts a) (Accepts b) word
+offence at_most a b over words closed Met told other = absurd (other refl)
+offence at_most a b over words closed BadImages (inl opened) other = absurd (opened closed)
+offence at_most a b over words closed BadImages (inr found) other = found
+offence at_most a b over words closed (OpenComplement number) none other = absurd none
+offence at_most a b over words closed TooLarge none other = absurd none
+
+pub not_met : (j : Judgement) → ((number : ℕ) × (j ≡ OpenComplement number)) ⊎ ((j ≡ BadImages) ⊎ (j ≡ TooLarge)) → ¬ (j ≡ Met)
+not_met j (inl (number, is)) met = let e : OpenComplement number ≡ Met = sym is ∙ met in cc
+not_met j (inr (inl is)) met = let e : BadImages ≡ Met = sym is ∙ met in cc
+not_met j (inr (inr is)) met = let e : TooLarge ≡ Met = sym is ∙ met in cc

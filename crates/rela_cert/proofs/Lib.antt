@@ -1,3 +1,4 @@
+pub mod Options
 pub mod MappedWords
 pub mod ByStates
 pub mod RowWords
@@ -10,3 +11,11 @@ pub mod ListedRows
 pub mod Listings
 pub mod AuditedRows
 pub mod AuditSays
+pub mod LeastOrder
+pub mod Zips
+pub mod LetterSteps
+pub mod FoundBlocks
+pub mod FoundRows
+pub mod Excuses
+pub mod MadeRows
+pub mod BegunTexts

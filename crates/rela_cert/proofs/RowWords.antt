@@ -51,7 +51,7 @@ module _ (E : Type 0) (check : Checked) (n : ℕ) (paths : Paths) (blocks : List
     pub meets : AreMet check.at_most (Accepts a) (Accepts b) → Meets check n paths.pre paths.post
     meets met = met_by check.at_most met
 
-    offends_by : (at_most : Bool) (w : List ℕ) → Offends at_most (Accepts a) (Accepts b) (map f w)
+    pub offends_by : (at_most : Bool) (w : List ℕ) → Offends at_most (Accepts a) (Accepts b) (map f w)
         → Offends at_most (BeforeImage check n paths.pre) (AfterImage check n paths.post) w
     offends_by false w (inl (one, other)) = inl ((of_before w).0 one, λ is. other ((of_after w).1 is))
     offends_by false w (inr (other, one)) = inr (λ is. other ((of_before w).1 is), (of_after w).0 one)

@@ -7,5 +7,7 @@ pub mod Inputs
 pub mod Planned
 pub mod RowAt
 pub mod RowParts
+pub mod Found
 pub mod Audited
 pub mod Answers
+pub mod Certified

@@ -32,7 +32,8 @@ JudgesFlags at_most before after TooLarge = ⊥
 
 -- the automata accept the words that they have to, whatever their length; or the words aren't closed for them, or one
 -- of the words offends
-abbrev pub JudgesWords : Bool → Automaton → Automaton → List Bool → List (List ℕ) → Judgement → Type 0
+abbrev pub JudgesWords : Bool → Automaton → Automaton → List Bool → List (List ℕ) →
+    Judgement → Type 0
 JudgesWords at_most a b over words Met = AreMet at_most (Accepts a) (Accepts b)
 JudgesWords at_most a b over words BadImages = (¬ IsClosed over (a ∷ b ∷ []) words)
     ⊎ ((word : List ℕ) × Contains words word × Offends at_most (Accepts a) (Accepts b) word)

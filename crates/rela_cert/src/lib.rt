@@ -1,11 +1,14 @@
 //! Certificates of compliance: a text that lists rows with words from which anyone can compute that
-//! their checks are met, and its audit, which searches for nothing.
+//! their checks are met, how it is written, and its audit, which searches for nothing.
 #![tactic(auto)]
 
 mod answer;
 mod auditing;
+mod by_symbols;
+mod certifying;
 mod checking;
 mod complement_count;
+mod finding;
 mod images;
 mod inputs;
 mod judgement;
@@ -14,8 +17,11 @@ mod listed_row;
 mod planning;
 mod row;
 mod row_audit;
+mod row_certificate;
+mod row_words;
 mod words;
 
 pub use answer::Audit;
 pub use auditing::audit;
+pub use certifying::certify;
 pub use row_audit::MAX_STATES;

@@ -127,7 +127,7 @@ fn judge_over(
 }
 
 /// The set of all letters, of which there are so many.
-fn all_letters(alloc: Global, count: u32) -> Result<WideSet, AllocError>
+pub(crate) fn all_letters(alloc: Global, count: u32) -> Result<WideSet, AllocError>
     ensures size { IfOk result (λ set. length set ≡ count) }
     ensures all { IfOk result (λ set. (k : ℕ) → k < count → has set k ≡ true) }
 {

@@ -7,8 +7,9 @@ use Rattle.rela_certfile.specs.declared.rows.Step.{Step}
 use Rattle.rela_cert.specs.Audited.{Finds, IsMet}
 use Rattle.rela_cert.specs.Inputs.{subject_of}
 use Rattle.rela_cert.specs.declared.answer.Audit.{Audit}
-use Rattle.rela_cert.proofs.AuditedRows.{JudgesHere, answer_here, classes_listed, complements_are_blocks, if_none_each, images_are_block, judged_here, met_here, open_below, pair_located}
+use Rattle.rela_cert.proofs.AuditedRows.{JudgesHere, answer_here, classes_listed, complements_are_blocks, images_are_block, judged_here, met_here, open_below, pair_located}
 use Rattle.rela_cert.proofs.ListedRows.{blocks_there}
+use Rattle.rela_cert.proofs.Options.{if_none_each}
 use Rattle.rela_cert.proofs.Listings.{map_at, row_there}
 use Rattle.rela_cert.proofs.listed_row.answer_of_row.Goals as goal
 use Rattle.rela_cert.proofs.listed_row.answer_of_row.Goals.{After-as_slice, After-len}

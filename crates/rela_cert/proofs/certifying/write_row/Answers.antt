@@ -1,0 +1,29 @@
+use Rattle.std.proofs.Common.{◌≡◌, ◌++◌, ◌∷◌, [], List, subst}
+use Rattle.rela_certfile.specs.Layout.{Layout}
+use Rattle.rela_certfile.specs.Text.{text_begun}
+use Rattle.rela_certfile.specs.declared.rows.ListedRow.{ListedRow}
+use Rattle.rela_cert.specs.Inputs.{subject_of}
+use Rattle.rela_cert.specs.Subject.{layout_of}
+use Rattle.rela_cert.proofs.BegunTexts.{behind, with, without}
+use Rattle.rela_cert.proofs.Options.{on_ok}
+use Rattle.rela_cert.proofs.certifying.write_row.Goals as goal
+
+pub returns-in-Some : goal.returns-in-Some
+returns-in-Some c =
+    let s = subject_of c.args.inputs.now in
+    let planned = c.args.planning.now.rows.items in
+    let row = c.in-Some.row in
+    let made = rw c.in-Some.is at c.in_ok-row.ensures.made in
+    on_ok c.push_row.result
+    (λ pushed begun.
+    let told = subst (λ (l : Layout). (rows : List ListedRow) → c.args.writer.now ≡ text_begun l rows → c.push_row.new.self ≡ text_begun l (rows ++ row ∷ [])) c.requires.layout pushed in
+    with s planned c.args.states c.args.place c.args.writer.now begun row made c.push_row.new.self
+    (c.row_appended.ensures (layout_of s planned) begun.rows row begun.listed (behind s planned c.args.states c.args.place c.args.writer.now begun row made) made.listed)
+    (told begun.rows begun.written))
+    c.push_row.ensures
+
+pub returns-in-None : goal.returns-in-None
+returns-in-None c begun =
+    let s = subject_of c.args.inputs.now in
+    let planned = c.args.planning.now.rows.items in
+    without s planned c.args.states c.args.place c.args.writer.now begun (rw c.in-None.is at c.in_ok-row.ensures.excused)
