@@ -2,7 +2,7 @@
 use Rattle.std.proofs.Common.{◌≡◌, ◌≢◌, List, [], ◌∷◌, Result, refl, sym, ap, subst, ◌∙◌}
 use Rattle.std.specs.Prelude.{IfErr, IfOk, codes}
 use Rattle.std.proofs.lemmas.Result.{IfErr-weaker, IfOk-weaker}
-use Rattle.rela_words.specs.Words.{Ask, AskJust, AskNothing, Command, Check, Fmt, Fib, Zone, Rir, Audit, Demo, Fit, Give, HasNumbers, Parts, row_of}
+use Rattle.rela_words.specs.Words.{Ask, AskJust, AskNothing, Command, Check, Fmt, Fib, Zone, Rir, Certify, Audit, Demo, Fit, Give, HasNumbers, Parts, row_of}
 use Rattle.rela_words.specs.Commands.{command_of}
 use Rattle.rela_words.specs.Parts.{FitJust, FitNothing, GiveJust, GiveNothing}
 use Rattle.rela_words.specs.declared.command.Command as declared
@@ -69,11 +69,12 @@ module _ (words : List Word) (name : Word) (rest : List Word) (are : words ≡ n
 
 -- a name of none of them
 pub unnamed : (name : Word) (parts : Parts) → name ≢ codes "check" → name ≢ codes "fmt" → name ≢ codes "fib" → name ≢ codes "zone" → name ≢ codes "rir"
-    → name ≢ codes "audit" → name ≢ codes "demo" → FitNothing name parts
-unnamed name parts check fmt fib zone rir audit demo (Check before after locations spec states blame) e fit = check (sym e)
-unnamed name parts check fmt fib zone rir audit demo (Fmt spec) e fit = fmt (sym e)
-unnamed name parts check fmt fib zone rir audit demo (Fib tables other locations) e fit = fib (sym e)
-unnamed name parts check fmt fib zone rir audit demo (Zone locations spec named states) e fit = zone (sym e)
-unnamed name parts check fmt fib zone rir audit demo (Rir before after locations assertions states) e fit = rir (sym e)
-unnamed name parts check fmt fib zone rir audit demo (Audit before after locations spec certificate) e fit = audit (sym e)
-unnamed name parts check fmt fib zone rir audit demo (Demo layers) e fit = demo (sym e)
+    → name ≢ codes "certify" → name ≢ codes "audit" → name ≢ codes "demo" → FitNothing name parts
+unnamed name parts check fmt fib zone rir certify audit demo (Check before after locations spec states blame) e fit = check (sym e)
+unnamed name parts check fmt fib zone rir certify audit demo (Fmt spec) e fit = fmt (sym e)
+unnamed name parts check fmt fib zone rir certify audit demo (Fib tables other locations) e fit = fib (sym e)
+unnamed name parts check fmt fib zone rir certify audit demo (Zone locations spec named states) e fit = zone (sym e)
+unnamed name parts check fmt fib zone rir certify audit demo (Rir before after locations assertions states) e fit = rir (sym e)
+unnamed name parts check fmt fib zone rir certify audit demo (Certify before after locations spec states) e fit = certify (sym e)
+unnamed name parts check fmt fib zone rir certify audit demo (Audit before after locations spec certificate) e fit = audit (sym e)
+unnamed name parts check fmt fib zone rir certify audit demo (Demo layers) e fit = demo (sym e)

@@ -5,7 +5,7 @@ use Rattle.std.specs.Fmt.{decimal}
 use Rattle.std.specs.Str.{bytes_eq}
 use Rattle.std.proofs.lemmas.Fmt.{decimal_injective}
 use Rattle.std.proofs.lemmas.Slice.Eq.{bytes_eq-Decides}
-use Rattle.rela_words.specs.Words.{Command, Check, Fmt, Fib, Zone, Rir, Audit, Demo, Fit, IsUpTo, Parts, row_of}
+use Rattle.rela_words.specs.Words.{Command, Check, Fmt, Fib, Zone, Rir, Certify, Audit, Demo, Fit, IsUpTo, Parts, row_of}
 use Rattle.rela_words.specs.Parts.{FitJust, FitNothing, HaveNoOptions, IsLimitUpTo, IsNumber}
 use Rattle.rela_words.specs.declared.errors.WordsError.{WordsError}
 use Rattle.rela_words.specs.declared.errors.WordsError.TheVariants.{Bad}
@@ -59,6 +59,9 @@ same_zone l s c l' s' c' n n' operands number = cc
 
 same_rir : (b a l s b' a' l' s' : Word) (n n' : ℕ) → b ∷ a ∷ l ∷ s ∷ [] ≡ b' ∷ a' ∷ l' ∷ s' ∷ [] → n ≡ n' → Rir b a l s n ≡ Rir b' a' l' s' n'
 same_rir b a l s b' a' l' s' n n' operands number = cc
+
+same_certify : (b a l s b' a' l' s' : Word) (n n' : ℕ) → b ∷ a ∷ l ∷ s ∷ [] ≡ b' ∷ a' ∷ l' ∷ s' ∷ [] → n ≡ n' → Certify b a l s n ≡ Certify b' a' l' s' n'
+same_certify b a l s b' a' l' s' n n' operands number = cc
 
 same_audit : (b a l s t b' a' l' s' t' : Word) → b ∷ a ∷ l ∷ s ∷ t ∷ [] ≡ b' ∷ a' ∷ l' ∷ s' ∷ t' ∷ [] → Audit b a l s t ≡ Audit b' a' l' s' t'
 same_audit b a l s t b' a' l' s' t' e = cc
@@ -121,6 +124,23 @@ module _ (parts : Parts) where
   one_fits (Audit b a l s t) (Zone l' s' c' n') e one other = absurd (differ e refl)
   one_fits (Audit b a l s t) (Rir b' a' l' s' n') e one other = absurd (differ e refl)
   one_fits (Audit b a l s t) (Demo n') e one other = absurd (differ e refl)
+  one_fits (Certify b a l s n) (Certify b' a' l' s' n') e one other =
+      same_certify b a l s b' a' l' s' n n' (sym one.are_operands ∙ other.are_operands)
+      (one_limit parts.limits n n' (one.is_limit, one.numbers) (other.is_limit, other.numbers))
+  one_fits (Check b a l s n f) (Certify b' a' l' s' n') e one other = absurd (differ e refl)
+  one_fits (Certify b a l s n) (Check b' a' l' s' n' f') e one other = absurd (differ e refl)
+  one_fits (Fmt s) (Certify b' a' l' s' n') e one other = absurd (differ e refl)
+  one_fits (Certify b a l s n) (Fmt s') e one other = absurd (differ e refl)
+  one_fits (Fib t o l) (Certify b' a' l' s' n') e one other = absurd (differ e refl)
+  one_fits (Certify b a l s n) (Fib t' o' l') e one other = absurd (differ e refl)
+  one_fits (Zone l s c n) (Certify b' a' l' s' n') e one other = absurd (differ e refl)
+  one_fits (Certify b a l s n) (Zone l' s' c' n') e one other = absurd (differ e refl)
+  one_fits (Rir b a l s n) (Certify b' a' l' s' n') e one other = absurd (differ e refl)
+  one_fits (Certify b a l s n) (Rir b' a' l' s' n') e one other = absurd (differ e refl)
+  one_fits (Audit b a l s t) (Certify b' a' l' s' n') e one other = absurd (differ e refl)
+  one_fits (Certify b a l s n) (Audit b' a' l' s' t') e one other = absurd (differ e refl)
+  one_fits (Demo n) (Certify b' a' l' s' n') e one other = absurd (differ e refl)
+  one_fits (Certify b a l s n) (Demo n') e one other = absurd (differ e refl)
 
   -- one command of this name
   pub just : (name : Word) (made : Command) → (row_of made).name ≡ name → Fit parts made → FitJust name parts made
@@ -146,6 +166,11 @@ module _ (parts : Parts) where
   rir_just b a l s n operands limit = just (codes "rir") (Rir b a l s n) refl
       (record { are_operands = operands; is_limit = limit.0.0; is_flag = limit.1; numbers = limit.0.1 })
 
+  pub certify_just : (b a l s : Word) (n : ℕ) → parts.operands ≡ b ∷ a ∷ l ∷ s ∷ [] → IsLimitUpTo 4000000 parts.limits n × (parts.blame ≡ false)
+      → FitJust (codes "certify") parts (Certify b a l s n)
+  certify_just b a l s n operands limit = just (codes "certify") (Certify b a l s n) refl
+      (record { are_operands = operands; is_limit = limit.0.0; is_flag = limit.1; numbers = limit.0.1 })
+
   pub fmt_just : (s : Word) → parts.operands ≡ s ∷ [] → HaveNoOptions parts → FitJust (codes "fmt") parts (Fmt s)
   fmt_just s operands none = just (codes "fmt") (Fmt s) refl (record { are_operands = operands; is_limit = none.0; is_flag = none.1; numbers = tt })
 
@@ -162,6 +187,7 @@ module _ (parts : Parts) where
   -- ---- what isn't the parts of any
 
   pub check_unlimited : ((k : ℕ) → ¬ IsLimitUpTo 4000000 parts.limits k) → FitNothing (codes "check") parts
+  check_unlimited none (Certify b a l s n) e fit = absurd (differ e refl)
   check_unlimited none (Audit b a l s t) e fit = absurd (differ e refl)
   check_unlimited none (Check b a l s n f) e fit = none n (fit.is_limit, fit.numbers)
   check_unlimited none (Fmt s) e fit = absurd (differ e refl)
@@ -171,6 +197,7 @@ module _ (parts : Parts) where
   check_unlimited none (Demo n) e fit = absurd (differ e refl)
 
   pub zone_unlimited : ((k : ℕ) → ¬ (IsLimitUpTo 4000000 parts.limits k × (parts.blame ≡ false))) → FitNothing (codes "zone") parts
+  zone_unlimited none (Certify b a l s n) e fit = absurd (differ e refl)
   zone_unlimited none (Audit b a l s t) e fit = absurd (differ e refl)
   zone_unlimited none (Zone l s c n) e fit = none n ((fit.is_limit, fit.numbers), fit.is_flag)
   zone_unlimited none (Check b a l s n f) e fit = absurd (differ e refl)
@@ -180,6 +207,7 @@ module _ (parts : Parts) where
   zone_unlimited none (Demo n) e fit = absurd (differ e refl)
 
   pub rir_unlimited : ((k : ℕ) → ¬ (IsLimitUpTo 4000000 parts.limits k × (parts.blame ≡ false))) → FitNothing (codes "rir") parts
+  rir_unlimited none (Certify b a l s n) e fit = absurd (differ e refl)
   rir_unlimited none (Audit b a l s t) e fit = absurd (differ e refl)
   rir_unlimited none (Rir b a l s n) e fit = none n ((fit.is_limit, fit.numbers), fit.is_flag)
   rir_unlimited none (Check b a l s n f) e fit = absurd (differ e refl)
@@ -188,7 +216,18 @@ module _ (parts : Parts) where
   rir_unlimited none (Zone l s c n) e fit = absurd (differ e refl)
   rir_unlimited none (Demo n) e fit = absurd (differ e refl)
 
+  pub certify_unlimited : ((k : ℕ) → ¬ (IsLimitUpTo 4000000 parts.limits k × (parts.blame ≡ false))) → FitNothing (codes "certify") parts
+  certify_unlimited none (Rir b a l s n) e fit = absurd (differ e refl)
+  certify_unlimited none (Audit b a l s t) e fit = absurd (differ e refl)
+  certify_unlimited none (Certify b a l s n) e fit = none n ((fit.is_limit, fit.numbers), fit.is_flag)
+  certify_unlimited none (Check b a l s n f) e fit = absurd (differ e refl)
+  certify_unlimited none (Fmt s) e fit = absurd (differ e refl)
+  certify_unlimited none (Fib t o l) e fit = absurd (differ e refl)
+  certify_unlimited none (Zone l s c n) e fit = absurd (differ e refl)
+  certify_unlimited none (Demo n) e fit = absurd (differ e refl)
+
   pub demo_unnumbered : (w : Word) → parts.operands ≡ w ∷ [] → ((k : ℕ) → ¬ IsNumber 200 w k) → FitNothing (codes "demo") parts
+  demo_unnumbered w operands none (Certify b a l s n) e fit = absurd (differ e refl)
   demo_unnumbered w operands none (Audit b a l s t) e fit = absurd (differ e refl)
   demo_unnumbered w operands none (Demo n) e fit = none n (head_same w (decimal n) (sym operands ∙ fit.are_operands), fit.numbers)
   demo_unnumbered w operands none (Check b a l s n f) e fit = absurd (differ e refl)

@@ -2,7 +2,7 @@
 use Rattle.std.specs.Prelude.{string_bytes}
 use Rattle.rela_words.specs.declared.command.Command as declared
 use Rattle.rela_words.specs.declared.command.Command.TheVariants as asked
-use Rattle.rela_words.specs.Words.{Command, Check, Fmt, Fib, Zone, Rir, Audit, Demo}
+use Rattle.rela_words.specs.Words.{Command, Check, Fmt, Fib, Zone, Rir, Certify, Audit, Demo}
 
 -- with the names as their bytes
 abbrev pub command_of : declared.Command → Command
@@ -15,6 +15,8 @@ command_of (asked.Zone c) =
     Zone (string_bytes c.locations) (string_bytes c.spec) (string_bytes c.name) c.states
 command_of (asked.Rir c) = Rir (string_bytes c.before) (string_bytes c.after)
     (string_bytes c.locations) (string_bytes c.assertions) c.states
+command_of (asked.Certify c) = Certify (string_bytes c.before) (string_bytes c.after)
+    (string_bytes c.locations) (string_bytes c.spec) c.states
 command_of (asked.Audit c) = Audit (string_bytes c.before) (string_bytes c.after)
     (string_bytes c.locations) (string_bytes c.spec) (string_bytes c.certificate)
 command_of (asked.Demo c) = Demo c.layers

@@ -9,14 +9,15 @@ use Rattle.std.specs.Fmt.{decimal}
 -- What the words ask for, with the names of the files: to check a change, and to say by which
 -- branch where the flag is given; to write the canonical text of a specification; to write the
 -- snapshot that tables give; to write the automaton of the zone of the check of this name; to look
--- whether assertions hold of a change; to audit a certificate of a change; or to check the layered
--- input of so many layers.
+-- whether assertions hold of a change; to write a certificate of a change, or to audit one; or to
+-- check the layered input of so many layers.
 pub data Command : Type 0 where
   Check : (before after locations spec : List ℕ) (states : ℕ) (blame : Bool) → Command
   Fmt : (spec : List ℕ) → Command
   Fib : (tables other locations : List ℕ) → Command
   Zone : (locations spec name : List ℕ) (states : ℕ) → Command
   Rir : (before after locations assertions : List ℕ) (states : ℕ) → Command
+  Certify : (before after locations spec : List ℕ) (states : ℕ) → Command
   Audit : (before after locations spec certificate : List ℕ) → Command
   Demo : (layers : ℕ) → Command
 
@@ -59,6 +60,12 @@ row_of (Rir before after locations assertions states) = record {
   states = Some states;
   blame = None;
 }
+row_of (Certify before after locations spec states) = record {
+  name = codes "certify";
+  operands = before ∷ after ∷ locations ∷ spec ∷ [];
+  states = Some states;
+  blame = None;
+}
 row_of (Audit before after locations spec certificate) = record {
   name = codes "audit";
   operands = before ∷ after ∷ locations ∷ spec ∷ certificate ∷ [];
@@ -83,6 +90,7 @@ HasNumbers (Fmt spec) = Unit {0}
 HasNumbers (Fib tables other locations) = Unit {0}
 HasNumbers (Zone locations spec name states) = IsUpTo 4000000 states
 HasNumbers (Rir before after locations assertions states) = IsUpTo 4000000 states
+HasNumbers (Certify before after locations spec states) = IsUpTo 4000000 states
 HasNumbers (Audit before after locations spec certificate) = Unit {0}
 HasNumbers (Demo layers) = IsUpTo 200 layers
 

@@ -72,6 +72,21 @@ pub struct Rir {
     pub states: usize,
 }
 
+/// To write a certificate of the rows of a change that are met.
+#[derive(Debug, Drop)]
+pub struct Certify {
+    /// The name of the file with the snapshot before the change.
+    pub before: String,
+    /// The name of the file with the snapshot after the change.
+    pub after: String,
+    /// The name of the file with the locations.
+    pub locations: String,
+    /// The name of the file with the specification.
+    pub spec: String,
+    /// How many states a construction may have.
+    pub states: usize,
+}
+
 /// To audit a certificate of a change.
 #[derive(Debug, Drop)]
 pub struct Audit {
@@ -107,6 +122,8 @@ pub enum Command {
     Zone(Zone),
     /// `rir [--states N] BEFORE AFTER LOCATIONS ASSERTIONS`
     Rir(Rir),
+    /// `certify [--states N] BEFORE AFTER LOCATIONS SPEC`
+    Certify(Certify),
     /// `audit BEFORE AFTER LOCATIONS SPEC CERT`
     Audit(Audit),
     /// `demo N`

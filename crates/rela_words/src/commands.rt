@@ -4,7 +4,7 @@ ghost use Rattle.std.specs.Prelude.{◌≡◌, IfOk, IfErr, codes, string_bytes,
 ghost use Rattle.rela_words.specs.Commands.{command_of};
 ghost use Rattle.rela_words.specs.Parts.{FitJust, FitNothing, parts_of};
 
-use crate::command::{Audit, Check, Command, Demo, Fib, Fmt, MAX_LAYERS, Rir, Zone};
+use crate::command::{Audit, Certify, Check, Command, Demo, Fib, Fmt, MAX_LAYERS, Rir, Zone};
 use crate::errors::WordsError;
 use crate::number::number_of;
 use crate::parts::Parts;
@@ -119,6 +119,29 @@ pub(crate) fn read_rir(alloc: Global, parts: &Parts<'_>) -> Result<Command, Word
         after: String::from_str(alloc, after)?,
         locations: String::from_str(alloc, locations)?,
         assertions: String::from_str(alloc, assertions)?,
+        states,
+    }))
+}
+
+/// `certify`: four operands and a state limit.
+///
+/// # Errors
+///
+/// `Bad` where the parts aren't those of such a command.
+pub(crate) fn read_certify(alloc: Global, parts: &Parts<'_>) -> Result<Command, WordsError>
+    ensures fits { IfOk result (λ c. FitJust (codes "certify") (parts_of parts.now) (command_of c)) }
+    ensures bad { IfErr result (λ e. e ≡ WordsError.Bad
+        → FitNothing (codes "certify") (parts_of parts.now)) }
+{
+    let states = parts.states_without_flag().ok_or(WordsError::Bad)?;
+    let Some([before, after, locations, spec]) = parts.operands() else {
+        return Err(WordsError::Bad);
+    };
+    Ok(Command::Certify(Certify {
+        before: String::from_str(alloc, before)?,
+        after: String::from_str(alloc, after)?,
+        locations: String::from_str(alloc, locations)?,
+        spec: String::from_str(alloc, spec)?,
         states,
     }))
 }

@@ -5,7 +5,7 @@ ghost use Rattle.rela_words.specs.Words.{AskJust, AskNothing, HasNumbers};
 ghost use Rattle.rela_words.specs.Commands.{command_of};
 
 use crate::command::Command;
-use crate::commands::{read_audit, read_check, read_demo, read_fib, read_fmt, read_rir, read_zone};
+use crate::commands::{read_audit, read_certify, read_check, read_demo, read_fib, read_fmt, read_rir, read_zone};
 use crate::errors::WordsError;
 use crate::parts::parse;
 use std::alloc::Global;
@@ -32,6 +32,7 @@ pub fn read_words(alloc: Global, words: &[String]) -> Result<Command, WordsError
         "fib" => read_fib(alloc, &parts),
         "zone" => read_zone(alloc, &parts),
         "rir" => read_rir(alloc, &parts),
+        "certify" => read_certify(alloc, &parts),
         "audit" => read_audit(alloc, &parts),
         "demo" => read_demo(&parts),
         _ => Err(WordsError::Bad),

@@ -157,3 +157,24 @@ returns-in-audit-clause-numbers c =
     (ap (map string_bytes) c.in-Some.ensures.cases.0)
     (parts_of c.in_ok-parts.parts) c.in_ok-parts.ensures.parts (codes "audit") (sym c.as_str.ensures.value ∙ c.in-audit.is) c.read_audit.result
     c.read_audit.ensures.fits
+
+pub returns-in-certify-clause-asked : goal.returns-in-certify-clause-asked
+returns-in-certify-clause-asked c =
+    ok_asked (map string_bytes c.args.words.now) (string_bytes c.in-Some.name.now) (map string_bytes c.in-Some.rest.now)
+    (ap (map string_bytes) c.in-Some.ensures.cases.0)
+    (parts_of c.in_ok-parts.parts) c.in_ok-parts.ensures.parts (codes "certify") (sym c.as_str.ensures.value ∙ c.in-certify.is) c.read_certify.result
+    c.read_certify.ensures.fits
+
+pub returns-in-certify-clause-bad : goal.returns-in-certify-clause-bad
+returns-in-certify-clause-bad c =
+    err_asked (map string_bytes c.args.words.now) (string_bytes c.in-Some.name.now) (map string_bytes c.in-Some.rest.now)
+    (ap (map string_bytes) c.in-Some.ensures.cases.0)
+    (parts_of c.in_ok-parts.parts) c.in_ok-parts.ensures.parts (codes "certify") (sym c.as_str.ensures.value ∙ c.in-certify.is) c.read_certify.result
+    c.read_certify.ensures.bad
+
+pub returns-in-certify-clause-numbers : goal.returns-in-certify-clause-numbers
+returns-in-certify-clause-numbers c =
+    numbers_asked (map string_bytes c.args.words.now) (string_bytes c.in-Some.name.now) (map string_bytes c.in-Some.rest.now)
+    (ap (map string_bytes) c.in-Some.ensures.cases.0)
+    (parts_of c.in_ok-parts.parts) c.in_ok-parts.ensures.parts (codes "certify") (sym c.as_str.ensures.value ∙ c.in-certify.is) c.read_certify.result
+    c.read_certify.ensures.fits
