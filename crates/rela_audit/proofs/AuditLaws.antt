@@ -52,7 +52,7 @@ module _ (one_for_all : SameIsOne) (change other : Loaded) (same : SameLoaded ch
   checks_same : change.specified.checks ≡ other.specified.checks
   checks_same = ap (λ (s : Specified). s.checks) (one_for_all change.specified other.specified same.specified)
 
-  layout_same : (planned : List PlannedRow) → layout_of (subject_of change) planned ≡ layout_of (subject_of other) planned
+  pub layout_same : (planned : List PlannedRow) → layout_of (subject_of change) planned ≡ layout_of (subject_of other) planned
   layout_same planned =
       ap (λ (flows : List (List ℕ)). layout_by planned flows change.specified.checks (names_of change)) (names_by change.pairs other.pairs same.pairs)
       ∙ (ap (λ (checks : List Check). layout_by planned (map (λ (p : FlowPair). p.class.name) other.pairs) checks (names_of change)) checks_same

@@ -1,6 +1,8 @@
-//! The command `audit`: from a change and a certificate to what the audit of the certificate finds.
+//! The commands on certificates: `certify`, which writes one, and `audit`, which checks one again.
 #![tactic(auto)]
 
 mod auditing;
+mod certifying;
 
 pub use auditing::audit_files;
+pub use certifying::certify_files;

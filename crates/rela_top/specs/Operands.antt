@@ -1,7 +1,7 @@
 -- The files that a command reads.
 use Rattle.std.specs.Prelude.{◌≡◌, ◌∷◌, ℕ, All, List, [], Option}
 use Rattle.rela_io.specs.Held.{FilesByName, HoldsName}
-use Rattle.rela_words.specs.Words.{Command, Check, Fmt, Fib, Zone, Rir, Audit, Demo, Ask}
+use Rattle.rela_words.specs.Words.{Command, Check, Fmt, Fib, Zone, Rir, Certify, Audit, Demo, Ask}
 use Rattle.rela_inputs.specs.declared.refusal.Input.{Input}
 use Rattle.rela_inputs.specs.declared.refusal.Input.TheVariants.{Locations, Before, After, Spec, Tables, Other, Assertions, Certificate}
 
@@ -15,6 +15,8 @@ operands_of (Fib tables other locations) =
 operands_of (Zone locations spec name states) = (Locations, locations) ∷ (Spec, spec) ∷ []
 operands_of (Rir before after locations assertions states) =
     (Locations, locations) ∷ (Before, before) ∷ (After, after) ∷ (Assertions, assertions) ∷ []
+operands_of (Certify before after locations spec states) =
+    (Locations, locations) ∷ (Before, before) ∷ (After, after) ∷ (Spec, spec) ∷ []
 operands_of (Audit before after locations spec certificate) =
     (Locations, locations) ∷ (Before, before) ∷ (After, after) ∷ (Spec, spec)
     ∷ (Certificate, certificate) ∷ []

@@ -6,6 +6,7 @@ use Rattle.rela_inputs.specs.Answer.{Answer}
 use Rattle.rela_top.specs.Delivered.{Delivers}
 use Rattle.rela_assert.specs.AssertReports.{ReportsAssertions, SameAssertReports}
 use Rattle.rela_audit.specs.Audits.{Audits, SameAudits}
+use Rattle.rela_audit.specs.Certifies.{Certifies, SameCertificates}
 use Rattle.rela_check.specs.Blames.{ReportsAs, SameAs}
 use Rattle.rela_change_report.specs.Reports.{SameReports}
 use Rattle.rela_demonstrate.specs.Demos.{Demos}
@@ -15,7 +16,7 @@ use Rattle.rela_inputs.specs.Given.{Equals}
 use Rattle.rela_top.specs.Operands.{given_to}
 use Rattle.rela_inputs.specs.Reading.{is_too_long, max_file_bytes}
 use Rattle.rela_inputs.specs.Refusal.{refusal_line}
-use Rattle.rela_words.specs.Words.{Command, Check, Fmt, Fib, Zone, Rir, Audit, Demo, Ask, AskNothing}
+use Rattle.rela_words.specs.Words.{Command, Check, Fmt, Fib, Zone, Rir, Certify, Audit, Demo, Ask, AskNothing}
 use Rattle.rela_zone.specs.Zones.{SameZones, Zones}
 use Rattle.rela_inputs.specs.declared.refusal.Refusal.{Refusal}
 
@@ -28,6 +29,8 @@ Outcome holds (Fib tables other locations) = Draws holds tables other locations
 Outcome holds (Zone locations spec name states) = Zones holds locations spec name states
 Outcome holds (Rir before after locations assertions states) =
     ReportsAssertions holds before after locations assertions states
+Outcome holds (Certify before after locations spec states) =
+    Certifies holds before after locations spec states
 Outcome holds (Audit before after locations spec certificate) =
     Audits holds before after locations spec certificate
 Outcome holds (Demo layers) = Demos layers
@@ -39,6 +42,7 @@ SameAnswer (Fmt spec) = Equals
 SameAnswer (Fib tables other locations) = SameDrawings
 SameAnswer (Zone locations spec name states) = SameZones
 SameAnswer (Rir before after locations assertions states) = SameAssertReports
+SameAnswer (Certify before after locations spec states) = SameCertificates states
 SameAnswer (Audit before after locations spec certificate) = SameAudits
 SameAnswer (Demo layers) = SameReports
 

@@ -12,7 +12,7 @@ ghost use Rattle.rela_words.specs.Commands.{command_of};
 
 use crate::delivering::deliver;
 use rela_assert::report_assertions;
-use rela_audit::audit_files;
+use rela_audit::{audit_files, certify_files};
 use rela_check::report_asked;
 use rela_demonstrate::demonstrate;
 use rela_draw::draw;
@@ -167,6 +167,15 @@ fn carry_out<F: Files>(alloc: Global, files: &mut F, command: &Command) -> Resul
             rir.locations.as_str(),
             rir.assertions.as_str(),
             rir.states,
+        ),
+        Command::Certify(certify) => certify_files(
+            alloc,
+            files,
+            certify.before.as_str(),
+            certify.after.as_str(),
+            certify.locations.as_str(),
+            certify.spec.as_str(),
+            certify.states,
         ),
         Command::Audit(audit) => audit_files(
             alloc,

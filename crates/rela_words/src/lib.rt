@@ -9,7 +9,8 @@ mod parts;
 mod reading;
 
 pub use command::{
-    Audit, Certify, Check, Command, DEFAULT_STATES, Demo, Fib, Fmt, MAX_LAYERS, MAX_STATES, Rir, Zone,
+    Audit, Certify, Check, Command, DEFAULT_STATES, Demo, Fib, Fmt, MAX_LAYERS, MAX_STATES, Rir,
+    Zone,
 };
 pub use errors::WordsError;
 pub use reading::read_words;

@@ -5,7 +5,9 @@ ghost use Rattle.rela_words.specs.Words.{AskJust, AskNothing, HasNumbers};
 ghost use Rattle.rela_words.specs.Commands.{command_of};
 
 use crate::command::Command;
-use crate::commands::{read_audit, read_certify, read_check, read_demo, read_fib, read_fmt, read_rir, read_zone};
+use crate::commands::{
+    read_audit, read_certify, read_check, read_demo, read_fib, read_fmt, read_rir, read_zone,
+};
 use crate::errors::WordsError;
 use crate::parts::parse;
 use std::alloc::Global;

@@ -2,7 +2,7 @@ use Rattle.std.proofs.Common.{◌≡◌, ℕ, List, [], ◌∷◌, ap, sym, subs
 use Rattle.std.specs.List.{All}
 use Rattle.rela_io.specs.Held.{HoldsName}
 use Rattle.rela_words.specs.Commands.{command_of}
-use Rattle.rela_words.specs.Words.{Command, Fmt, Fib, Rir, Audit, Zone, HasNumbers}
+use Rattle.rela_words.specs.Words.{Command, Fmt, Fib, Rir, Certify, Audit, Zone, HasNumbers}
 use Rattle.rela_inputs.specs.Answer.{answer_by}
 use Rattle.rela_change_report.specs.Reports.{SameReports}
 use Rattle.rela_demonstrate.specs.Demos.{Demos}
@@ -24,6 +24,10 @@ same_zone l locations s spec m name n el es em = cc
 same_rir : (b before a after l locations s assertions : List ℕ) (n : ℕ) → b ≡ before → a ≡ after → l ≡ locations → s ≡ assertions
     → Rir b a l s n ≡ Rir before after locations assertions n
 same_rir b before a after l locations s assertions n eb ea el es = cc
+
+same_certify : (b before a after l locations s spec : List ℕ) (n : ℕ) → b ≡ before → a ≡ after → l ≡ locations → s ≡ spec
+    → Certify b a l s n ≡ Certify before after locations spec n
+same_certify b before a after l locations s spec n eb ea el es = cc
 
 same_audit : (b before a after l locations s spec t certificate : List ℕ) → b ≡ before → a ≡ after → l ≡ locations → s ≡ spec → t ≡ certificate
     → Audit b a l s t ≡ Audit before after locations spec certificate
@@ -203,4 +207,38 @@ returns-in-Audit-clause-ends g c =
 pub returns-in-Audit-clause-opens_nothing : goal.returns-in-Audit-clause-opens_nothing
 returns-in-Audit-clause-opens_nothing g c = λ none.
     let never = subst (λ (x : Command). operands_of x ≡ []) (ap command_of c.in-Audit.is) none in
+    absurd (cc)
+
+pub certify_files-requires : goal.certify_files-requires
+certify_files-requires g c =
+    let numbers = subst HasNumbers (ap command_of c.in-Certify.is) c.requires in
+    record { some = numbers.0; few = numbers.1 }
+
+pub returns-in-Certify-clause-given : goal.returns-in-Certify-clause-given
+returns-in-Certify-clause-given g c =
+    subst (λ (x : Command). IsGiven (is_some (g.F.Files.holds c.args.files.now)) (g.F.Files.steady c.args.files.now) (SameAnswer x)
+    (Outcome (g.F.Files.holds c.args.files.now) x) (seen answer_by c.certify_files.result))
+    (same_certify _ _ _ _ _ _ _ _ c.in-Certify.certify.states c.as_str-in-Certify.ensures.value c.as_str-in-Certify-2.ensures.value c.as_str-in-Certify-3.ensures.value
+    c.as_str-in-Certify-4.ensures.value ∙ sym (ap command_of c.in-Certify.is)) c.certify_files.ensures.given
+
+pub returns-in-Certify-clause-steady_is_no_fault : goal.returns-in-Certify-clause-steady_is_no_fault
+returns-in-Certify-clause-steady_is_no_fault g c = λ steady all.
+    let certify = c.in-Certify.certify in
+    let held : All (λ (operand : Input × List ℕ). HoldsName (g.F.Files.holds c.args.files.now) operand.1)
+    ((Locations, string_bytes certify.locations) ∷ (Before, string_bytes certify.before) ∷ (After, string_bytes certify.after) ∷ (Spec, string_bytes certify.spec) ∷ []) =
+    subst (λ (x : Command). HoldsFiles (g.F.Files.holds c.args.files.now) x) (ap command_of c.in-Certify.is) all in
+    c.certify_files.ensures.steady_is_no_fault steady
+    (subst (HoldsName (g.F.Files.holds c.args.files.now)) (sym c.as_str-in-Certify.ensures.value) (held 1 (Spec, []) (omega arith)))
+    (subst (HoldsName (g.F.Files.holds c.args.files.now)) (sym c.as_str-in-Certify-2.ensures.value) (held 2 (Spec, []) (omega arith)))
+    (subst (HoldsName (g.F.Files.holds c.args.files.now)) (sym c.as_str-in-Certify-3.ensures.value) (held 0 (Spec, []) (omega arith)))
+    (subst (HoldsName (g.F.Files.holds c.args.files.now)) (sym c.as_str-in-Certify-4.ensures.value) (held 3 (Spec, []) (omega arith)))
+
+pub returns-in-Certify-clause-ends : goal.returns-in-Certify-clause-ends
+returns-in-Certify-clause-ends g c =
+    subst (λ (x : Command). Ends (g.F.Files.faults c.args.files.now) (g.F.Files.faults c.certify_files.new.files) (given_to x (g.F.Files.given c.certify_files.new.files)) c.certify_files.result)
+    (sym (ap command_of c.in-Certify.is)) c.certify_files.ensures.ends
+
+pub returns-in-Certify-clause-opens_nothing : goal.returns-in-Certify-clause-opens_nothing
+returns-in-Certify-clause-opens_nothing g c = λ none.
+    let never = subst (λ (x : Command). operands_of x ≡ []) (ap command_of c.in-Certify.is) none in
     absurd (cc)
