@@ -85,7 +85,8 @@ def shows_what_runs_gave(name):
     holds(f"{name} shows what is written by hand", all(is_shown(text_of(f"{folder}/{it}"), page) for it in files))
     for report, status, *words in runs:
         text = kept[" ".join(words)]
-        wanted = "4" if text.startswith("refused ") else "1" if " violated\n" in text or " fails\n" in text else "0"
+        failed = " violated\n" in text or " fails\n" in text or text.startswith("rejected at ")
+        wanted = "4" if text.startswith("refused ") else "1" if failed else "0"
         holds(f"the status of {name}/{report} fits it", status == wanted)
 
 
