@@ -129,7 +129,8 @@ pub(crate) fn read_rir(alloc: Global, parts: &Parts<'_>) -> Result<Command, Word
 ///
 /// `Bad` where the parts aren't those of such a command.
 pub(crate) fn read_certify(alloc: Global, parts: &Parts<'_>) -> Result<Command, WordsError>
-    ensures fits { IfOk result (λ c. FitJust (codes "certify") (parts_of parts.now) (command_of c)) }
+    ensures fits { IfOk result (λ c. FitJust (codes "certify") (parts_of parts.now)
+        (command_of c)) }
     ensures bad { IfErr result (λ e. e ≡ WordsError.Bad
         → FitNothing (codes "certify") (parts_of parts.now)) }
 {
