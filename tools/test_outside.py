@@ -15,13 +15,15 @@ sys.dont_write_bytecode = True
 from outside import inputs, outputs
 from outside.faulty import WEB, refusals, snapshot
 from outside.outputs import BAD_WORDS
-from outside.program import FAILS, HOLDS, ZONE, Program, check, demo, get, limit, refused, rir, zone
+from outside.program import (CERTIFICATE, FAILS, HOLDS, SNAPSHOT, ZONE, Program, audit, certify, check, demo, fib, get, limit, refused,
+                             rir, zone)
 
 # How many flows a long snapshot has, and checks a long specification.
 FLOWS = 10_000
 # The commands with several inputs that may be refused, each with these in the order in which they are read.
 ORDERS = {check: ("locations", "before", "after", "spec"), rir: ("locations", "before", "after", "assertions"),
-          zone: ("locations", "spec")}
+          zone: ("locations", "spec"), certify: ("locations", "before", "after", "spec"),
+          audit: ("locations", "before", "after", "spec", "certificate"), fib: ("locations", "tables", "other")}
 # The most bytes of a word that Linux passes to a program.
 LONGEST = 131_071
 DIFFERS = "21 FlowDiffers web dst 10.1.0.0/24 src 0.0.0.0/0 class default dst 10.2.0.0/24 src 0.0.0.0/0 class default"
@@ -36,7 +38,12 @@ BAD = [["Check"], ["--help"], ["-h"], ["--version"], [""], ["-"], ["--"], ["--",
        check("--states=1", "--states=1"), check("--states=1", "--states", "1"), [*check("--states", "1"), "--states=2"],
        *(["demo", it] for it in (*NOT_LIMITS, "201", "1000")), ["demo"], ["demo", "1", "1"], ["demo", "--states=1", "1"], ["Demo", "1"],
        *(check("--states", it) for it in NOT_LIMITS), *(check(f"--states={it}") for it in NOT_LIMITS),
-       ["x" * LONGEST], check(f"--states={'9' * 100_000}"), ["check", *["x" * 100_000] * 10], ["check", *["x"] * 100_000]]
+       ["certify"], certify()[:-1], [*certify(), "certificate"], certify("--states=0"), certify("--blame"), ["Certify", *certify()[1:]],
+       ["audit"], audit()[:-1], [*audit(), "certificate"], audit("--states=1"), audit("--blame"), ["fib"], fib()[:-1], [*fib(), "other"],
+       fib("--states=1"), fib("-x"), ["x" * LONGEST], check(f"--states={'9' * 100_000}"), ["check", *["x" * 100_000] * 10],
+       ["check", *["x"] * 100_000]]
+# A certificate that lists no row.
+EMPTY = b"rela certificate 1\nend\n"
 NO_TEXTS = b"\xff", b"\xc3", b"\xc0\xaf", b"\xed\xa0\x80", b"\xf4\x90\x80\x80"
 # Names of files, and the words before the operands with which they are names.
 NAMES = {"-": [], " ": [], "\u00e9\n": [], "x" * 255: [], "-x": ["--"], "--": ["--"], "--states=1": ["--"], "--states": ["--"]}
@@ -64,6 +71,13 @@ def statuses(it):
     it.ends("a zone", it.run(*zone()), (0, ZONE))
     it.ends("a zone under 2 states", it.run(*zone("--states", "2")), (3, b"undecided\n"))
     it.ends("a zone under 1000 states", it.run(*zone("--states=1000")), (0, ZONE))
+    it.ends("a certificate", it.run(*certify()), (0, CERTIFICATE))
+    it.ends("a certificate of a change that is not met", it.run(*certify(after="after")), (0, EMPTY))
+    it.ends("a certificate under 1000 states", it.run(*certify("--states=1000")), (0, CERTIFICATE))
+    it.ends("a certificate under 1 state", it.run(*certify("--states", "1")), (0, EMPTY))
+    it.ends("an audit", it.run(*audit()), (0, b"accepted 1\n"))
+    it.ends("an audit of a change", it.run(*audit(after="after")), (1, b"rejected at 3\n"))
+    it.ends("a snapshot", it.run(*fib()), (0, SNAPSHOT))
     for layers in (1, 2, 3, 20, 200):
         it.ends(f"{layers} layers", it.run("demo", str(layers)), (1, demo(layers)))
     it.ends("a faulty input", it.run(*check(spec="before")), refused("spec", "32 Syntax at 0"))
@@ -99,6 +113,34 @@ def refusing(it):
     it.ends("a missing specification before no check", it.run(*zone(spec="none", name="none")), (5, b""))
 
 
+def certificates(it):
+    """Texts that are no certificate of the example, each rejected at its first faulty line, or where a line is missing."""
+    it.put(EMPTY, "empty")
+    it.ends("a certificate of no row", it.run(*audit(certificate="empty")), (0, b"accepted 0\n"))
+    head, row, images, *words, end = lines = CERTIFICATE.splitlines(keepends=True)
+    last = len(lines)
+    for what, text, line in (
+            ("an empty text", b"", 1), ("another version", CERTIFICATE.replace(b"1", b"2", 1), 1),
+            ("no last line", b"".join(lines[:-1]), last), ("no last line feed", CERTIFICATE[:-1], last),
+            ("a line behind the last", CERTIFICATE + end, last + 1), ("a byte behind the last", CERTIFICATE + b"x", last + 1),
+            ("a row twice", b"".join([head, *lines[1:-1] * 2, end]), last), ("an unknown flow", CERTIFICATE.replace(b"web", b"dns"), 2),
+            ("an unknown check", CERTIFICATE.replace(b"keep", b"lose"), 2), ("no row", b"".join([head, images, *words, end]), 2),
+            ("a complement too many", b"".join([head, row, b"complement\n", images, *words, end]), 3),
+            ("no images", b"".join([head, row, end]), 3), ("images twice", b"".join([*lines[:-1], images, end]), last),
+            ("a word that isn't there yet", b"".join([head, row, images, b"1 0\n", end]), 4),
+            ("a symbol that there isn't", b"".join([head, row, images, b"0 8\n", end]), 4),
+            ("a number with a zero before it", b"".join([head, row, images, b"0 00\n", end]), 4),
+            ("two blanks", b"".join([head, row, images, b"0  0\n", end]), 4),
+            ("a number of a thousand digits", b"".join([head, row, images, b"0 " + b"1" * 1000 + b"\n", end]), 4),
+            ("a carriage return", CERTIFICATE.replace(b"\n", b"\r\n"), 1),
+            ("words that aren't closed", b"".join([head, row, images, end]), 3)):
+        it.put(text)
+        it.ends(f"a certificate with {what}", it.run(*audit(certificate="input")), (1, b"rejected at %d\n" % line))
+    it.put(b"".join([head, row, images]) + b"0 0\n" * 8_388_000)
+    found = it.run(*audit(certificate="input"))
+    it.ends("a certificate of many words", found, (1, b"rejected at 8388004\n"))
+
+
 def command_lines(it):
     for some in BAD:
         it.ends(f"the words {str(some)[:100]}", it.run(*some), (2, BAD_WORDS))
@@ -118,6 +160,10 @@ def command_lines(it):
     it.put(b"check -x : { .* : preserve };")
     found = it.run(*zone("--", spec="input", name="-x"))
     it.ends("a check with a dash before its name", found, (0, b"states 1\nstate 0 accept\n  else to 0\n"))
+    for some in ([*certify(), "--"], certify("--states=4000000", "--")):
+        it.ends(f"the words {some}", it.run(*some), (0, CERTIFICATE))
+    for words, wanted in ((audit, b"accepted 1\n"), (fib, SNAPSHOT)):
+        it.ends(f"-- before the operands of {words.__name__}", it.run(*words("--")), (0, wanted))
     for some in ([*zone(), "--"], zone("--states=4000000", "--"), ["zone", "locations", "--states", "1000", *zone()[2:]]):
         it.ends(f"the words {some}", it.run(*some), (0, ZONE))
     it.ends("a number of layers behind --", it.run("demo", "--", "3"), (1, demo(3)))
@@ -157,7 +203,7 @@ def main(words):
         return 2
     with tempfile.TemporaryDirectory(prefix="test-outside-") as room:
         it = Program(words[0], room)
-        for test in (statuses, refusing, inputs.cannot_be_read, inputs.other_kinds, inputs.same_file, inputs.sizes,
+        for test in (statuses, refusing, certificates, inputs.cannot_be_read, inputs.other_kinds, inputs.same_file, inputs.sizes,
                      inputs.changes, command_lines, outputs.takes_nothing, outputs.starts_otherwise):
             test(it)
         for run in long_runs(it):

@@ -7,6 +7,9 @@ IDS = ('{"name":"web","dst":"10.1.0.0/24","nodes":[{"id":"a","at":"leaf1:up"},{"
        '"edges":[["a","b"]],"starts":["a"],"delivered":["b"]}')
 MANY_INTERFACES = ",".join(f'"i{it}"' for it in range(100_001))
 MANY_NODES = ",".join(['"leaf1:up"'] * 10_000)
+TABLES = ('{"version":1,"starts":["leaf1:up"],"tables":[{"device":"leaf1","routes":[{"prefix":"10.1.0.0/16"}]},'
+          '{"device":"leaf2","routes":[{"prefix":"10.2.0.0/16","hops":["leaf2:host"]}]}]}')
+MANY_ROUTES = "".join(f'{{"prefix":"10.{it // 256}.{it % 256}.0/24"}},' for it in range(10_000))
 # A set of 32,767 parts.
 MANY_PARTS = "pre"
 for _ in range(14):
@@ -43,6 +46,21 @@ OF_FLOWS = (
 OF_IDS = (
     ('"a","at"', '"a","in"', "12 WrongShape rule 49 row 1"),
     ('["a","b"]', '["a","c"]', "22 UnknownNode row 1"),
+)
+# Here in the second table of two.
+OF_TABLES = (
+    ("]}]}]}", "", "11 NotJson"),
+    ('"version":1', '"version":"1"', "12 WrongShape rule 62 row 0"),
+    ('"version":1', '"version":2', "13 BadVersion"),
+    ('"starts":["leaf1:up"]', '"starts":["leaf1:up",7]', "12 WrongShape rule 64 row 1"),
+    ('"starts":["leaf1:up"]', '"starts":["leaf9:up"]', "17 UnknownLocation row 0"),
+    ('"device":"leaf2"', '"device":"leaf1"', "16 RepeatedEntry row 1"),
+    ('"device":"leaf2"', '"device":"leaf9"', "17 UnknownLocation row 1"),
+    ('"hops":["leaf2:host"]', '"hops":[7]', "12 WrongShape rule 72 row 1"),
+    ('"hops":["leaf2:host"]', '"hops":["leaf9:host"]', "17 UnknownLocation row 1"),
+    ('"10.2.0.0/16"', '"10.2.0.0/33"', "19 BadPrefix row 1"),
+    ('"10.2.0.0/16"', '"::/0"', "19 BadPrefix row 1"),
+    ('{"prefix":"10.2.0.0/16"', MANY_ROUTES + '{"prefix":"10.2.0.0/16"', "20 TooMany row 1"),
 )
 # The mark ~ isn't in the text, and stands where the fault is.
 OF_SPECIFICATIONS = (
@@ -87,6 +105,9 @@ def refusals(locations):
             yield operand, snapshot(WEB.replace(piece, other, 1)), said
         for piece, other, said in OF_IDS:
             yield operand, snapshot(IDS.replace(piece, other, 1), 2), said
+    for operand in ("tables", "other"):
+        for piece, other, said in OF_TABLES:
+            yield operand, TABLES.replace(piece, other, 1), said
     for text, said in OF_SPECIFICATIONS:
         yield "spec", text.replace("~", ""), f"{said} at {text.index('~')}"
     for text, said in OF_ASSERTIONS:

@@ -2,7 +2,7 @@
 import os
 import stat
 
-from outside.program import ASSERTION, COMPLEMENT, FAILS, FILES, ZONE, check, refused, rir, zone
+from outside.program import ASSERTION, CERTIFICATE, COMPLEMENT, FAILS, FILES, ZONE, audit, check, fib, refused, rir, zone
 
 JSON = "before", "after", "locations"
 MOST_BYTES = 33_554_432
@@ -36,6 +36,9 @@ def cannot_be_read(it):
         for operand in ("locations", "spec"):
             it.ends(f"{what} as {operand} of a zone", it.run(*zone(**{operand: name})), (5, b""))
         it.ends(f"{what} as assertions", it.run(*rir(assertions=name)), (5, b""))
+        it.ends(f"{what} as a certificate", it.run(*audit(certificate=name)), (5, b""))
+        for operand in ("tables", "other"):
+            it.ends(f"{what} as {operand}", it.run(*fib(**{operand: name})), (5, b""))
         it.ends(f"{what} as the text", it.run("fmt", name), (5, b""))
 
 
@@ -70,6 +73,10 @@ def other_kinds(it):
     fed = {fifo: [it.texts[operand]] for operand, fifo in fifos.items() if operand != "spec"} | {"fifo-assertions": [ASSERTION]}
     found = it.run_fed(rir(**{fifo[5:]: fifo for fifo in fed}), fed)
     it.ends("a FIFO for each operand, under rir", found, (1, FAILS))
+    os.mkfifo(f"{it.room}/fifo-certificate")
+    fed = {fifo: [it.texts[operand]] for operand, fifo in fifos.items()} | {"fifo-certificate": [CERTIFICATE]}
+    words = audit(**{"after": "fifo-after", **{fifo[5:]: fifo for fifo in fed}})
+    it.ends("a FIFO for each operand, under audit", it.run_fed(words, fed), (1, b"rejected at 3\n"))
     fed = {"fifo-locations": [it.texts["locations"]], "fifo-spec": [COMPLEMENT]}
     it.ends("a FIFO for each file of a zone", it.run_fed(zone(locations="fifo-locations", spec="fifo-spec"), fed), (0, ZONE))
     for operand in JSON:
@@ -78,6 +85,11 @@ def other_kinds(it):
     it.ends("/dev/null as the text", it.run("fmt", "/dev/null"), (0, b"level interface;\n"))
     it.ends("/dev/null as assertions", it.run(*rir(assertions="/dev/null")), (0, b"total 0 holds 0 fails 0 undecided 0\n"))
     it.ends("/dev/zero as assertions", it.run(*rir(assertions="/dev/zero")), refused("assertions", "2 TooLong"))
+    it.ends("/dev/null as a certificate", it.run(*audit(certificate="/dev/null")), (1, b"rejected at 1\n"))
+    it.ends("/dev/zero as a certificate", it.run(*audit(certificate="/dev/zero")), refused("certificate", "2 TooLong"))
+    for operand in ("tables", "other"):
+        it.ends(f"/dev/null as {operand}", it.run(*fib(**{operand: "/dev/null"})), refused(operand, "11 NotJson"))
+        it.ends(f"/dev/zero as {operand}", it.run(*fib(**{operand: "/dev/zero"})), refused(operand, "2 TooLong"))
 
 
 def same_file(it):

@@ -4,7 +4,7 @@ import resource
 import socket
 import time
 
-from outside.program import FAILS, ZONE, check, demo, get, limit, refused, rir, zone
+from outside.program import CERTIFICATE, FAILS, SNAPSHOT, ZONE, audit, certify, check, demo, fib, get, limit, refused, rir, zone
 
 BAD_WORDS = b"rela: bad command line\n"
 
@@ -16,6 +16,8 @@ def answers(it):
             "no words": ([], 2, BAD_WORDS), "a text": (["fmt", "spec"], 0, b"level interface;\n" + it.texts["spec"]),
             "a report on assertions": (rir(), 1, FAILS), "a zone": (zone(), 0, ZONE),
             "an undecided zone": (zone("--states=2"), 3, b"undecided\n"),
+            "a certificate": (certify(), 0, CERTIFICATE), "an audit": (audit(), 0, b"accepted 1\n"),
+            "an audit of a change": (audit(after="after"), 1, b"rejected at 3\n"), "a snapshot": (fib(), 0, SNAPSHOT),
             "the report on a made input": (["demo", "3"], 1, demo(3))}
 
 

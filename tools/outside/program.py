@@ -29,6 +29,27 @@ state 1 accept
 state 2
   else to 1
 """
+# Tables by which one half of the addresses goes from leaf1 over spine1 to leaf2 and the other is dropped, others that drop all, and
+# the snapshot of the first beside these.
+TABLES = b"""{"version":1,"starts":["leaf1:up"],"tables":[
+{"device":"leaf1","routes":[{"prefix":"0.0.0.0/1","hops":["spine1:down"]}]},
+{"device":"spine1","routes":[{"prefix":"0.0.0.0/0","hops":["leaf2:up"]}]},{"device":"leaf2","routes":[{"prefix":"0.0.0.0/0"}]}]}
+"""
+OTHER = b"""{"version":1,"starts":["leaf1:up"],"tables":[{"device":"leaf1","routes":[{"prefix":"0.0.0.0/0","hops":[]}]}]}"""
+# The certificate of the example's check, where nothing is changed.
+CERTIFICATE = b"""rela certificate 1
+row web keep-the-path
+images
+0 0
+0 1
+2 4
+3 3
+4 2
+end
+"""
+NODES = b'"nodes":["leaf1:up","leaf2:up","spine1:down"],"starts":[0]'
+SNAPSHOT = (b'{"flows":[{"delivered":[1],"dropped":[],"dst":"0.0.0.0/1","edges":[[0,2],[2,1]],"name":"0.0.0.0/1",%b},'
+            b'{"delivered":[1],"dropped":[0],"dst":"128.0.0.0/1","edges":[[2,1]],"name":"128.0.0.0/1",%b}],"version":1}\n') % (NODES, NODES)
 SECONDS = 120
 
 
@@ -53,6 +74,21 @@ def check(*options, **others):
 def rir(*options, **others):
     """Returns the words that report on the assertion, where some operands may have other files."""
     return ["rir", *options, *(others.get(it, it) for it in ("before", "after", "locations", "assertions"))]
+
+
+def certify(*options, **others):
+    """Returns the words that certify the example where nothing is changed; some operands may have other files."""
+    return ["certify", *options, *({"after": "before", **others}.get(it, it) for it in FILES)]
+
+
+def audit(*options, **others):
+    """Returns the words that audit the certificate of the example where nothing is changed; some operands may have other files."""
+    return ["audit", *options, *({"after": "before", **others}.get(it, it) for it in (*FILES, "certificate"))]
+
+
+def fib(*options, **others):
+    """Returns the words that draw the snapshot of the tables, where some operands may have other files."""
+    return ["fib", *options, *(others.get(it, it) for it in ("tables", "other", "locations"))]
 
 
 def zone(*options, **others):
@@ -90,7 +126,7 @@ class Program:
     def __init__(self, path, room):
         self.path, self.room, self.results = os.path.abspath(path), os.path.realpath(room), []
         self.texts = {name: get(f"{EXAMPLE}/{file}") for name, file in FILES.items()}
-        self.texts |= {"assertions": ASSERTION, "complement": COMPLEMENT}
+        self.texts |= {"assertions": ASSERTION, "complement": COMPLEMENT, "certificate": CERTIFICATE, "tables": TABLES, "other": OTHER}
         for name, text in self.texts.items():
             self.put(text, name)
         # The reports on the example: of the change, and of no change; and of the change with the branch that is to blame.
