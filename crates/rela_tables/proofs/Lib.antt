@@ -2,3 +2,4 @@ pub mod Loops
 pub mod WalkLaws
 pub mod PrefixLaws
 pub mod Kept
+pub mod PlainLaws

@@ -8,3 +8,4 @@ pub mod Entries
 pub mod Starts
 pub mod TableParts
 pub mod Load
+pub mod Plain

@@ -1,6 +1,9 @@
 //! The forwarding tables of a network's devices, read from a JSON file.
 #![tactic(auto)]
 
+mod plain;
+mod plain_route;
+mod plain_table;
 mod route;
 mod starts;
 mod symbols;

@@ -122,7 +122,7 @@ fn prefix_text(value: &Value, row: u32) -> Result<&[u8], LoadError>
 }
 
 /// The IPv4 prefix that a text writes, or `BadPrefix` where it writes none.
-fn ipv4_prefix(text: &[u8], row: u32) -> Result<Ipv4Prefix, LoadError>
+pub(crate) fn ipv4_prefix(text: &[u8], row: u32) -> Result<Ipv4Prefix, LoadError>
     ensures { IsAnswer (spec.IsPrefix row text.now) result }
 {
     let Some(prefix) = Prefix::parse(text) else {

@@ -9,6 +9,7 @@ ghost use Rattle.rela_tables.specs.Entries as spec;
 use rela_json::LoadError;
 use rela_locations::Locations;
 use rela_names::{Level, Symbol};
+use rela_tokens::Unread;
 
 /// The symbol of the interface of this name. Time: expected constant.
 ///
@@ -32,6 +33,22 @@ fn find_interface(locations: &Locations, name: &[u8]) -> Option<Symbol>
     ensures within { IfSome result (λ s. s < length (alphabet_of levels.Interface locations.now)) }
 {
     locations.interface(name)
+}
+
+/// The same, and `Unread` where no interface has the name.
+pub(crate) fn interface_named(
+    locations: &Locations,
+    name: &[u8],
+    row: u32,
+) -> Result<Symbol, Unread>
+    ensures symbol { IfOk result (λ s. spec.symbol_of levels.Interface locations.now row name.now
+        ≡ Ok s) }
+    ensures located { IfOk result (λ s. s < length (alphabet_of levels.Interface locations.now)) }
+{
+    match interface(locations, name, row) {
+        Ok(symbol) => Ok(symbol),
+        Err(_) => Err(Unread),
+    }
 }
 
 /// The symbol of the device of this name. Time: a binary search among the devices.

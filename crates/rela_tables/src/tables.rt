@@ -8,6 +8,7 @@ ghost use Rattle.rela_tables.specs.Load as spec;
 ghost use Rattle.rela_tables.specs.Located.{AreInterfaces, IsForwardingIn};
 ghost use Rattle.rela_tables.specs.TableParts as parts;
 
+use crate::plain::read_plain;
 use crate::starts::read_starts;
 use crate::table::{Table, read_tables};
 use rela_json::{LoadError, Value, entries, part, read, whole_number};
@@ -20,9 +21,9 @@ use std::marker::Model;
 #[derive(Drop)]
 pub struct Tables {
     /// The symbols of the interfaces at which traffic starts, in the order of the file.
-    starts: List<Symbol>,
+    pub(crate) starts: List<Symbol>,
     /// The tables, each of a device of its own, in the order of the file.
-    tables: List<Table>,
+    pub(crate) tables: List<Table>,
 }
 
 impl Model for Tables {
@@ -73,6 +74,9 @@ impl Tables {
             IsAnswer (spec.LoadTables locations.now bytes.now) (Err e)) }
         ensures located { IfOk result (IsForwardingIn locations.now) }
     {
+        if let Ok(tables) = read_plain(alloc, locations, bytes) {
+            return Ok(tables);
+        }
         let root = read(alloc, bytes)?;
         let tables = read_file(alloc, locations, &root)?;
         Ok(tables)
