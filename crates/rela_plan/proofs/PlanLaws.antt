@@ -1,8 +1,8 @@
 -- The places of planned rows are those of flows and checks that there are.
-use Rattle.std.proofs.Common.{ℕ, ◌+◌, ◌<◌, ◌≤◌, List, [], ◌∷◌, length, map, Result, Ok, Err, IfOk, sym, subst, arith}
+use Rattle.std.proofs.Common.{◌≡◌, ℕ, ◌+◌, ◌<◌, ◌≤◌, List, [], ◌∷◌, ◌++◌, length, map, Result, Ok, Err, IfOk, sym, subst, arith}
 use Rattle.std.specs.List.{All, AllZip}
 use Rattle.std.proofs.lemmas.List.{length-map}
-use Rattle.std.proofs.lemmas.List.Elements.{All-nil, All-cons, All-map, All-append}
+use Rattle.std.proofs.lemmas.List.Elements.{All-nil, All-cons, All-map, All-append, All-push}
 use Rattle.rela_flows.specs.Plan.{ArePlaces, SelectedAt, rows_of_flow, rows_from, Plan}
 use Rattle.rela_flows.specs.declared.planning.PlannedRow.{PlannedRow}
 use Rattle.rela_flows.specs.declared.planning.PlannedRow.TheVariants.{Checked, Unselected}
@@ -47,3 +47,7 @@ within_counts class when flows checks rows plan =
 pub if_ok : {A E : Type 0} (P Q : A → Type 0) (r : Result A E) → ((a : A) → P a → Q a) → IfOk r P → IfOk r Q
 if_ok P Q (Ok a) leads holds = leads a holds
 if_ok P Q (Err e) leads holds = tt
+
+-- what each element of a list has, each of a longer one has, if the new one has it
+pub All-more : {X : Type 0} (P : X → Type 0) (xs ys : List X) (x : X) → ys ≡ xs ++ x ∷ [] → All P xs → P x → All P ys
+All-more P xs ys x e each one = rw e (All-push P xs x each one)

@@ -9,10 +9,9 @@ use Rattle.std.proofs.lemmas.Option.{slice_get_read}
 use Rattle.rela_engine.specs.declared.compiled.Compiled.{Compiled}
 use Rattle.rela_flows.specs.declared.planning.PlannedRow.{PlannedRow}
 use Rattle.rela_flows.specs.declared.planning.PlannedRow.TheVariants as planned
-use Rattle.rela_graph.proofs.Outlines.{outlines_decide}
 use Rattle.rela_engine.specs.RowOf.{RowOf}
 use Rattle.rela_engine.specs.Scenes.{SamePathSets, paths_of}
-use Rattle.rela_graph.specs.Outline.{Outline, outline_of, same_outline}
+use Rattle.rela_graph.specs.Outline.{Outline, outline_of}
 use Rattle.rela_graph.specs.Paths.{Paths, Arrives, Undelivered, locations}
 use Rattle.rela_graph.specs.Topology.{Topology}
 use Rattle.rela_names.specs.declared.level.Level.{Level}
@@ -21,16 +20,10 @@ use Rattle.rela_report.specs.declared.rows.Row.{Row}
 use Rattle.rela_snapshot.specs.declared.pairing.FlowPair.{FlowPair}
 use Rattle.rela_rows.proofs.RowLaws.{under_row}
 use Rattle.rela_translate.specs.Checked.{Checked as Check}
-use Rattle.rela_rows.specs.Sharing.{look_of, same_look, HasLook, AreNumbered, LooksAs, AreAlike, IsVerdict, IsVerdictOf, IsRowBy, same_numbers, AreVerdicts}
+use Rattle.rela_plan.specs.Alike.{look_of, LooksAs, AreAlike}
+use Rattle.rela_rows.specs.Sharing.{IsVerdict, IsVerdictOf, IsRowBy, same_numbers, AreVerdicts}
 
 -- what `==` calls equal is equal
-equal_looks : (x y : Outline × Outline) → same_look x y ≡ true → x ≡ y
-equal_looks x y same =
-    let parts = and_parts (same_outline x.0 y.0) (same_outline x.1 y.1) same in
-    let first : x.0 ≡ y.0 = (outlines_decide x.0 y.0).0 parts.0 in
-    let second : x.1 ≡ y.1 = (outlines_decide x.1 y.1).0 parts.1 in
-    λ i. (first i, second i)
-
 equal_numbers : (x y : ℕ × ℕ) → same_numbers x y ≡ true → x ≡ y
 equal_numbers x y same =
     let parts = and_parts (nat_eq x.0 y.0) (nat_eq x.1 y.1) same in
@@ -49,31 +42,6 @@ module _ {K V S : Type 0} (same : K → K → Bool) (decides : (x y : K) → sam
         subst (λ (x : V). P q x) equal (subst (λ (k : K). P k value) (decides key q same_key) one)
     | inr other_key ↦ each q v (sym (updates q ∙ cond-false (same key q) (Some value) (get same old q) other_key) ∙ has)
   ]
-
--- how a flow looks
-pub own_look : (level : Level) (pairs : List FlowPair) (n : ℕ) (pair : FlowPair) (before after : Outline) → n < length pairs → pair ≡ get_or pairs n pair
-    → before ≡ outline_of level pair.before → after ≡ outline_of level pair.after → HasLook level pairs n (before, after)
-own_look level pairs n pair before after within pair_is before_is after_is =
-    let first : outline_of level pair.before ≡ before = sym before_is in
-    let second : outline_of level pair.after ≡ after = sym after_is in
-    let look : look_of level pair ≡ (before, after) = λ i. (first i, second i) in
-    (within, λ d. ap (look_of level) (get_or_default pairs n d pair within ∙ sym pair_is) ∙ look)
-
--- the number that a look has is that of a flow that looks so
-pub number_found : {S : Type 0} (level : Level) (pairs : List FlowPair) (numbers : HashMap (Outline × Outline) ℕ S) (n number : ℕ) (look : Outline × Outline)
-    → AreNumbered level pairs numbers → HasLook level pairs n look → get same_look numbers look ≡ Some number → LooksAs level pairs n number
-number_found level pairs numbers n number look numbered own found =
-    let has = numbered look number found in
-    (has.0, λ d. own.1 d ∙ sym (has.1 d))
-
-pub numbers_more : {S : Type 0} (level : Level) (pairs : List FlowPair) (old new : HashMap (Outline × Outline) ℕ S) (n : ℕ) (look : Outline × Outline)
-    → AreNumbered level pairs old → HasLook level pairs n look
-    → ((q : Outline × Outline) → get same_look new q ≡ cond (same_look look q) (Some n) (get same_look old q)) → AreNumbered level pairs new
-numbers_more level pairs old new n look numbered own updates =
-    entries_more same_look equal_looks (λ q m. HasLook level pairs m q) old new look n updates own numbered
-
-pub looks_as_itself : (level : Level) (pairs : List FlowPair) (n : ℕ) → n < length pairs → LooksAs level pairs n n
-looks_as_itself level pairs n within = (within, λ d. refl)
 
 -- some check tells that each flow has the number of a flow
 pub other_within : (pairs : List FlowPair) (others : List ℕ) (compiled : List Compiled) (flow k : ℕ)

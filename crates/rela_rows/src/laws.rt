@@ -8,6 +8,7 @@ ghost use Rattle.rela_same_flows.specs.SameFlows.{SamePairs};
 ghost use Rattle.rela_snapshot.specs.declared.pairing.FlowPair.{FlowPair};
 ghost use Rattle.rela_translate.specs.Checked.{Checked};
 
+use rela_plan::plans_are_equal;
 use rela_same_flows::same_graphs_same_paths;
 
 /// Right rows of the same flows under the same checks differ at most where one of them leaves the
@@ -18,5 +19,6 @@ pub fn right_rows_agree()
         AreRowsOf names states checks pairs rows → AreRowsOf names states checks others told →
         AgreeInRows rows told }
 {
+    plans_are_equal();
     same_graphs_same_paths();
 }

@@ -5,15 +5,16 @@ ghost use Rattle.std.specs.List.{AllZip};
 ghost use Rattle.rela_expand.specs.Listed.{ListsPathSymbols};
 ghost use Rattle.rela_report.specs.Text.{RowHasTexts};
 ghost use Rattle.rela_snapshot.specs.PairsLocated.{ArePairsLocated};
+ghost use Rattle.rela_plan.specs.Alike.{AreAlike};
 ghost use Rattle.rela_plan.specs.Within.{IsWithin};
 ghost use Rattle.rela_rows.specs.Rows.{AreChecksAt, AreRowsOf};
-ghost use Rattle.rela_rows.specs.Sharing.{AreAlike, AreVerdicts, IsRowBy};
+ghost use Rattle.rela_rows.specs.Sharing.{AreVerdicts, IsRowBy};
 
-use crate::sharing::{Verdicts, alike, share_verdicts, verdict_on};
+use crate::sharing::{Verdicts, share_verdicts, verdict_on};
 use rela_engine::{Compiled, compile};
 use rela_flows::PlannedRow;
 use rela_names::Alphabet;
-use rela_plan::plan_rows;
+use rela_plan::{alike_flows, plan_rows};
 use rela_report::{ReportRow, Row};
 use rela_snapshot::FlowPair;
 use rela_translate::Check;
@@ -42,8 +43,9 @@ pub fn rows_of(
     ensures texts { IfOk result (λ rows. All (RowHasTexts alphabet.now) rows.items) }
 {
     let planned = plan_rows(alloc, pairs, checks)?;
+    let others = alike_flows(alloc, pairs, checks)?;
     let compiled = compile_all(alloc, checks, alphabet, states)?;
-    decide_all(alloc, &planned, pairs, &compiled, alphabet)
+    decide_all(alloc, &planned, pairs, &compiled, alphabet, &others)
 }
 
 /// Each check, compiled under the state limit, in their order.
@@ -68,35 +70,28 @@ fn compile_all<'a>(
 }
 
 /// The rows that are planned, in their order. Under a check, flows that look the same are decided
-/// once.
+/// once: for each flow, `others` has the index of one that does.
 fn decide_all(
     alloc: Global,
     planned: &[PlannedRow],
     pairs: &[FlowPair],
     compiled: &[Compiled<'_>],
     alphabet: &Alphabet,
+    others: &[usize],
 ) -> Result<Vec<ReportRow>, AllocError>
     requires planned { All (IsWithin (length pairs.now) (length compiled.now)) planned.now }
     requires locations { All (λ c. c.locations ≡ length alphabet.now) compiled.now }
     requires located { All (λ c. ArePairsLocated alphabet.now c.check.level
         pairs.now) compiled.now }
+    requires alike { All (λ c. AreAlike c.check.level pairs.now others.now) compiled.now }
     ensures rows { IfOk result (λ rows. AllZip (IsRowBy alphabet.now compiled.now pairs.now)
         planned.now rows.items) }
     ensures texts { IfOk result (λ rows. All (RowHasTexts alphabet.now) rows.items) }
 {
-    let others = alike(alloc, pairs, compiled)?;
     let mut verdicts = HashMap::new(alloc);
     let mut rows = Vec::with_capacity(alloc, planned.len())?;
     for row in planned {
-        rows.push(row_of(
-            alloc,
-            row,
-            pairs,
-            compiled,
-            alphabet,
-            &others,
-            &mut verdicts,
-        )?)?;
+        rows.push(row_of(alloc, row, pairs, compiled, alphabet, others, &mut verdicts)?)?;
     }
     Ok(rows)
 }

@@ -1,18 +1,17 @@
 //! Verdicts that flows share: those that look the same at a check's level have the same paths there.
 
-ghost use Rattle.std.specs.Prelude.{◌≡◌, ℕ, ◌<◌, IfOk, IfSome, OnOk, All, length};
-ghost use Rattle.rela_names.specs.declared.level.Level.{Level};
+ghost use Rattle.std.specs.Prelude.{◌≡◌, ℕ, ◌<◌, IfOk, OnOk, All, length};
 ghost use Rattle.rela_snapshot.specs.PairsLocated.{ArePairsLocated};
 ghost use Rattle.rela_engine.specs.RowOf.{RowOf};
 ghost use Rattle.rela_engine.specs.Scenes.{SamePathSets};
 ghost use Rattle.rela_report.specs.declared.rows.Row.{Row};
 ghost use Rattle.rela_translate.specs.Checked.{Checked};
-ghost use Rattle.rela_rows.specs.Sharing.{look_of, AreAlike, AreNumbered, AreVerdicts, IsVerdict, IsVerdictOf, LooksAs};
+ghost use Rattle.rela_plan.specs.Alike.{look_of};
+ghost use Rattle.rela_rows.specs.Sharing.{AreVerdicts, IsVerdict, IsVerdictOf};
 
 use crate::verdict::verdict;
 use rela_engine::{Compiled, TwoPathSets, rows_carry_over};
-use rela_graph::LevelGraph;
-use rela_names::{Alphabet, Level};
+use rela_names::Alphabet;
 use rela_report::Row;
 use rela_snapshot::FlowPair;
 use std::alloc::{AllocError, Global};
@@ -21,86 +20,6 @@ use std::marker::Brand;
 
 /// Verdicts by the indexes of their flows and checks, in this order.
 pub(crate) type Verdicts = HashMap<(usize, usize), Row>;
-
-/// For each flow the index of one that looks the same at the level of each check, before and after
-/// the change. Where the checks have one level it is the first such flow, else the flow itself.
-/// Time: expected linear in the graphs.
-///
-/// # Errors
-///
-/// Only where memory is wanted.
-pub(crate) fn alike(
-    alloc: Global,
-    pairs: &[FlowPair],
-    compiled: &[Compiled<'_>],
-) -> Result<Vec<usize>, AllocError>
-    ensures { IfOk result (λ others. All (λ c.
-        AreAlike c.check.level pairs.now others.items) compiled.now) }
-{
-    match one_level(compiled) {
-        Some(level) => alike_at(alloc, pairs, level),
-        None => own_numbers(alloc, pairs),
-    }
-}
-
-/// The level that the checks have in common, and `None` where there is no check or they differ.
-fn one_level(compiled: &[Compiled<'_>]) -> Option<Level>
-    ensures { IfSome result (λ level. All (λ c. c.check.level ≡ level) compiled.now) }
-{
-    let level = compiled.first()?.level();
-    for one in compiled {
-        if one.level() != level {
-            return None;
-        }
-    }
-    Some(level)
-}
-
-/// The index of each flow, for itself.
-fn own_numbers(alloc: Global, pairs: &[FlowPair]) -> Result<Vec<usize>, AllocError>
-    ensures { IfOk result (λ own. (level : Level) → AreAlike level pairs.now own.items) }
-{
-    let mut own = Vec::with_capacity(alloc, pairs.len())?;
-    for n in 0..pairs.len() {
-        own.push(n)?;
-    }
-    Ok(own)
-}
-
-/// For each flow the index of the first that looks the same at the level. Time: expected linear in
-/// the graphs.
-fn alike_at(alloc: Global, pairs: &[FlowPair], level: Level) -> Result<Vec<usize>, AllocError>
-    ensures { IfOk result (λ firsts. AreAlike level pairs.now firsts.items) }
-{
-    let mut numbers = HashMap::new(alloc);
-    let mut firsts = Vec::with_capacity(alloc, pairs.len())?;
-    for n in 0..pairs.len() {
-        firsts.push(number_of(&mut numbers, pairs, level, n)?)?;
-    }
-    Ok(firsts)
-}
-
-/// The index that the look of flow `n` has in `numbers`, where it is put with `n` itself if it is
-/// new.
-fn number_of<'a>(
-    numbers: &mut HashMap<(LevelGraph<'a>, LevelGraph<'a>), usize>,
-    pairs: &'a [FlowPair],
-    level: Level,
-    n: usize,
-) -> Result<usize, AllocError>
-    requires flow { n < length pairs.now }
-    requires numbered { AreNumbered level pairs.now numbers.old }
-    ensures number { IfOk result (LooksAs level pairs.now n) }
-    ensures numbered { OnOk result (AreNumbered level pairs.now numbers.new) }
-{
-    let pair = &pairs[n];
-    let look = (pair.before.at(level), pair.after.at(level));
-    if let Some(number) = numbers.get(&look) {
-        return Ok(*number);
-    }
-    numbers.insert(look, n)?;
-    Ok(n)
-}
 
 /// A verdict on one flow is one on each flow that looks the same at the check's level. The call does
 /// nothing, and its contract is this law.

@@ -1,6 +1,6 @@
-use Rattle.std.proofs.Common.{ℕ, List, All, subst, sym, arith}
+use Rattle.std.proofs.Common.{arith}
 use Rattle.rela_report.specs.Text.{RowHasTexts}
-use Rattle.rela_rows.specs.Sharing.{AreAlike, IsRowBy}
+use Rattle.rela_rows.specs.Sharing.{IsRowBy}
 use Rattle.rela_rows.proofs.Loops.{All-more, zip_more}
 use Rattle.rela_rows.proofs.rows.decide_all.Goals as goal
 
@@ -15,7 +15,3 @@ loop-row-preserved c = record {
       c.in_ok-push.ensures.items c.loop-row.invariant.texts c.in_ok-row_of.ensures.texts;
   verdicts = c.in_ok-row_of.ensures.verdicts;
 }
-
-pub row_of-requires-clause-alike : goal.row_of-requires-clause-alike
-row_of-requires-clause-alike c =
-    subst (λ (others : List ℕ). All (λ one. AreAlike one.check.level c.args.pairs.now others) c.args.compiled.now) (sym c.deref.ensures.value) c.in_ok-others.ensures

@@ -2,6 +2,7 @@ use Rattle.std.proofs.Common.{◌≡◌, ◌∙◌, ℕ, List, ap, sym, subst, l
 use Rattle.std.specs.List.{All, AllZip}
 use Rattle.std.proofs.lemmas.List.{length-map}
 use Rattle.rela_flows.specs.declared.planning.PlannedRow.{PlannedRow}
+use Rattle.rela_plan.specs.Alike.{AreAlike}
 use Rattle.rela_plan.specs.Within.{IsWithin}
 use Rattle.rela_snapshot.specs.PairsLocated.{ArePairsLocated}
 use Rattle.rela_rows.specs.Rows.{AreRowsOf}
@@ -22,6 +23,14 @@ decide_all-requires-clause-located c =
     subst (λ compiled. All (λ one. ArePairsLocated c.args.alphabet.now one.check.level c.args.pairs.now) compiled) (sym c.deref-2.ensures.value)
     (All-unmap (λ check. ArePairsLocated c.args.alphabet.now check.level c.args.pairs.now) (λ compiled. compiled.check) c.in_ok-compiled.compiled.items
     (subst (λ checks. All (λ check. ArePairsLocated c.args.alphabet.now check.level c.args.pairs.now) checks) (sym c.in_ok-compiled.ensures.checks) c.requires.checks.located))
+
+pub decide_all-requires-clause-alike : goal.decide_all-requires-clause-alike
+decide_all-requires-clause-alike c =
+    let others = c.in_ok-others.others.items in
+    subst (λ (given : List ℕ). All (λ one. AreAlike one.check.level c.args.pairs.now given) c.deref-2.result.now) (sym c.deref-3.ensures.value)
+    (subst (λ compiled. All (λ one. AreAlike one.check.level c.args.pairs.now others) compiled) (sym c.deref-2.ensures.value)
+    (All-unmap (λ check. AreAlike check.level c.args.pairs.now others) (λ compiled. compiled.check) c.in_ok-compiled.compiled.items
+    (subst (λ checks. All (λ check. AreAlike check.level c.args.pairs.now others) checks) (sym c.in_ok-compiled.ensures.checks) c.in_ok-others.ensures)))
 
 pub returns-clause-rows : goal.returns-clause-rows
 returns-clause-rows c =

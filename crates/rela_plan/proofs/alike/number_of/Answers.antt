@@ -1,6 +1,6 @@
 use Rattle.std.proofs.Common.{sym}
-use Rattle.rela_rows.proofs.Shared.{own_look, number_found, numbers_more}
-use Rattle.rela_rows.proofs.sharing.number_of.Goals as goal
+use Rattle.rela_plan.proofs.Looks.{own_look, number_found, numbers_more}
+use Rattle.rela_plan.proofs.alike.number_of.Goals as goal
 
 pub returns-in-Some-clause-number : goal.returns-in-Some-clause-number
 returns-in-Some-clause-number c =

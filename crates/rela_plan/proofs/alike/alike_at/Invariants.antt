@@ -1,6 +1,6 @@
 use Rattle.std.proofs.Common.{◌≡◌, ℕ, ◌<◌, get_or, length}
-use Rattle.rela_rows.specs.Sharing.{AreNumbered, LooksAs}
-use Rattle.rela_rows.proofs.sharing.alike_at.Given as goal
+use Rattle.rela_plan.specs.Alike.{AreNumbered, LooksAs}
+use Rattle.rela_plan.proofs.alike.alike_at.Given as goal
 
 -- the numbers so far are those of flows that look the same
 abbrev pub invariant-loop-n : goal.invariant-loop-n

@@ -1,5 +1,5 @@
 use Rattle.std.proofs.Common.{◌≡◌, ℕ, ◌<◌, get_or, length}
-use Rattle.rela_rows.proofs.sharing.own_numbers.Given as goal
+use Rattle.rela_plan.proofs.alike.own_numbers.Given as goal
 
 -- the numbers so far
 abbrev pub invariant-loop-n : goal.invariant-loop-n
