@@ -37,3 +37,4 @@ pub mod RightLeaves
 pub mod ByShortlex
 pub mod OneMinimal
 pub mod MetOn
+mod SameLists

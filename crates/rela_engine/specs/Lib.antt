@@ -3,6 +3,7 @@ pub mod Scenes
 pub mod Blocks
 pub mod Sides
 pub mod Telling
+pub mod Kept
 pub mod Least
 pub mod Compilation
 pub mod RowOf

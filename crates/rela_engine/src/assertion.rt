@@ -112,13 +112,28 @@ fn leaf_over(
         MayBeLeftOpen (scene_of letters.now (paths_of paths.now.level
         paths.now.alphabet.now paths.now.before.now paths.now.after.now)) assertion.now states) }
 {
-    let first = words_of(alloc, first_term(assertion), letters, paths, states)?;
-    let second = words_of(alloc, second_term(assertion), letters, paths, states)?;
+    let complements = Limited::new(alloc, states);
+    let first = words_of(
+        alloc,
+        first_term(assertion),
+        letters,
+        paths,
+        &complements,
+        states,
+    )?;
+    let second = words_of(
+        alloc,
+        second_term(assertion),
+        letters,
+        paths,
+        &complements,
+        states,
+    )?;
     let verdict = compare(alloc, assertion, &first, &second, states)?;
     Ok(leaf_of(alloc, verdict, letters.partition())?)
 }
 
-/// The automaton of the term, with complements under the limit.
+/// The automaton of the term, with these complements under the limit.
 ///
 /// # Errors
 ///
@@ -130,9 +145,11 @@ fn words_of(
     term: &PathTerm,
     letters: &Letters<'_>,
     paths: &FlowPaths<'_>,
+    complements: &Limited,
     limit: usize,
 ) -> Result<Nfa<WideSet>, Stop>
     requires limit { 1 ≤ limit }
+    requires same { complements.now.states ≡ limit }
     requires alone { Names (IsAlone letters.now.blocks) term.now }
     requires readable { AreGraphsReadable paths.now.level paths.now.alphabet.now
         paths.now.before.now paths.now.after.now letters.now.blocks }
@@ -143,11 +160,10 @@ fn words_of(
         paths.now.before.now paths.now.after.now)) (limit + 1) term.now) }
 {
     letters.are_covered();
-    let complements = Limited::new(limit);
     let builder = Builder {
         letters,
         paths,
-        complements: &complements,
+        complements,
         limit,
     };
     let mut notes = Vec::new(alloc);

@@ -14,6 +14,7 @@ ghost use Rattle.rela_engine.specs.Sides.{SamePairs, TreatsSidesAlike};
 
 use crate::blocks::blocks_of;
 use crate::differing::{Differing, compare_relations};
+use crate::limited::Limited;
 use crate::markers::count_markers;
 use crate::relation::relation_of;
 use crate::relations::Relations;
@@ -220,7 +221,8 @@ pub(crate) fn letters_of<'a>(
     Letters::new(alloc, check.classes(), alphabet.len(), markers, blocks)
 }
 
-/// The check's relations over these letters. Where it treats both sides alike, one serves both.
+/// The check's relations over these letters, of which complements of equal parts are made once. Where
+/// it treats both sides alike, one serves both.
 ///
 /// # Errors
 ///
@@ -255,11 +257,12 @@ fn built(
     // By what each check keeps, its terms name drop and its markers alone, and no location.
     let body = check.body();
     let terms = translate(alloc, check, alphabet)?;
-    let before = relation_of(alloc, &terms.before, letters, states)?;
+    let complements = Limited::new(alloc, states);
+    let before = relation_of(alloc, &terms.before, letters, &complements, states)?;
     if treats_sides_alike(body) {
         return Ok(Relations::new(before, None));
     }
-    let after = relation_of(alloc, &terms.after, letters, states)?;
+    let after = relation_of(alloc, &terms.after, letters, &complements, states)?;
     Ok(Relations::new(before, Some(after)))
 }
 

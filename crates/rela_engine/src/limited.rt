@@ -1,5 +1,6 @@
-//! Complements under the state limit.
-ghost use Rattle.std.specs.Prelude.{◌≡◌, ℕ, ◌+◌, ◌≤◌, ◌↔◌, IfOk, IfErr, List, length};
+//! Complements under the state limit, made once for parts that are the same.
+ghost use Rattle.std.specs.Prelude.{◌≡◌, ℕ, ◌+◌, ◌≤◌, ◌↔◌, IfOk, IfErr, List, IfSome, length};
+ghost use Rattle.rela_build.specs.Complement.{IsComplement};
 ghost use Rattle.rela_minimise.specs.Classes.{IsMinimal};
 ghost use Rattle.rela_nfa.specs.Runs.{Accepts};
 ghost use Rattle.rela_subset.specs.Deterministic.{IsAccepted, IsByArrival, IsOver, IsReachable, state_after};
@@ -7,32 +8,73 @@ ghost use Rattle.rela_subset.specs.Subsets.{KeepsApart, ReachSame, ReachSets};
 ghost use Rattle.rela_engine.specs.Least.{IsLeast};
 ghost use Rattle.rela_engine.specs.Telling.{TellsWords};
 
+use crate::kept_complements::KeptComplements;
 use rela_build::{Answer, Complements};
 use rela_labels::WideSet;
 use rela_minimise::into_minimal;
 use rela_nfa::{BuildError, Nfa};
 use rela_reduce::reduce;
 use rela_subset::{Dfa, determinise};
-use std::alloc::Global;
+use std::alloc::{AllocError, Global};
+use std::cell::RefCell;
 
 /// Makes the complement of the minimal automaton of its part. A complement is refused only where
 /// words of path symbols reach more sets of states of the part than the limit, and always where
 /// more such words are each told apart from the others by a continuation (the equivalence of Myhill
-/// and Nerode).
+/// and Nerode). What was made is kept, and given again for a part that is the same automaton.
 #[derive(Drop)]
 pub(crate) struct Limited {
     /// The limit: how many sets of states words may reach.
     states: usize,
+    /// What was made so far.
+    kept: RefCell<KeptComplements>,
     ghost some: { 1 ≤ states },
 }
 
 impl Limited {
-    /// Complements under this limit.
-    pub(crate) fn new(states: usize) -> Limited
+    /// Complements under this limit, none of which was made yet.
+    pub(crate) fn new(alloc: Global, states: usize) -> Limited
         requires { 1 ≤ states }
         ensures { result.states ≡ states }
     {
-        Limited { states }
+        let kept = RefCell::new(KeptComplements::new(alloc));
+        Limited { states, kept }
+    }
+
+    /// A copy of the complement of the part over these letters, where it was made before and kept.
+    /// The only error is want of memory.
+    fn kept_for(
+        &self,
+        alloc: Global,
+        part: &Nfa<WideSet>,
+        over: &WideSet,
+    ) -> Result<Option<Nfa<WideSet>>, AllocError>
+        ensures complement { IfOk result (λ found. IfSome found
+            (IsComplement part.now over.now)) }
+        ensures within { IfOk result (λ found. IfSome found (λ _.
+            ¬ TellsWords part.now over.now (self.now.states + 1))) }
+    {
+        match self.kept.try_borrow() {
+            Ok(kept) => kept.copy_of(alloc, part, over, self.states),
+            Err(_) => Ok(None),
+        }
+    }
+
+    /// Keeps the complement of the part over these letters. The only error is want of memory.
+    fn keep(
+        &self,
+        alloc: Global,
+        part: &Nfa<WideSet>,
+        over: &WideSet,
+        complement: &Nfa<WideSet>,
+    ) -> Result<(), AllocError>
+        requires complement { IsComplement part.now over.now complement.now }
+        requires within { ¬ TellsWords part.now over.now (self.now.states + 1) }
+    {
+        match self.kept.try_borrow_mut() {
+            Ok(mut kept) => kept.keep(alloc, part, over, complement, self.states),
+            Err(_) => Ok(()),
+        }
     }
 }
 
@@ -52,12 +94,33 @@ impl Complements for Limited {
         a: &Nfa<WideSet>,
         over: &WideSet,
     ) -> Result<Answer<()>, BuildError> {
-        let least = least_over(alloc, a, over, self.states)?;
-        let others = least.into_complement(alloc)?;
-        let nfa = others.into_nfa(alloc)?;
-        prove!(nfa.start() < nfa.states());
+        if let Some(nfa) = self.kept_for(alloc, a, over)? {
+            return Ok(Answer { nfa, note: () });
+        }
+        let nfa = complement_of(alloc, a, over, self.states)?;
+        self.keep(alloc, a, over, &nfa)?;
         Ok(Answer { nfa, note: () })
     }
+}
+
+/// The complement over these letters of the automaton, by the minimal automaton of its words.
+fn complement_of(
+    alloc: Global,
+    a: &Nfa<WideSet>,
+    over: &WideSet,
+    limit: usize,
+) -> Result<Nfa<WideSet>, BuildError>
+    requires letters { length over.now ≡ a.now.letters }
+    requires limit { 1 ≤ limit }
+    ensures complement { IfOk result (IsComplement a.now over.now) }
+    ensures within { IfOk result (λ _. ¬ TellsWords a.now over.now (limit + 1)) }
+    ensures past { IfErr result (λ e. e ≡ BuildError.Limit → ReachSets a.now over.now (limit + 1)) }
+{
+    let least = least_over(alloc, a, over, limit)?;
+    let others = least.into_complement(alloc)?;
+    let nfa = others.into_nfa(alloc)?;
+    prove!(nfa.start() < nfa.states());
+    Ok(nfa)
 }
 
 /// The minimal automaton of the words over these letters that the automaton accepts, where its states are

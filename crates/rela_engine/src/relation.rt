@@ -20,7 +20,8 @@ use rela_rir::RelTerm;
 use rela_trans::Transducer;
 use std::alloc::{AllocError, Global};
 
-/// The transducers of the term over these letters: as it is built, and made small.
+/// The transducers of the term over these letters: as it is built, with these complements, and made
+/// small.
 ///
 /// # Errors
 ///
@@ -31,9 +32,11 @@ pub(crate) fn relation_of(
     alloc: Global,
     term: &RelTerm,
     letters: &Letters<'_>,
+    complements: &Limited,
     limit: usize,
 ) -> Result<Twofold, Stop>
     requires limit { 1 ≤ limit }
+    requires same { complements.now.states ≡ limit }
     requires alone { NamesR (IsAlone letters.now.blocks) term.now }
     ensures plain { IfOk result (λ r. IsMadeR ⊥ letters.now no_paths term.now r.plain) }
     ensures small { IfOk result (λ r. Realises letters.now.blocks
@@ -43,20 +46,22 @@ pub(crate) fn relation_of(
     ensures past { IfErr result (λ e. e ≢ Stop.Memory →
         ReachedInsideR (scene_of letters.now no_paths) (limit + 1) term.now) }
 {
-    let plain = plain_relation(alloc, term, letters, limit)?;
+    let plain = plain_relation(alloc, term, letters, complements, limit)?;
     let small = small_relation(alloc, &plain, letters.partition())?;
     Ok(Twofold::new(plain, small))
 }
 
-/// The transducer of the term as it is built, with complements under the limit. Errors are those of
-/// [`relation_of`].
+/// The transducer of the term as it is built, with these complements under the limit. Errors are those
+/// of [`relation_of`].
 fn plain_relation(
     alloc: Global,
     term: &RelTerm,
     letters: &Letters<'_>,
+    complements: &Limited,
     limit: usize,
 ) -> Result<Transducer<WideSet>, Stop>
     requires limit { 1 ≤ limit }
+    requires same { complements.now.states ≡ limit }
     requires alone { NamesR (IsAlone letters.now.blocks) term.now }
     ensures made { IfOk result (IsMadeR ⊥ letters.now no_paths term.now) }
     ensures within { IfOk result (λ _.
@@ -65,11 +70,10 @@ fn plain_relation(
         ReachedInsideR (scene_of letters.now no_paths) (limit + 1) term.now) }
 {
     letters.are_covered();
-    let complements = Limited::new(limit);
     let builder = Builder {
         letters,
         paths: &NoPaths,
-        complements: &complements,
+        complements,
         limit,
     };
     let mut notes = Vec::new(alloc);

@@ -111,7 +111,7 @@ fn plain_automaton(
         ReachedInside (scene_of letters.now no_paths) (limit + 1) term.now) }
 {
     letters.are_covered();
-    let complements = Limited::new(limit);
+    let complements = Limited::new(alloc, limit);
     let builder = Builder {
         letters,
         paths: &NoPaths,

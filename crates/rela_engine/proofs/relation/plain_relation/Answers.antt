@@ -6,11 +6,11 @@ use Rattle.rela_engine.proofs.relation.plain_relation.Goals as goal
 pub returns-clause-within : goal.returns-clause-within
 returns-clause-within c =
     on_ok_weaker c.transducer.result
-    (noted_within c.args.letters.now no_paths ⊥ _ c.args.limit c.new-complements.ensures c.args.term.now _ _)
+    (noted_within c.args.letters.now no_paths ⊥ _ c.args.limit c.requires.same c.args.term.now _ _)
     c.transducer.ensures.noted
 
 pub returns-clause-past : goal.returns-clause-past
 returns-clause-past c =
     IfErr-weaker c.transducer.result _ _
-    (λ e stopped. stopped_inside c.args.letters.now no_paths c.are_covered.ensures.letters ⊥ _ c.args.limit _ c.new-complements.ensures c.args.term.now e stopped)
+    (λ e stopped. stopped_inside c.args.letters.now no_paths c.are_covered.ensures.letters ⊥ _ c.args.limit _ c.requires.same c.args.term.now e stopped)
     c.transducer.ensures.stopped
