@@ -79,17 +79,13 @@ fn a_failed_read_writes_nothing(rt: HostRuntime) -> Result<(), AllocError> {
     Ok(())
 }
 
-/// Asserts that the run has these first pieces of its text written where a write behind them fails.
-fn is_cut_off(rt: &impl Abort, failed: &Answer, whole: &[u8], pieces: usize, place: usize) {
-    assert_eq!(rt; failed.status, WRITE_FAULT, "case {place} piece {pieces}");
-    assert_eq!(rt;
-        failed.text.len(),
-        pieces.saturating_mul(TAKEN),
-        "case {place} piece {pieces}"
-    );
+/// Asserts that a write failed, behind so many bytes of the whole text.
+fn is_cut_off(rt: &impl Abort, failed: &Answer, whole: &[u8], length: usize, place: usize) {
+    assert_eq!(rt; failed.status, WRITE_FAULT, "case {place} byte {length}");
+    assert_eq!(rt; failed.text.len(), length, "case {place} byte {length}");
     assert!(rt;
         whole.starts_with(failed.text.as_slice()),
-        "case {place} piece {pieces}"
+        "case {place} byte {length}"
     );
 }
 
@@ -105,7 +101,13 @@ fn fails_at_each_write(
     assert!(rt; (count as u64) < MOST_CALLS, "case {place}");
     for pieces in 0..count {
         let failed = with_failed_write(alloc, run, pieces as u64 + 1)?;
-        is_cut_off(rt, &failed, whole.as_bytes(), pieces, place);
+        is_cut_off(
+            rt,
+            &failed,
+            whole.as_bytes(),
+            pieces.saturating_mul(TAKEN),
+            place,
+        );
     }
     let answered = with_failed_write(alloc, run, count as u64 + 1)?;
     run.is_answered(rt, alloc, &answered, place)
@@ -119,16 +121,19 @@ fn a_failed_write_ends_the_text(rt: HostRuntime) -> Result<(), AllocError> {
     Ok(())
 }
 
-/// A sink that has room for forty bytes.
+/// How many bytes a narrow sink has room for.
+const ROOM: usize = 40;
+
+/// Such a sink.
 const NARROW: &Medium<'static> = &Medium {
     reads: &[],
     writes: &[],
     given: GIVEN,
     taken: TAKEN,
-    room: 40,
+    room: ROOM,
 };
 
-/// Asserts that the run writes its first forty bytes, where it has more.
+/// Asserts that the run writes what there is room for, where it has more.
 fn fills_the_room(
     rt: &impl Abort,
     alloc: Global,
@@ -137,15 +142,10 @@ fn fills_the_room(
 ) -> Result<(), AllocError> {
     let narrow = answer_to(alloc, NARROW, run)?;
     let whole = run.text.join(alloc, "")?;
-    if whole.len() <= 40 {
+    if whole.len() <= ROOM {
         return run.is_answered(rt, alloc, &narrow, place);
     }
-    assert_eq!(rt; narrow.status, WRITE_FAULT, "case {place}");
-    assert_eq!(rt;
-        narrow.text.as_slice(),
-        &whole.as_bytes()[..40],
-        "case {place}"
-    );
+    is_cut_off(rt, &narrow, whole.as_bytes(), ROOM, place);
     Ok(())
 }
 
