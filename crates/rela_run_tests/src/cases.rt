@@ -8,19 +8,6 @@ use std::process::Abort;
 /// A text, in pieces.
 pub(crate) type Text = &'static [&'static str];
 
-/// The calls on the files and on the sink that fail, by their numbers.
-#[derive(Drop)]
-pub(crate) struct Faults {
-    pub(crate) reads: &'static [u64],
-    pub(crate) writes: &'static [u64],
-}
-
-/// No call fails.
-pub(crate) const STEADY: &Faults = &Faults {
-    reads: &[],
-    writes: &[],
-};
-
 /// The words of a check of the files `before`, `after`, `locations` and `spec`.
 pub(crate) const CHECK: Text = &["check", "before", "after", "locations", "spec"];
 
@@ -55,36 +42,24 @@ pub(crate) fn hold<C: Case>(rt: &impl Abort, alloc: Global, cases: &[C]) -> Resu
     Ok(())
 }
 
+// What owns a value here lends it at once: the proof of a function that does more with it is long.
 impl Case for Run<'_> {
     fn holds(&self, rt: &impl Abort, alloc: Global, place: usize) -> Result<(), AllocError> {
-        holds_with(rt, alloc, STEADY, self, place)
+        let words = strings(alloc, self.words)?;
+        holds_for(rt, alloc, &words, self, place)
     }
 }
 
-/// Says of the run that it has the status and writes the text where these calls fail. What owns a
-/// value here lends it at once: the proof of a function that does more with it is long.
-pub(crate) fn holds_with(
-    rt: &impl Abort,
-    alloc: Global,
-    faults: &Faults,
-    case: &Run<'_>,
-    place: usize,
-) -> Result<(), AllocError> {
-    let words = strings(alloc, case.words)?;
-    holds_for(rt, alloc, &words, faults, case, place)
-}
-
-/// The same of the run of these words.
+/// Says so of the run of these words.
 fn holds_for(
     rt: &impl Abort,
     alloc: Global,
     words: &[String],
-    faults: &Faults,
     case: &Run<'_>,
     place: usize,
 ) -> Result<(), AllocError> {
-    let mut files = memory_files(alloc, faults.reads, case.files)?;
-    holds_over(rt, alloc, words, &mut files, faults, case, place)
+    let mut files = memory_files(alloc, case.files)?;
+    holds_over(rt, alloc, words, &mut files, case, place)
 }
 
 /// The same over these files.
@@ -93,11 +68,11 @@ fn holds_over(
     alloc: Global,
     words: &[String],
     files: &mut MemoryFiles,
-    faults: &Faults,
     case: &Run<'_>,
     place: usize,
 ) -> Result<(), AllocError> {
-    let mut out = memory_sink(alloc, faults.writes)?;
+    // (it takes at most three bytes at once)
+    let mut out = MemorySink::new(alloc, 4_000, Vec::new(alloc), 3)?;
     let status = run(alloc, words, files, &mut out);
     is_told(rt, alloc, status, out.taken(), case, place)
 }
@@ -143,18 +118,7 @@ fn memory_file_list(
 }
 
 /// These files, which give at most 64 bytes at once.
-fn memory_files(
-    alloc: Global,
-    failing: &[u64],
-    files: &[(&'static str, Text)],
-) -> Result<MemoryFiles, AllocError> {
-    let failing = failing.to_vec(alloc)?;
+fn memory_files(alloc: Global, files: &[(&'static str, Text)]) -> Result<MemoryFiles, AllocError> {
     let files = memory_file_list(alloc, files)?;
-    Ok(MemoryFiles::new(files, failing, 64))
-}
-
-/// A sink that takes at most three bytes at once.
-fn memory_sink(alloc: Global, failing: &[u64]) -> Result<MemorySink, AllocError> {
-    let failing = failing.to_vec(alloc)?;
-    MemorySink::new(alloc, 4_000, failing, 3)
+    Ok(MemoryFiles::new(files, Vec::new(alloc), 64))
 }

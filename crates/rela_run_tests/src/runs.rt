@@ -1,8 +1,8 @@
-//! Words, limits and faults of whole runs.
+//! Words, limits and missing files of whole runs.
 
-use crate::cases::{CHECK, Case, Faults, Run, Text, hold, holds_with};
+use crate::cases::{Case, Run, Text, hold};
 use crate::network::{KEEP, LOCATIONS, OVER_R2, OVER_R3};
-use rela_top::{BAD_WORDS, MET, READ_FAULT, UNDECIDED, VIOLATED, WRITE_FAULT};
+use rela_top::{BAD_WORDS, MET, READ_FAULT, UNDECIDED, VIOLATED};
 use std::alloc::{AllocError, Global};
 use std::process::Abort;
 
@@ -18,36 +18,6 @@ const COMPLIANT: Text = &[
     "flow f1 check c1 compliant\n",
     "total 1 compliant 1 violated 0 undecided 0 unselected 0\n",
 ];
-
-#[test]
-fn a_failed_read_writes_nothing(rt: HostRuntime) -> Result<(), AllocError> {
-    let faults = Faults {
-        reads: &[3],
-        writes: &[],
-    };
-    let run = Run {
-        words: CHECK,
-        files: KEPT,
-        status: READ_FAULT,
-        text: &[],
-    };
-    holds_with(&rt, rt.alloc(), &faults, &run, 0)
-}
-
-#[test]
-fn a_failed_write_ends_the_text(rt: HostRuntime) -> Result<(), AllocError> {
-    let faults = Faults {
-        reads: &[],
-        writes: &[2],
-    };
-    let run = Run {
-        words: CHECK,
-        files: KEPT,
-        status: WRITE_FAULT,
-        text: &["flo"],
-    };
-    holds_with(&rt, rt.alloc(), &faults, &run, 0)
-}
 
 /// A file that isn't there.
 const MISSING: &[Run<'static>] = &[
