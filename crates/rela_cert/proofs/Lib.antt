@@ -19,3 +19,7 @@ pub mod FoundRows
 pub mod Excuses
 pub mod MadeRows
 pub mod BegunTexts
+pub mod CarriedRows
+pub mod SharedRows
+pub mod SameBlocks
+pub mod AcceptedTexts

@@ -1,19 +1,17 @@
 -- The rows that a certificate is made of, one after another.
-use Rattle.std.proofs.Common.{◌≡◌, ◌∙◌, ℕ, zero, suc, Result, Ok, Err, Option, None, Some, List, [], ◌∷◌, length, map, sym, ap, subst}
-use Rattle.std.specs.Prelude.{IfNone, IfOk, IfSome}
+use Rattle.std.proofs.Common.{◌≡◌, ◌∙◌, ℕ, zero, suc, Option, None, Some, List, [], ◌∷◌, length, map, sym, ap, subst}
 use Rattle.std.specs.List.{slice_get}
+use Rattle.rela_build.specs.PathSets.{Paths}
 use Rattle.rela_certfile.specs.Layout.{Layout, Shape, shape_at, shape_of as asked_by}
 use Rattle.rela_certfile.specs.Listed.{HasShape, IsListedAs}
 use Rattle.rela_certfile.specs.declared.rows.ListedRow.{ListedRow}
 use Rattle.rela_flows.specs.declared.planning.PlannedRow.{PlannedRow}
 use Rattle.rela_flows.specs.declared.planning.PlannedRow.TheVariants.{Checked as CheckedRow, Unselected}
-use Rattle.rela_snapshot.specs.PairsLocated.{ArePairsLocated, IsPairLocated}
 use Rattle.rela_snapshot.specs.declared.pairing.FlowPair.{FlowPair}
 use Rattle.rela_translate.specs.Checked.{Checked}
 use Rattle.rela_translate.specs.Verdict.{Meets}
 use Rattle.rela_cert.specs.Certified.{AreBlocksMade, IsExcused, IsRowMade, MayBeLeftOut}
-use Rattle.rela_cert.specs.Subject.{HoldsAt, IsRowOf, IsSubject, Subject, flow_of, layout_of, shape_of}
-use Rattle.rela_cert.proofs.AuditedRows.{all_at}
+use Rattle.rela_cert.specs.Subject.{HoldsAt, IsRowOf, Subject, flow_of, layout_of, shape_of}
 use Rattle.rela_cert.proofs.ListedRows.{same_some}
 
 mapped_there : {X Y : Type 0} (f : X → Y) (xs : List X) (k : ℕ) (x : X) → slice_get xs k ≡ Some x → slice_get (map f xs) k ≡ Some (f x)
@@ -33,11 +31,6 @@ module _ (s : Subject) (planned : List PlannedRow) (place flow number : ℕ) (pa
     (planned_as : slice_get planned place ≡ Some (CheckedRow flow number)) (of_flow : slice_get s.pairs flow ≡ Some pair) (of_check : slice_get s.checks number ≡ Some check) where
   is_row : IsRowOf s planned place pair check
   is_row = record { flow = flow; number = number; planned_as = planned_as; of_flow = of_flow; of_check = of_check }
-
-  pub located_there : IsSubject s → IsPairLocated s.names check.level pair
-  located_there subject =
-      all_at (IsPairLocated s.names check.level) s.pairs flow pair
-      (all_at (λ (c : Checked). ArePairsLocated s.names c.level s.pairs) s.checks number check subject.located of_check) of_flow
 
   pub row_made : (row : ListedRow) → row.place ≡ place → HasShape (shape_of (length s.names) check) row
       → Meets check (length s.names) (flow_of s pair check).pre (flow_of s pair check).post → AreBlocksMade (length s.names) row check (flow_of s pair check)
@@ -60,24 +53,18 @@ module _ (s : Subject) (planned : List PlannedRow) (place flow number : ℕ) (pa
       subst (λ (c : Checked). IsExcused (length s.names) limit c (flow_of s other_pair c)) two
       (subst (λ (p : FlowPair). IsExcused (length s.names) limit check (flow_of s p check)) one excused)
 
-  -- what is told of a row that may be found
-  pub found_made : {E : Type 0} (r : Result (Option ListedRow) E) → IfOk r (λ found. IfSome found (λ row. row.place ≡ place))
-      → IfOk r (λ found. IfSome found (HasShape (shape_of (length s.names) check)))
-      → IfOk r (λ found. IfSome found (λ _. Meets check (length s.names) (flow_of s pair check).pre (flow_of s pair check).post))
-      → IfOk r (λ found. IfSome found (λ row. AreBlocksMade (length s.names) row check (flow_of s pair check)))
-      → IfOk r (λ found. IfSome found (IsRowMade s planned place))
-  found_made (Ok (Some row)) at has met made = row_made row at has met made
-  found_made (Ok None) at has met made = tt
-  found_made (Err e) at has met made = tt
-
-  pub none_left_out : {E : Type 0} (limit : ℕ) (r : Result (Option ListedRow) E)
-      → IfOk r (λ found. IfNone found (IsExcused (length s.names) limit check (flow_of s pair check)))
-      → IfOk r (λ found. IfNone found (MayBeLeftOut s planned limit place))
-  none_left_out limit (Ok (Some row)) excused = tt
-  none_left_out limit (Ok None) excused = left_out limit excused
-  none_left_out limit (Err e) excused = tt
-
 -- a planned row without a check is left out
 pub no_check : (s : Subject) (planned : List PlannedRow) (place flow limit : ℕ) → slice_get planned place ≡ Some (Unselected flow) → MayBeLeftOut s planned limit place
 no_check s planned place flow limit at pair check is =
     let e : Some (Unselected flow) ≡ Some (CheckedRow is.flow is.number) = sym at ∙ is.planned_as in absurd (cc)
+
+-- what holds of the planned row at a place, by its flow and its check
+pub at_row : (s : Subject) (planned : List PlannedRow) (place : ℕ) (P : Checked → Paths → Type 0) (pair : FlowPair) (check : Checked)
+    → IsRowOf s planned place pair check → HoldsAt s planned place P → P check (flow_of s pair check)
+at_row s planned place P pair check is (other, also, row, holds) =
+    let same_row : CheckedRow row.flow row.number ≡ CheckedRow is.flow is.number = same_some (slice_get planned place) (CheckedRow row.flow row.number) (CheckedRow is.flow is.number) row.planned_as is.planned_as in
+    let same_flow : row.flow ≡ is.flow = cc in
+    let same_number : row.number ≡ is.number = cc in
+    let one : other ≡ pair = same_some (slice_get s.pairs is.flow) other pair (subst (λ (k : ℕ). slice_get s.pairs k ≡ Some other) same_flow row.of_flow) is.of_flow in
+    let two : also ≡ check = same_some (slice_get s.checks is.number) also check (subst (λ (k : ℕ). slice_get s.checks k ≡ Some also) same_number row.of_check) is.of_check in
+    subst (λ (c : Checked). P c (flow_of s pair c)) two (subst (λ (p : FlowPair). P also (flow_of s p also)) one holds)

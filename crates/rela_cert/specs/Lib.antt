@@ -11,3 +11,5 @@ pub mod Found
 pub mod Audited
 pub mod Answers
 pub mod Certified
+pub mod Sharing
+pub mod Accepted

@@ -9,22 +9,25 @@ ghost use Rattle.rela_cert.specs.Subject.{IsSubject, layout_of, subject};
 
 use crate::answer::Audit;
 use crate::inputs::Inputs;
-use crate::listed_row::answer_of_row;
 use crate::planning::{Planning, planning_of};
 use crate::row_audit::MAX_STATES;
+use crate::shared_judgement::shared_answer_of_row;
 use rela_certfile::{Certificate, CertificateError, breaks_once, parse, unbroken};
 use rela_names::Alphabet;
 use rela_snapshot::FlowPair;
 use rela_translate::Check;
 use std::alloc::{AllocError, Global};
+use std::collections::HashMap;
 
 /// What is found of a certificate for checks of one level, whose names differ, and flows, whose
 /// names differ; the alphabet is that of the level. Nothing is searched for, and nothing that the
 /// text says is believed: it is accepted only where it lists rows of the plan, and the check of
 /// each listed row is met.
 ///
-/// Time and space: linear in the text and the planned rows, and those of the judgement of each
-/// listed row up to the first that isn't met.
+/// Time and space: linear in the text and the planned rows, expected linear in the graphs of the
+/// flows, and those of the judgement of each listed row up to the first that isn't met. Rows with
+/// equal blocks, one check, and flows that look the same at its level are judged once as long as no
+/// other of them has other blocks.
 ///
 /// # Errors
 ///
@@ -69,7 +72,7 @@ fn unread(error: CertificateError) -> Result<Audit, AllocError>
 }
 
 /// What the audit of the listed rows finds: the answer of the first one whose check isn't shown to
-/// be met, or how many they are. Time and space: those of [`answer_of_row`] for each row.
+/// be met, or how many they are. Time and space: those of [`shared_answer_of_row`] for each row.
 fn audit_rows(
     alloc: Global,
     inputs: &Inputs<'_>,
@@ -84,8 +87,17 @@ fn audit_rows(
     ensures { IfOk result (Finds (subject_of inputs.now) planning.now.rows.items MAX_STATES
         certificate.now) }
 {
+    let mut known = HashMap::new(alloc);
     for number in 0..certificate.len() {
-        if let Some(audit) = answer_of_row(alloc, inputs, planning, certificate, number)? {
+        let answer = shared_answer_of_row(
+            alloc,
+            inputs,
+            planning,
+            certificate,
+            number,
+            &mut known,
+        )?;
+        if let Some(audit) = answer {
             return Ok(audit);
         }
     }

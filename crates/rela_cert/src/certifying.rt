@@ -1,22 +1,24 @@
 //! Certificates of rows that are met.
 
-ghost use Rattle.std.specs.Prelude.{◌≡◌, ◌+◌, ◌<◌, ◌≤◌, IfNone, IfOk, IfSome, OnOk, length};
-ghost use Rattle.rela_cert.specs.Certified.{IsBegun, IsCertified, IsRowMade, MayBeLeftOut};
+ghost use Rattle.std.specs.Prelude.{◌≡◌, ◌+◌, ◌<◌, ◌≤◌, IfOk, OnOk, length};
+ghost use Rattle.rela_cert.specs.Certified.{IsBegun, IsCertified};
 ghost use Rattle.rela_cert.specs.Inputs.{subject_of};
 ghost use Rattle.rela_cert.specs.Planned.{IsPlanned};
+ghost use Rattle.rela_cert.specs.Sharing.{AreFoundRows};
 ghost use Rattle.rela_cert.specs.Subject.{IsSubject, layout_of, subject};
 
+use crate::found_rows::{FoundRows, found_at, take_or_find, write_found};
 use crate::inputs::Inputs;
 use crate::planning::{Planning, planning_of};
-use crate::row::Row;
 use crate::row_audit::MAX_STATES;
-use crate::row_certificate::certified_row;
-use rela_certfile::{ListedRow, PlanLayout, Writer, row_appended};
+use crate::shared_rows::rows_carry_over;
+use rela_certfile::{PlanLayout, Writer};
 use rela_flows::PlannedRow;
 use rela_names::Alphabet;
 use rela_snapshot::FlowPair;
 use rela_translate::Check;
 use std::alloc::{AllocError, Global};
+use std::collections::HashMap;
 
 /// The certificate of the rows that are met, of checks of one level, whose names differ, and of
 /// flows, whose names differ; the alphabet is that of the level. A row with a check is left out
@@ -24,8 +26,9 @@ use std::alloc::{AllocError, Global};
 /// `states`. Each block is closed, and has the words by which its places are first reached, in
 /// shortlex order.
 ///
-/// Time and space: planning, the constructions and the search for each row, one after another, and
-/// the text.
+/// Time and space: planning, expected linear in the graphs of the flows; the constructions and the
+/// search, one after another, once for each check and each look of the flows at its level; and the
+/// text.
 ///
 /// # Errors
 ///
@@ -51,30 +54,34 @@ pub fn certify(
     let planning = planning_of(alloc, &inputs)?;
     let layout = planning.layout(&inputs);
     let mut writer = Writer::new(alloc)?;
+    let mut kept = HashMap::new(alloc);
     for place in 0..planning.rows.len() {
         write_row(
             alloc,
             &inputs,
             &planning,
             &layout,
-            &mut writer,
             place,
             states,
+            &mut kept,
+            &mut writer,
         )?;
     }
     writer.finish()
 }
 
-/// Writes the row that is planned at this place, unless it is left out. The only error is want of
+/// Writes the row that is planned at this place, unless it is left out. What is found for its
+/// check and the flow that looks like its own is kept for further rows. The only error is want of
 /// memory.
 fn write_row(
     alloc: Global,
     inputs: &Inputs<'_>,
     planning: &Planning<'_>,
     layout: &PlanLayout<'_>,
-    writer: &mut Writer,
     place: usize,
     states: usize,
+    kept: &mut FoundRows,
+    writer: &mut Writer,
 ) -> Result<(), AllocError>
     requires subject { IsSubject (subject_of inputs.now) }
     requires planned { IsPlanned (subject_of inputs.now) planning.now }
@@ -82,45 +89,23 @@ fn write_row(
     requires place { place < length planning.now.rows.items }
     requires some { 1 ≤ states }
     requires few { states ≤ MAX_STATES }
-    ensures { OnOk result (IsBegun (subject_of inputs.now) planning.now.rows.items states place
-        writer.old → IsBegun (subject_of inputs.now) planning.now.rows.items states (place + 1)
-        writer.new) }
-{
-    row_appended();
-    match row_at_place(alloc, inputs, planning, place, states)? {
-        Some(row) => writer.push_row(layout, &row),
-        None => Ok(()),
-    }
-}
-
-/// The row that is planned at this place as it is listed, unless it is left out. The only error is
-/// want of memory.
-fn row_at_place(
-    alloc: Global,
-    inputs: &Inputs<'_>,
-    planning: &Planning<'_>,
-    place: usize,
-    states: usize,
-) -> Result<Option<ListedRow>, AllocError>
-    requires subject { IsSubject (subject_of inputs.now) }
-    requires planned { IsPlanned (subject_of inputs.now) planning.now }
-    requires place { place < length planning.now.rows.items }
-    requires some { 1 ≤ states }
-    requires few { states ≤ MAX_STATES }
-    ensures made { IfOk result (λ found. IfSome found
-        (IsRowMade (subject_of inputs.now) planning.now.rows.items place)) }
-    ensures excused { IfOk result (λ found. IfNone found
-        (MayBeLeftOut (subject_of inputs.now) planning.now.rows.items states place)) }
+    requires kept { AreFoundRows (subject_of inputs.now) states kept.old }
+    ensures kept { OnOk result (AreFoundRows (subject_of inputs.now) states kept.new) }
+    ensures written { OnOk result (IsBegun (subject_of inputs.now) planning.now.rows.items states
+        place writer.old → IsBegun (subject_of inputs.now) planning.now.rows.items states
+        (place + 1) writer.new) }
 {
     match planning.rows[place] {
         PlannedRow::Checked { flow, check } => {
-            let row = Row {
-                check: &inputs.checks[check],
-                pair: &inputs.pairs[flow],
-                alphabet: inputs.alphabet,
-            };
-            certified_row(alloc, &row, place, states)
+            let other = planning.alike[flow];
+            let found = take_or_find(alloc, inputs, other, check, states, kept)?;
+            let (pair, another) = (&inputs.pairs[flow], &inputs.pairs[other]);
+            rows_carry_over(&inputs.checks[check], pair, another, inputs.alphabet);
+            let found = found_at(found, place);
+            write_found(layout, writer, &found)?;
+            kept.insert((other, check), found)?;
+            Ok(())
         }
-        PlannedRow::Unselected { .. } => Ok(None),
+        PlannedRow::Unselected { .. } => write_found(layout, writer, &None),
     }
 }

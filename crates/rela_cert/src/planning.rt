@@ -12,12 +12,13 @@ use rela_blocks::symbols_of;
 use rela_certfile::{CheckShape, PlanLayout, planned_rows};
 use rela_flows::PlannedRow;
 use rela_names::{Alphabet, Name};
-use rela_plan::plan_rows;
+use rela_plan::{alike_flows, plan_rows};
 use rela_snapshot::FlowPair;
 use rela_translate::{Check, translate};
 use std::alloc::{AllocError, Global};
 
-/// The rows that are planned, with the names of their flows and what their checks ask.
+/// The rows that are planned, with the names of their flows, what their checks ask, and which flows
+/// look the same.
 #[derive(Drop)]
 pub(crate) struct Planning<'a> {
     /// The planned rows, in order.
@@ -26,12 +27,15 @@ pub(crate) struct Planning<'a> {
     pub(crate) flows: Vec<&'a Name>,
     /// What the checks ask, in the order by which the rows number them.
     pub(crate) shapes: Vec<CheckShape<'a>>,
+    /// For each flow the index of one that looks the same at the level of the checks, which is the
+    /// first such flow where the checks have one level.
+    pub(crate) alike: Vec<usize>,
 }
 
 /// The planned rows of these flows and checks.
 ///
-/// Time: that of planning, and linear in the terms of the checks, which are made once to count
-/// their complements. The only error is want of memory.
+/// Time: that of planning, expected linear in the graphs of the flows, and linear in the terms of
+/// the checks, which are made once to count their complements. The only error is want of memory.
 pub(crate) fn planning_of<'a>(
     alloc: Global,
     inputs: &Inputs<'a>,
@@ -41,10 +45,12 @@ pub(crate) fn planning_of<'a>(
     let rows = plan_rows(alloc, inputs.pairs, inputs.checks)?;
     let flows = names_of(alloc, inputs.pairs)?;
     let shapes = shapes_of(alloc, inputs.checks, inputs.alphabet)?;
+    let alike = alike_flows(alloc, inputs.pairs, inputs.checks)?;
     Ok(Planning {
         rows,
         flows,
         shapes,
+        alike,
     })
 }
 

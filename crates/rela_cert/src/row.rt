@@ -29,6 +29,26 @@ pub(crate) struct Row<'a> {
     pub(crate) alphabet: &'a Alphabet,
 }
 
+/// The indexes of the flow and the check of the listed row of this number, counted from 0.
+pub(crate) fn flow_and_check(
+    inputs: &Inputs<'_>,
+    planning: &Planning<'_>,
+    certificate: &Certificate,
+    number: usize,
+) -> (usize, usize)
+    requires planned { IsPlanned (subject_of inputs.now) planning.now }
+    requires listed { AreListed (layout_of (subject_of inputs.now) planning.now.rows.items)
+        certificate.now }
+    requires number { number < length certificate.now }
+    ensures planned { (listed : ListedRow) → slice_get certificate.now number ≡ Some listed →
+        slice_get planning.now.rows.items listed.place ≡ Some (Checked result.0 result.1) }
+    ensures flow { result.0 < length inputs.now.pairs.now }
+    ensures check { result.1 < length inputs.now.checks.now }
+{
+    listed_as();
+    planned_at(planning.rows.as_slice(), certificate.place(number))
+}
+
 /// The check and the flow of the listed row of this number, counted from 0.
 pub(crate) fn row_at<'a>(
     inputs: &Inputs<'a>,
@@ -44,7 +64,7 @@ pub(crate) fn row_at<'a>(
         IsRowAt (subject_of inputs.now) planning.now.rows.items listed result }
 {
     listed_as();
-    let (flow, check) = planned_at(planning.rows.as_slice(), certificate.place(number));
+    let (flow, check) = flow_and_check(inputs, planning, certificate, number);
     Row {
         check: &inputs.checks[check],
         pair: &inputs.pairs[flow],
