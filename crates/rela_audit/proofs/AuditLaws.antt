@@ -8,6 +8,7 @@ use Rattle.rela_certfile.specs.Layout.{Layout}
 use Rattle.rela_flows.specs.Plan.{Plan}
 use Rattle.rela_flows.specs.declared.planning.PlannedRow.{PlannedRow}
 use Rattle.rela_flows.specs.declared.predicate.FlowClass.{FlowClass}
+use Rattle.rela_flows.specs.declared.predicate.Predicate.{Predicate}
 use Rattle.rela_io.specs.Held.{FilesByName}
 use Rattle.rela_locations.specs.Network.{Network, alphabet_of}
 use Rattle.rela_names.specs.declared.level.Level.{Level}
@@ -25,11 +26,16 @@ use Rattle.rela_inputs.specs.declared.refusal.Input.TheVariants.{Locations, Befo
 use Rattle.rela_inputs.specs.declared.refusal.Refusal.{Refusal}
 use Rattle.rela_inputs.proofs.GivenLaws.{stopped, continued}
 use Rattle.rela_audit.specs.Audits.{AnswersAudit, Audits, AuditsText, SameAudits, answer_to, limit, subject_of}
-use Rattle.rela_audit.proofs.PlanLaws.{classes_same, plan_same}
+use Rattle.rela_audit.proofs.PlanLaws.{classes_same}
 
 -- checks that no file can tell apart are equal
 abbrev pub SameIsOne : Type 0
 SameIsOne = (specified other : Specified) → SameSpecified specified other → specified ≡ other
+
+-- the flows and the checks settle the plan
+abbrev pub PlanIsOne : Type 0
+PlanIsOne =
+    (classes : List FlowClass) (checks : List Predicate) (rows others : List PlannedRow) → Plan classes checks rows → Plan classes checks others → rows ≡ others
 
 names_by : (pairs others : List FlowPair) → SamePairs pairs others → map (λ (p : FlowPair). p.class.name) pairs ≡ map (λ (p : FlowPair). p.class.name) others
 names_by [] [] same = refl
@@ -58,17 +64,17 @@ module _ (one_for_all : SameIsOne) (change other : Loaded) (same : SameLoaded ch
       ∙ (ap (λ (checks : List Check). layout_by planned (map (λ (p : FlowPair). p.class.name) other.pairs) checks (names_of change)) checks_same
       ∙ ap (λ (names : List (List ℕ)). layout_by planned (map (λ (p : FlowPair). p.class.name) other.pairs) other.specified.checks names) names_same)
 
-  planned_same : (planned others : List PlannedRow) → IsPlan (subject_of change) planned → IsPlan (subject_of other) others → planned ≡ others
-  planned_same planned others one two =
-      plan_same (map (λ (p : FlowPair). p.class) change.pairs) (map (λ (c : Check). c.when) change.specified.checks) planned others one
+  planned_same : PlanIsOne → (planned others : List PlannedRow) → IsPlan (subject_of change) planned → IsPlan (subject_of other) others → planned ≡ others
+  planned_same one_plan planned others one two =
+      one_plan (map (λ (p : FlowPair). p.class) change.pairs) (map (λ (c : Check). c.when) change.specified.checks) planned others one
       (subst (λ (classes : List FlowClass). Plan classes (map (λ (c : Check). c.when) change.specified.checks) others) (sym (classes_same change.pairs other.pairs same.pairs))
       (subst (λ (checks : List Check). Plan (map (λ (p : FlowPair). p.class) other.pairs) (map (λ (c : Check). c.when) checks) others) (sym checks_same) two))
 
-  module _ (text : List ℕ) (a b : Audit) (one : IsAudited (subject_of change) limit text a) (two : IsAudited (subject_of other) limit text b) where
+  module _ (one_plan : PlanIsOne) (text : List ℕ) (a b : Audit) (one : IsAudited (subject_of change) limit text a) (two : IsAudited (subject_of other) limit text b) where
     layouts_same : layout_of (subject_of change) one.planned ≡ layout_of (subject_of other) two.planned
     layouts_same =
         layout_same one.planned
-        ∙ ap (λ (p : List PlannedRow). layout_of (subject_of other) p) (planned_same one.planned two.planned one.plan two.plan)
+        ∙ ap (λ (p : List PlannedRow). layout_of (subject_of other) p) (planned_same one_plan one.planned two.planned one.plan two.plan)
 
     said_of_both : IsFoundOf (subject_of change) one.planned limit text a ⊎ IsBrokenOf (subject_of change) one.planned text a
         → IsFoundOf (subject_of other) two.planned limit text b ⊎ IsBrokenOf (subject_of other) two.planned text b → SameAudits (answer_to a) (answer_to b)
@@ -81,7 +87,7 @@ module _ (one_for_all : SameIsOne) (change other : Loaded) (same : SameLoaded ch
       another = b;
       same_layout = layout_same one.planned;
       found = found;
-      found_too = subst (λ (p : List PlannedRow). IsFoundOf (subject_of other) p limit text b) (sym (planned_same one.planned two.planned one.plan two.plan)) also;
+      found_too = subst (λ (p : List PlannedRow). IsFoundOf (subject_of other) p limit text b) (sym (planned_same one_plan one.planned two.planned one.plan two.plan)) also;
       is_first = refl;
       is_second = refl;
     })
@@ -93,13 +99,13 @@ module _ (one_for_all : SameIsOne) (change other : Loaded) (same : SameLoaded ch
     audits_agree : SameAudits (answer_to a) (answer_to b)
     audits_agree = said_of_both one.says two.says
 
-  answers_agree : (text : List ℕ) (x y : Answer) → AnswersAudit change text x → AnswersAudit other text y → SameAudits x y
-  answers_agree text x y (a, one, is) (b, two, also) =
-      subst (λ (z : Answer). SameAudits z y) (sym is) (subst (λ (z : Answer). SameAudits (answer_to a) z) (sym also) (audits_agree text a b one two))
+  answers_agree : PlanIsOne → (text : List ℕ) (x y : Answer) → AnswersAudit change text x → AnswersAudit other text y → SameAudits x y
+  answers_agree one_plan text x y (a, one, is) (b, two, also) =
+      subst (λ (z : Answer). SameAudits z y) (sym is) (subst (λ (z : Answer). SameAudits (answer_to a) z) (sym also) (audits_agree one_plan text a b one two))
 
-  pub text_agrees : (steady : Bool) (text : List ℕ) (x : Answer) (r : Result Answer Refusal) → AnswersAudit change text x → AuditsText other text r → Agrees steady SameAudits (Ok x) r
+  pub text_agrees : PlanIsOne → (steady : Bool) (text : List ℕ) (x : Answer) (r : Result Answer Refusal) → AnswersAudit change text x → AuditsText other text r → Agrees steady SameAudits (Ok x) r
   unfolding AuditsText
-  text_agrees steady text x r one (y, two, is) = subst (λ (s : Result Answer Refusal). Agrees steady SameAudits (Ok x) s) (sym is) (answers_agree text x y one two)
+  text_agrees one_plan steady text x r one (y, two, is) = subst (λ (s : Result Answer Refusal). Agrees steady SameAudits (Ok x) s) (sym is) (answers_agree one_plan text x y one two)
 
 audited_so : (change : Loaded) (text : List ℕ) (x : Answer) → AnswersAudit change text x → AuditsText change text (Ok x)
 unfolding AuditsText
@@ -132,16 +138,16 @@ module _ (told steady : Bool) (holds : Option FilesByName) (before after locatio
       continued told steady SameLoaded SameAudits Change Next change (Err halt) given (text_alone change halt text).told_by
       (λ t other same x steps. (text_alone other halt text).alone t x steps)
 
-  next_agrees : SameIsOne → (change other : Loaded) (text : List ℕ) (answer : Answer) (y : Result (List ℕ) Refusal) (x : Result Answer Refusal) → SameLoaded change other
+  next_agrees : SameIsOne → PlanIsOne → (change other : Loaded) (text : List ℕ) (answer : Answer) (y : Result (List ℕ) Refusal) (x : Result Answer Refusal) → SameLoaded change other
       → AnswersAudit change text answer → Agrees steady Equals (Ok text) y → After (AuditsText other) y x → Agrees steady SameAudits (Ok answer) x
-  next_agrees one_for_all change other text answer (Ok bytes) x same answers is audits =
-      text_agrees one_for_all change other same steady text answer x answers (subst (λ (t : List ℕ). AuditsText other t x) (sym is) audits)
-  next_agrees one_for_all change other text answer (Err refusal) x same answers is audits = absurd is
+  next_agrees one_for_all one_plan change other text answer (Ok bytes) x same answers is audits =
+      text_agrees one_for_all change other same one_plan steady text answer x answers (subst (λ (t : List ℕ). AuditsText other t x) (sym is) audits)
+  next_agrees one_for_all one_plan change other text answer (Err refusal) x same answers is audits = absurd is
 
   -- all of it is read and audited
-  pub audited : SameIsOne → (change : Loaded) (text : List ℕ) (answer : Answer) → IsGiven told steady SameLoaded Change (Ok change) → IsGiven told steady Equals Text (Ok text)
+  pub audited : SameIsOne → PlanIsOne → (change : Loaded) (text : List ℕ) (answer : Answer) → IsGiven told steady SameLoaded Change (Ok change) → IsGiven told steady Equals Text (Ok text)
       → AnswersAudit change text answer → IsGiven told steady SameAudits Audited (Ok answer)
   unfolding Audits
-  audited one_for_all change text answer given bytes answers =
+  audited one_for_all one_plan change text answer given bytes answers =
       continued told steady SameLoaded SameAudits Change Next change (Ok answer) given (Ok text, bytes.told_by, audited_so change text answer answers)
-      (λ t other same x steps. next_agrees one_for_all change other text answer steps.0 x same answers (bytes.alone t steps.0 steps.1) steps.2)
+      (λ t other same x steps. next_agrees one_for_all one_plan change other text answer steps.0 x same answers (bytes.alone t steps.0 steps.1) steps.2)

@@ -16,6 +16,7 @@ use rela_inputs::{
     same_checks_are_equal,
 };
 use rela_io::Files;
+use rela_plan::plans_are_equal;
 use std::alloc::{AllocError, Global};
 
 /// Loads the change in the files of these names, as [`load_change`] does, then reads the
@@ -51,6 +52,7 @@ pub fn audit_files<F: Files>(
     let loaded = load_change(alloc, files, before, after, locations, spec)?;
     let text = read_input(alloc, files, Input::Certificate, certificate)?;
     same_checks_are_equal();
+    plans_are_equal();
     Ok(audit_loaded(alloc, &loaded, text.as_slice())?)
 }
 

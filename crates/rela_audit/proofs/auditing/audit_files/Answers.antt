@@ -32,7 +32,7 @@ returns-clause-given g c =
     let text = rw (c.in_ok-loaded.ensures.same_holds, c.in_ok-loaded.ensures.same_steady) at c.in_ok-text.ensures.given in
     let change = loaded_by c.in_ok-loaded.loaded in
     let answer = answer_by c.in_ok-audit_loaded.field-0 in
-    audited _ _ _ _ _ _ _ _ c.same_checks_are_equal.ensures.specified change c.in_ok-text.text.items answer c.in_ok-loaded.ensures.given text
+    audited _ _ _ _ _ _ _ _ c.same_checks_are_equal.ensures.specified c.plans_are_equal.ensures change c.in_ok-text.text.items answer c.in_ok-loaded.ensures.given text
     (subst (λ (bytes : List ℕ). AnswersAudit change bytes answer) c.as_slice.ensures.value c.in_ok-audit_loaded.ensures.audited)
 
 pub returns-clause-ends : goal.returns-clause-ends
