@@ -100,7 +100,8 @@ def refusing(it):
         for at, operand in enumerate(in_order[:-1]):
             rest, under = in_order[at + 1:], f"under {command.__name__}"
             found = it.run(*command(**{operand: "bad"}, **dict.fromkeys(rest, "none")))
-            it.ends(f"a faulty file as {operand} before missing ones, {under}", found, refused(operand, "11 NotJson"))
+            said = "32 Syntax at 0" if operand == "spec" else "11 NotJson"
+            it.ends(f"a faulty file as {operand} before missing ones, {under}", found, refused(operand, said))
             found = it.run(*command(**{operand: "none"}, **dict.fromkeys(rest, "bad")))
             it.ends(f"a missing file as {operand} before faulty ones, {under}", found, (5, b""))
     differ = {"before": "other-before", "after": "other-after"}
