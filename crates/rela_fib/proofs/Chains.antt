@@ -1,6 +1,6 @@
 -- Pieces that are put behind one another, and the flow of a class.
 use Rattle.std.proofs.Common.{◌≡◌, ◌∙◌, refl, sym, ap, subst, ℕ, ◌<◌, ◌≤◌, Bool, true, false, ltb-true, ltb-false, List, [], ◌∷◌, ◌++◌, length, append_assoc, arith}
-use Rattle.std.specs.Prelude.{codes, nat_lt, get_or, Result, Ok, Err, IfOk, OnOk}
+use Rattle.std.specs.Prelude.{codes, nat_lt, get_or, Option, Result, Ok, Err, IfOk, OnOk}
 use Rattle.std.proofs.lemmas.List.{get_or-map}
 use Rattle.json.specs.Print.{escape}
 use Rattle.rela_names.specs.declared.level.Level.TheVariants.{Interface}
@@ -11,11 +11,14 @@ use Rattle.rela_flows.specs.Notation.{text_of}
 use Rattle.rela_flows.specs.declared.prefix.Ipv4Prefix.{Ipv4Prefix}
 use Rattle.rela_flows.specs.declared.prefix.Prefix.TheVariants.{V4}
 use Rattle.rela_fib.specs.Graph.{Graph}
-use Rattle.rela_fib.specs.Steps.{AreStepsAt, graph_of}
-use Rattle.rela_fib.specs.Text.{Flow, edge_data, list_data, names_of, numbers_data}
-use Rattle.rela_fib.specs.Writing.{AddsFlow, HasManySteps, IsSteppedFlow, end_text, ends_text, flow_text, key_text, middle_text, plain_text}
+use Rattle.rela_fib.specs.Steps.{AreChoices, AreStepsWith, graph_of}
+use Rattle.rela_fib.specs.Text.{Flow, edge_data, list_data, names_of, number_data, numbers_data}
+use Rattle.rela_fib.specs.Writing.{AddsFlow, AreManySteps, HasManySteps, IsDrawnBy, IsTextOf, array_text, drawn_flow, end_text, ends_text, flow_text, key_text, middle_text, plain_text}
 use Rattle.rela_fib.specs.declared.devices.Devices.{Devices}
+use Rattle.rela_fib.specs.declared.graph.GraphText.{GraphText}
 use Rattle.rela_fib.specs.declared.step.Step.{Step}
+use Rattle.rela_fib.proofs.Arrays.{array_is}
+use Rattle.rela_fib.proofs.Steps.{steps_chosen}
 
 pub append2 : (t0 t1 t2 a b : List ℕ) → t1 ≡ t0 ++ a → t2 ≡ t1 ++ b → t2 ≡ t0 ++ (a ++ b)
 append2 t0 t1 t2 a b one two = two ∙ ap (λ (t : List ℕ). t ++ b) one ∙ append_assoc t0 a b
@@ -34,44 +37,48 @@ append6 t0 t1 t2 t3 t4 t5 t6 a b c d e f one two three four five six = append2 t
 
 -- ---- the flow of a class
 
-stepped_by : (d : Devices) (class : Ipv4Prefix) (steps : List Step) → AreStepsAt d class.address steps → nat_lt 100000 (length (graph_of steps).edges) ≡ false → IsSteppedFlow d (record { class = class; graph = graph_of steps })
-stepped_by d class steps are few = record { steps = steps; steps_are = are; graph_is = refl; few = ltb-false 100000 (length (graph_of steps).edges) few }
-
-pub flow_skipped : (d : Devices) (end : List ℕ) (class : Ipv4Prefix) (later : Bool) (text : List ℕ) (steps : List Step) → AreStepsAt d class.address steps → nat_lt 100000 (length (graph_of steps).edges) ≡ false → 33554432 < length text → AddsFlow d end class later text text
-flow_skipped d end class later text steps are few long = record {
+pub flow_skipped : (d : Devices) (end : List ℕ) (class : Ipv4Prefix) (later : Bool) (text : List ℕ) (choices : List (Option ℕ)) (steps : List Step) → AreChoices d.devices.items class.address choices → AreStepsWith d choices steps → length (graph_of steps).edges ≤ 100000
+    → 33554432 < length text → AddsFlow d end class later text text
+flow_skipped d end class later text choices steps chosen are few long = record {
   flow = record { class = class; graph = graph_of steps };
   class_is = refl;
-  stepped = stepped_by d class steps are few;
+  stepped = record { steps = steps; steps_are = steps_chosen d class.address choices steps chosen are; graph_is = refl; few = few };
   added = record { long = λ _. refl; short = λ short. absurd (omega (arith, long, short)) };
 }
 
-pub flow_added : (d : Devices) (end : List ℕ) (class : Ipv4Prefix) (later : Bool) (text comma new : List ℕ) (graph : Graph) (steps : List Step) → AreStepsAt d class.address steps → nat_lt 100000 (length (graph_of steps).edges) ≡ false → length text ≤ 33554432
-    → graph ≡ graph_of steps → comma ≡ text ++ comma_if later → new ≡ comma ++ flow_text end (record { class = class; graph = graph }) → AddsFlow d end class later text new
-flow_added d end class later text comma new graph steps are few short same one two = record {
-  flow = record { class = class; graph = graph_of steps };
-  class_is = refl;
-  stepped = stepped_by d class steps are few;
-  added = record {
-    long = λ long. absurd (omega (arith, long, short));
-    short = λ _. subst (λ (g : Graph). new ≡ text ++ (comma_if later ++ flow_text end (record { class = class; graph = g }))) same (append2 text comma new (comma_if later) (flow_text end (record { class = class; graph = graph })) one two);
-  };
-}
+flow_is : (end : List ℕ) (class : Ipv4Prefix) (graph : Graph) (text : GraphText) → IsTextOf graph text → drawn_flow end class text ≡ flow_text end (record { class = class; graph = graph })
+flow_is end class graph text is =
+    let delivered : array_text text.delivered.items ≡ compact_text (numbers_data graph.delivered) = ap array_text is.delivered ∙ array_is number_data graph.delivered in
+    let dropped : array_text text.dropped.items ≡ compact_text (numbers_data graph.dropped) = ap array_text is.dropped ∙ array_is number_data graph.dropped in
+    let edges : array_text text.edges.items ≡ compact_text (list_data edge_data graph.edges) = ap array_text is.edges ∙ array_is edge_data graph.edges in
+    ap (λ (s : List ℕ). ends_text s (array_text text.dropped.items) ++ (middle_text class (array_text text.edges.items) ++ end)) delivered
+    ∙ ap (λ (s : List ℕ). ends_text (compact_text (numbers_data graph.delivered)) s ++ (middle_text class (array_text text.edges.items) ++ end)) dropped
+    ∙ ap (λ (s : List ℕ). ends_text (compact_text (numbers_data graph.delivered)) (compact_text (numbers_data graph.dropped)) ++ (middle_text class s ++ end)) edges
 
-pub too_many_steps : (d : Devices) (class : Ipv4Prefix) (steps : List Step) → AreStepsAt d class.address steps → nat_lt 100000 (length (graph_of steps).edges) ≡ true → HasManySteps d class
-too_many_steps d class steps are many = record { steps = steps; steps_are = are; many = ltb-true 100000 (length (graph_of steps).edges) many }
+pub flow_added : (d : Devices) (end : List ℕ) (class : Ipv4Prefix) (later : Bool) (text comma new : List ℕ) (choices : List (Option ℕ)) (graph : GraphText) → AreChoices d.devices.items class.address choices → IsDrawnBy d choices graph → length text ≤ 33554432 → comma ≡ text ++ comma_if later
+    → new ≡ comma ++ drawn_flow end class graph → AddsFlow d end class later text new
+flow_added d end class later text comma new choices graph chosen is short one two =
+    let flow : Flow = record { class = class; graph = graph_of is.steps } in
+    record {
+      flow = flow;
+      class_is = refl;
+      stepped = record { steps = is.steps; steps_are = steps_chosen d class.address choices is.steps chosen is.steps_are; graph_is = refl; few = is.few };
+      added = record {
+        long = λ long. absurd (omega (arith, long, short));
+        short = λ _. append2 text comma new (comma_if later) (flow_text end flow) one (two ∙ ap (λ (s : List ℕ). comma ++ s) (flow_is end class (graph_of is.steps) graph is.text_is));
+      };
+    }
+
+pub too_many_steps : (d : Devices) (class : Ipv4Prefix) (choices : List (Option ℕ)) → AreChoices d.devices.items class.address choices → AreManySteps d choices → HasManySteps d class
+too_many_steps d class choices chosen is = record { steps = is.steps; steps_are = steps_chosen d class.address choices is.steps chosen is.steps_are; many = is.many }
+
+pub are_many : (d : Devices) (choices : List (Option ℕ)) (steps : List Step) → AreStepsWith d choices steps → nat_lt 100000 (length (graph_of steps).edges) ≡ true → AreManySteps d choices
+are_many d choices steps are many = record { steps = steps; steps_are = are; many = ltb-true 100000 (length (graph_of steps).edges) many }
+
+pub are_few : (steps : List Step) → nat_lt 100000 (length (graph_of steps).edges) ≡ false → length (graph_of steps).edges ≤ 100000
+are_few steps few = ltb-false 100000 (length (graph_of steps).edges) few
 
 -- ---- the parts of a flow
-
-pub ends_written : (t0 t1 t2 t3 t4 t5 ds ps : List ℕ) (g : Graph) → ds ≡ g.delivered → ps ≡ g.dropped → t1 ≡ t0 ++ 123 ∷ [] → t2 ≡ t1 ++ key_text false (codes "delivered") → t3 ≡ t2 ++ compact_text (numbers_data ds) → t4 ≡ t3 ++ key_text true (codes "dropped") → t5 ≡ t4 ++ compact_text (numbers_data ps) → t5 ≡ t0 ++ ends_text g
-ends_written t0 t1 t2 t3 t4 t5 ds ps g same_d same_p one two three four five =
-    append5 t0 t1 t2 t3 t4 t5 (123 ∷ []) (key_text false (codes "delivered")) (compact_text (numbers_data g.delivered)) (key_text true (codes "dropped")) (compact_text (numbers_data g.dropped)) one two
-    (three ∙ ap (λ (ns : List ℕ). t2 ++ compact_text (numbers_data ns)) same_d) four (five ∙ ap (λ (ns : List ℕ). t4 ++ compact_text (numbers_data ns)) same_p)
-
-pub middle_written : (t0 t1 t2 t3 t4 t5 t6 name name' : List ℕ) (es : List (ℕ × ℕ)) (flow : Flow) → name ≡ text_of (V4 flow.class) → name' ≡ text_of (V4 flow.class) → es ≡ flow.graph.edges
-    → t1 ≡ t0 ++ key_text true (codes "dst") → t2 ≡ t1 ++ plain_text name → t3 ≡ t2 ++ key_text true (codes "edges") → t4 ≡ t3 ++ compact_text (list_data edge_data es) → t5 ≡ t4 ++ key_text true (codes "name") → t6 ≡ t5 ++ plain_text name' → t6 ≡ t0 ++ middle_text flow
-middle_written t0 t1 t2 t3 t4 t5 t6 name name' es flow same same' edges one two three four five six =
-    append6 t0 t1 t2 t3 t4 t5 t6 (key_text true (codes "dst")) (plain_text (text_of (V4 flow.class))) (key_text true (codes "edges")) (compact_text (list_data edge_data flow.graph.edges)) (key_text true (codes "name")) (plain_text (text_of (V4 flow.class))) one
-    (two ∙ ap (λ (s : List ℕ). t1 ++ plain_text s) same) three (four ∙ ap (λ (xs : List (ℕ × ℕ)). t3 ++ compact_text (list_data edge_data xs)) edges) five (six ∙ ap (λ (s : List ℕ). t5 ++ plain_text s) same')
 
 pub end_written : (t0 t1 t2 t3 t4 t5 : List ℕ) (names : List (List ℕ)) (starts : List ℕ) → t0 ≡ [] → t1 ≡ t0 ++ key_text true (codes "nodes") → t2 ≡ t1 ++ compact_text (list_data string names) → t3 ≡ t2 ++ key_text true (codes "starts") → t4 ≡ t3 ++ compact_text (numbers_data starts) → t5 ≡ t4 ++ 125 ∷ [] → t5 ≡ end_text names starts
 end_written t0 t1 t2 t3 t4 t5 names starts none one two three four five =

@@ -1,9 +1,12 @@
 -- From what devices do by their routes to the graph for an address.
-use Rattle.std.proofs.Common.{◌≡◌, ◌∙◌, refl, sym, ap, subst, ℕ, zero, suc, ◌+◌, ◌<◌, ◌≤◌, Bool, true, false, cond, ne_eqb, lt-ltb, le-ltb, eqb-true, List, [], ◌∷◌, ◌++◌, length, map, get_or, take, drop, Option, Some, None, append_assoc, arith}
+use Rattle.std.proofs.Common.{◌≡◌, ◌∙◌, refl, sym, ap, subst, ℕ, zero, suc, ◌+◌, ◌-◌, ◌<◌, ◌≤◌, Bool, true, false, not, cond, ne_eqb, lt-ltb, le-ltb, eqb-true, List, [], ◌∷◌, ◌++◌, length, map, get_or, set, take, drop, replicate, Option, Some, None, append_assoc, arith}
 use Rattle.std.specs.Prelude.{slice_get, is_none, unwrap_or, option_map, nat_eq, nat_lt, ◌==◌}
+use Rattle.std.specs.Bool.{Decides}
 use Rattle.std.specs.List.{All, AllZip, Contains, list_any}
+use Rattle.std.specs.Option.{option_eq}
+use Rattle.std.proofs.lemmas.Bool.Decides.{Decides-eqb}
 use Rattle.std.proofs.lemmas.Option.{slice_get_within, slice_get_read, slice_get-map, same_Some}
-use Rattle.std.proofs.lemmas.List.{append-nil, get_or_default, length-append, length-map, map-append, take-append-drop, take_all, take_more}
+use Rattle.std.proofs.lemmas.List.{append-nil, get_or_default, length-append, length-map, map-append, set-get_or, take-append-drop, take_all, take_more}
 use Rattle.std.proofs.lemmas.List.Elements.{All-nil, All-cons}
 use Rattle.rela_flows.specs.declared.prefix.Ipv4Prefix.{Ipv4Prefix}
 use Rattle.rela_names.specs.declared.level.Level.TheVariants as level
@@ -16,7 +19,7 @@ use Rattle.rela_tables.specs.declared.route.Route.{Route}
 use Rattle.rela_fib.specs.Choices.{IsUniform}
 use Rattle.rela_fib.specs.Graph.{ArePlacesOf, Graph, IsGraphAt, chosen_hops, edges_from, edges_to, is_delivered, is_dropped, is_listed_empty, number_if, numbers_from}
 use Rattle.rela_fib.specs.Prefixes.{prefixes_of}
-use Rattle.rela_fib.specs.Steps.{AreDevices, ArePlaced, AreStepsAt, AreStepsOf, IsDevice, IsMatched, IsStep, IsStepAt, IsStepBy, IsStepOf, graph_of}
+use Rattle.rela_fib.specs.Steps.{AreChoices, AreDevices, ArePlaced, AreStepsAt, AreStepsWith, IsDevice, IsMatched, IsStep, IsStepAt, IsStepBy, IsStepOf, IsStepWith, AreWithin, IsWithin, graph_of}
 use Rattle.rela_fib.specs.declared.device.Device.{Device}
 use Rattle.rela_fib.specs.declared.devices.Devices.{Devices}
 use Rattle.rela_fib.specs.declared.step.Step.{Step}
@@ -72,6 +75,13 @@ zip_more {B = B} R xs ys ys' i x y lt is pushed h one =
 
 pub zip_more_seen : {A B C : Type 0} (R : A → B → Type 0) (view : C → B) (xs : List A) (ys ys' : List C) (i : ℕ) (x : A) (y : C) → i < length xs → x ≡ get_or xs i x → ys' ≡ ys ++ y ∷ [] → AllZip R (take i xs) (map view ys) → R x (view y) → AllZip R (take (i + 1) xs) (map view ys')
 zip_more_seen R view xs ys ys' i x y lt is pushed h one = zip_more R xs (map view ys) (map view ys') i x (view y) lt is (ap (map view) pushed ∙ map-append view ys (y ∷ [])) h one
+
+-- what holds at each place still does where one more is put behind
+pub at_push : {A : Type 0} (P : ℕ → A → Type 0) (xs : List A) (x : A) → ((k : ℕ) (y : A) → slice_get xs k ≡ Some y → P k y) → P (length xs) x → (k : ℕ) (y : A) → slice_get (xs ++ x ∷ []) k ≡ Some y → P k y
+at_push P [] x h one zero y at = subst (P 0) (same_Some x y at) one
+at_push P [] x h one (suc k) y at = absurd (cc)
+at_push P (z ∷ xs) x h one zero y at = h zero y at
+at_push P (z ∷ xs) x h one (suc k) y at = at_push (λ (k : ℕ) (y : _). P (suc k) y) xs x (λ k y at. h (suc k) y at) one k y at
 
 pub read_again : (xs : List ℕ) (i : ℕ) → i < length xs → get_or xs i 0 ≡ get_or xs i (get_or xs i 0)
 read_again xs i lt = get_or_default xs i 0 (get_or xs i 0) lt
@@ -223,21 +233,14 @@ numbers_push test k (d ∷ cs) c =
     ∙ sym (append_assoc (number_if (test d) k) (numbers_from test (k + 1) cs) (number_if (test c) (k + 1 + length cs)))
     ∙ ap (λ n. (number_if (test d) k ++ numbers_from test (k + 1) cs) ++ number_if (test c) n) (let e : k + 1 + length cs ≡ k + length (d ∷ cs) = omega arith in e)
 
-pub record IsGraphFrom (graph : Graph) (steps : List Step) : Type 0 where
-  pub edges : graph.edges ≡ edges_from 0 (map (λ (s : Step). s.next) steps)
-  pub delivered : graph.delivered ≡ numbers_from (λ (s : Step). s.is_delivered) 0 steps
-  pub dropped : graph.dropped ≡ numbers_from (λ (s : Step). s.is_dropped) 0 steps
-
-pub graph_more : (old new : Graph) (steps steps' : List Step) (s : Step) (k : ℕ) → steps' ≡ steps ++ s ∷ [] → k ≡ length steps → new.edges ≡ old.edges ++ edges_to k s.next → new.delivered ≡ old.delivered ++ number_if s.is_delivered k → new.dropped ≡ old.dropped ++ number_if s.is_dropped k → IsGraphFrom old steps → IsGraphFrom new steps'
-graph_more old new steps steps' s k is at edges delivered dropped g =
+pub edges_more : (steps steps' : List Step) (s : Step) (k : ℕ) → steps' ≡ steps ++ s ∷ [] → k ≡ length steps → (graph_of steps').edges ≡ (graph_of steps).edges ++ edges_to k s.next
+edges_more steps steps' s k is at =
     let next : List Step → List (List ℕ) = λ ss. map (λ (s : Step). s.next) ss in
-    let place : k ≡ 0 + length steps = omega (arith, at) in
-    let next_place : k ≡ 0 + length (next steps) = omega (arith, at, length-map steps (λ (s : Step). s.next)) in
-    rw is (record {
-      edges = edges ∙ ap (λ (es : List (ℕ × ℕ)). es ++ edges_to k s.next) g.edges ∙ ap (λ n. edges_from 0 (next steps) ++ edges_to n s.next) next_place ∙ sym (edges_push 0 (next steps) s.next) ∙ ap (edges_from 0) (sym (map-append (λ (s : Step). s.next) steps (s ∷ [])));
-      delivered = delivered ∙ ap (λ (ns : List ℕ). ns ++ number_if s.is_delivered k) g.delivered ∙ ap (λ n. numbers_from (λ (s : Step). s.is_delivered) 0 steps ++ number_if s.is_delivered n) place ∙ sym (numbers_push (λ (s : Step). s.is_delivered) 0 steps s);
-      dropped = dropped ∙ ap (λ (ns : List ℕ). ns ++ number_if s.is_dropped k) g.dropped ∙ ap (λ n. numbers_from (λ (s : Step). s.is_dropped) 0 steps ++ number_if s.is_dropped n) place ∙ sym (numbers_push (λ (s : Step). s.is_dropped) 0 steps s);
-    })
+    let place : 0 + length (next steps) ≡ k = omega (arith, at, length-map steps (λ (s : Step). s.next)) in
+    ap (λ (ss : List Step). edges_from 0 (next ss)) is ∙ ap (edges_from 0) (map-append (λ (s : Step). s.next) steps (s ∷ [])) ∙ edges_push 0 (next steps) s.next ∙ ap (λ n. edges_from 0 (next steps) ++ edges_to n s.next) place
+
+pub numbers_more : {A : Type 0} (test : A → Bool) (xs xs' : List A) (x : A) (k : ℕ) → xs' ≡ xs ++ x ∷ [] → k ≡ length xs → numbers_from test 0 xs' ≡ numbers_from test 0 xs ++ number_if (test x) k
+numbers_more test xs xs' x k is at = ap (numbers_from test 0) is ∙ numbers_push test 0 xs x ∙ ap (λ n. numbers_from test 0 xs ++ number_if (test x) n) (let e : 0 + length xs ≡ k = omega (arith, at) in e)
 
 -- ---- how many edges there are
 
@@ -292,21 +295,85 @@ pub longest_below : (ps : List Ipv4Prefix) (a k : ℕ) (r : Option ℕ) → r �
 unfolding LongestWanted
 longest_below ps a k r is h = let found : LongestWanted (λ p. Holds p a) ps (Some k) = subst (LongestWanted (λ p. Holds p a) ps) is h in slice_get_within ps k found.prefix found.at
 
-pub step_some : (d : Device) (a k : ℕ) (r : Option ℕ) (s : Step) → r ≡ Some k → Longest d.prefixes a r → length d.prefixes ≡ length d.steps.items → s ≡ get_or d.steps.items k s → IsStepAt d a s
-unfolding IsStepBy
-step_some d a k r s is h same read =
-    let lt : k < length d.steps.items = omega (arith, same, longest_below d.prefixes a k r is h) in
-    record { place = Some k; longest = subst (Longest d.prefixes a) is h; step_is = slice_get_read d.steps.items (length d.steps.items) k s refl lt read }
+pub within_longest : (d : Device) (a : ℕ) (r : Option ℕ) → Longest d.prefixes a r → length d.prefixes ≡ length d.steps.items → IsWithin d r
+within_longest d a None h same = tt
+within_longest d a (Some k) h same = omega (arith, same, longest_below d.prefixes a k (Some k) refl h)
 
-pub step_none : (d : Device) (a : ℕ) (r : Option ℕ) (s : Step) → r ≡ None → Longest d.prefixes a r → s ≡ d.otherwise → IsStepAt d a s
+pub step_some : (d : Device) (k : ℕ) (choice : Option ℕ) (s : Step) → choice ≡ Some k → IsWithin d choice → s ≡ get_or d.steps.items k s → IsStepBy d choice s
 unfolding IsStepBy
-step_none d a r s is h same = record { place = None; longest = subst (Longest d.prefixes a) is h; step_is = same }
+step_some d k choice s is within read =
+    let lt : k < length d.steps.items = subst (λ (o : Option ℕ). IsWithin d o) is within in
+    subst (λ (o : Option ℕ). IsStepBy d o s) (sym is) (slice_get_read d.steps.items (length d.steps.items) k s refl lt read)
 
-pub chosen_at : {X : Type 0} (view : X → Step) (d : Devices) (a place : ℕ) (chosen : List X) (y : X) → AreStepsOf a d.devices.items (map view chosen) → place < length chosen → y ≡ get_or chosen place y → IsStepOf d a place (view y)
-chosen_at view d a place chosen y h lt read =
-    let at : slice_get (map view chosen) place ≡ Some (view y) = slice_get-map view chosen place ∙ ap (option_map view) (slice_get_read chosen (length chosen) place y refl lt read) in
-    let back = zip_back (λ (device : Device) (step : Step). IsStepAt device a step) d.devices.items (map view chosen) place (view y) h at in
-    record { device = back.0; at = back.1; step_is = back.2 }
+pub step_none : (d : Device) (choice : Option ℕ) (s : Step) → choice ≡ None → s ≡ d.otherwise → IsStepBy d choice s
+unfolding IsStepBy
+step_none d choice s is same = subst (λ (o : Option ℕ). IsStepBy d o s) (sym is) same
+
+-- what is said of two lists side by side holds at a place
+pub zip_at : {A B : Type 0} (R : A → B → Type 0) (xs : List A) (ys : List B) (k : ℕ) (x : A) (y : B) → AllZip R xs ys → k < length xs → x ≡ get_or xs k x → y ≡ get_or ys k y → R x y
+zip_at R [] ys k x y h lt at_x at_y = absurd (omega (arith, lt))
+zip_at R (a ∷ xs) [] k x y h lt at_x at_y = absurd h
+zip_at R (a ∷ xs) (b ∷ ys) zero x y h lt at_x at_y = subst (λ c. R c y) (sym at_x) (subst (R a) (sym at_y) h.0)
+zip_at R (a ∷ xs) (b ∷ ys) (suc k) x y h lt at_x at_y = zip_at R xs ys k x y h.1 (omega (arith, lt)) at_x at_y
+
+pub step_with : (devices : List Device) (choices : List (Option ℕ)) (place : ℕ) (device : Device) (choice : Option ℕ) (step : Step) → place < length devices → place < length choices → device ≡ get_or devices place device → choice ≡ get_or choices place choice
+    → IsStepBy device choice step → IsStepWith devices choices place step
+step_with devices choices place device choice step lt lt' at_device at_choice by = record {
+  device = device;
+  choice = choice;
+  at = slice_get_read devices (length devices) place device refl lt at_device;
+  chosen = slice_get_read choices (length choices) place choice refl lt' at_choice;
+  step_is = by;
+}
+
+-- the steps by what the devices choose for an address
+pub steps_chosen : (d : Devices) (a : ℕ) (choices : List (Option ℕ)) (steps : List Step) → AreChoices d.devices.items a choices → AreStepsWith d choices steps → AreStepsAt d a steps
+steps_chosen d a choices steps chosen with_choices = zip_weaker (λ (place : ℕ) (step : Step). IsStepWith d.devices.items choices place step) (λ (place : ℕ) (step : Step). IsStepOf d a place step) one d.of_nodes.items steps with_choices
+  where
+    one : (place : ℕ) (step : Step) → IsStepWith d.devices.items choices place step → IsStepOf d a place step
+    one place step is =
+        let back = zip_back (λ (device : Device) (choice : Option ℕ). Longest device.prefixes a choice) d.devices.items choices place is.choice chosen is.chosen in
+        let same : back.0 ≡ is.device = same_Some back.0 is.device (sym back.1 ∙ is.at) in
+        record {
+          device = is.device;
+          at = is.at;
+          step_is = record { place = is.choice; longest = subst (λ (device : Device). Longest device.prefixes a is.choice) same back.2; step_is = is.step_is };
+        }
+
+-- ---- one choice more
+
+pub zip_set : {A B : Type 0} (R : A → B → Type 0) (xs : List A) (ys : List B) (i : ℕ) (x : A) (y : B) → i < length xs → x ≡ get_or xs i x → R x y → AllZip R xs ys → AllZip R xs (set ys i y)
+zip_set R [] ys i x y lt is one h = absurd (omega (arith, lt))
+zip_set R (a ∷ xs) [] i x y lt is one h = absurd h
+zip_set R (a ∷ xs) (b ∷ ys) zero x y lt is one h = (subst (λ z. R z y) is one, h.1)
+zip_set R (a ∷ xs) (b ∷ ys) (suc i) x y lt is one h = (h.0, zip_set R xs ys i x y (omega (arith, lt)) is one h.1)
+
+option_decides : (a b : Option ℕ) → Decides (option_eq nat_eq a b) (a ≡ b)
+option_decides None None = (λ _. refl, λ _. refl)
+option_decides None (Some y) = (λ e. absurd (cc), λ e. absurd (cc))
+option_decides (Some x) None = (λ e. absurd (cc), λ e. absurd (cc))
+option_decides (Some x) (Some y) = (λ e. ap Some ((Decides-eqb x y).0 e), λ e. (Decides-eqb x y).1 (let same : x ≡ y = cc in same))
+
+true_by_not : (b : Bool) → not b ≡ false → b ≡ true
+true_by_not true e = refl
+true_by_not false e = absurd (cc)
+
+-- a choice that is the same changes nothing
+pub same_choice : (choices : List (Option ℕ)) (i : ℕ) (choice : Option ℕ) (differs : Bool) → differs ≡ not (option_eq nat_eq (get_or choices i None) choice) → differs ≡ false → set choices i choice ≡ choices
+same_choice choices i choice differs is none =
+    let same : get_or choices i None ≡ choice = (option_decides (get_or choices i None) choice).0 (true_by_not (option_eq nat_eq (get_or choices i None) choice) (sym is ∙ none)) in
+    subst (λ (o : Option ℕ). set choices i o ≡ choices) same (set-get_or choices i None)
+
+no_route : (devices : List Device) → AreWithin devices (replicate (length devices) None)
+no_route [] = tt
+no_route (d ∷ devices) = (tt, no_route devices)
+
+pub none_within : (devices : List Device) (none choices : List (Option ℕ)) (count before : ℕ) → none ≡ [] → before ≡ 0 → count ≡ length devices → choices ≡ take count none ++ replicate (count - before) None → AreWithin devices choices
+none_within devices none choices count before empty start all is =
+    let nothing : take count none ≡ [] = ap (take count) empty ∙ take_all count [] (omega arith) in
+    let left : count - before ≡ length devices = omega (arith, start, all) in
+    let same : choices ≡ replicate (length devices) None = is ∙ ap (λ (cs : List (Option ℕ)). cs ++ replicate (count - before) None) nothing ∙ ap (λ n. replicate n None) left in
+    subst (AreWithin devices) (sym same) (no_route devices)
 
 -- ---- the places of devices
 

@@ -1,5 +1,5 @@
 -- What devices do with the packets to an address. Only the crate's private clauses cite it.
-use Rattle.std.specs.Prelude.{◌≡◌, ℕ, ◌<◌, List, length, map, slice_get, Option, Some, None}
+use Rattle.std.specs.Prelude.{◌≡◌, ℕ, ◌<◌, List, length, map, slice_get, Option, Some, None, IfSome}
 use Rattle.std.specs.List.{All, AllZip}
 use Rattle.rela_names.specs.declared.level.Level.TheVariants as level
 use Rattle.rela_locations.specs.Network.{Network, location_of}
@@ -11,7 +11,6 @@ use Rattle.rela_fib.specs.Graph.{ArePlacesOf, Graph, chosen_hops, edges_from, is
 use Rattle.rela_fib.specs.Prefixes.{prefixes_of}
 use Rattle.rela_fib.specs.declared.device.Device.{Device}
 use Rattle.rela_fib.specs.declared.devices.Devices.{Devices}
-use Rattle.rela_fib.specs.declared.graph.ForwardingGraph.{ForwardingGraph}
 use Rattle.rela_fib.specs.declared.step.Step.{Step}
 
 -- the step is what is done by this choice
@@ -41,9 +40,6 @@ pub record IsStepAt (device : Device) (a : ℕ) (step : Step) : Type 0 where
   pub longest : Longest device.prefixes a place
   pub step_is : IsStepBy device place step
 
-abbrev pub AreStepsOf : ℕ → List Device → List Step → Type 0
-AreStepsOf a devices steps = AllZip (λ device step. IsStepAt device a step) devices steps
-
 -- there is a step for each prefix
 abbrev pub AreMatched : List Device → Type 0
 AreMatched devices = All (λ device. length device.prefixes ≡ length device.steps.items) devices
@@ -61,6 +57,32 @@ pub record IsStepOf (d : Devices) (a place : ℕ) (step : Step) : Type 0 where
 -- what the device of each node does
 abbrev pub AreStepsAt : Devices → ℕ → List Step → Type 0
 AreStepsAt d a steps = AllZip (λ place step. IsStepOf d a place step) d.of_nodes.items steps
+
+-- each device chooses by the longest prefix that holds the address
+abbrev pub AreChoices : List Device → ℕ → List (Option ℕ) → Type 0
+AreChoices devices a choices = AllZip (λ device choice. Longest device.prefixes a choice)
+    devices choices
+
+-- the device has a step for the choice
+abbrev pub IsWithin : Device → Option ℕ → Type 0
+IsWithin device choice = IfSome choice (λ place. place < length device.steps.items)
+
+abbrev pub AreWithin : List Device → List (Option ℕ) → Type 0
+AreWithin devices choices = AllZip IsWithin devices choices
+
+-- the step of the device at a place, by the choice at that place
+pub record IsStepWith (devices : List Device) (choices : List (Option ℕ)) (place : ℕ)
+    (step : Step) : Type 0 where
+  pub device : Device
+  pub choice : Option ℕ
+  pub at : slice_get devices place ≡ Some device
+  pub chosen : slice_get choices place ≡ Some choice
+  pub step_is : IsStepBy device choice step
+
+-- what the device of each node does, where the devices make these choices
+abbrev pub AreStepsWith : Devices → List (Option ℕ) → List Step → Type 0
+AreStepsWith d choices steps = AllZip (λ place step. IsStepWith d.devices.items choices place step)
+    d.of_nodes.items steps
 
 -- the device of each node stands at its place among these
 abbrev pub ArePlaced : Network → List ℕ → List ℕ → List ℕ → Type 0
@@ -87,6 +109,3 @@ graph_of steps = record {
   delivered = numbers_from (λ (s : Step). s.is_delivered) 0 steps;
   dropped = numbers_from (λ (s : Step). s.is_dropped) 0 steps;
 }
-
-abbrev pub drawn : ForwardingGraph → Graph
-drawn g = record { edges = g.edges.items; delivered = g.delivered.items; dropped = g.dropped.items }

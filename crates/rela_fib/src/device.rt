@@ -3,8 +3,9 @@
 ghost use Rattle.std.specs.Prelude.{◌≡◌, ◌<◌, ◌^◌, IfOk, length, map};
 ghost use Rattle.std.specs.List.{AllZip};
 ghost use Rattle.std.specs.List.Sorted.{IsStrictlyIncreasing};
+ghost use Rattle.rela_prefixes.specs.Longest.{Longest};
 ghost use Rattle.rela_fib.specs.Prefixes.{prefixes_of};
-ghost use Rattle.rela_fib.specs.Steps.{IsDevice, IsStepAt, AreStepsBy};
+ghost use Rattle.rela_fib.specs.Steps.{AreStepsBy, IsDevice, IsStepBy, IsWithin};
 
 use crate::step::Step;
 use rela_flows::Ipv4Prefix;
@@ -52,13 +53,22 @@ impl Device {
         })
     }
 
-    /// What the device does with the packets to an address, by the route with the longest prefix
-    /// that holds it. Time: logarithmic in the number of routes.
-    pub(crate) fn step(&self, address: u32) -> &Step
+    /// The index of the route with the longest prefix that holds an address, and `None` where no
+    /// prefix holds it. Time: logarithmic in the number of routes.
+    pub(crate) fn choice(&self, address: u32) -> Option<u32>
         requires { length self.now.prefixes ≡ length self.now.steps.items }
-        ensures { IsStepAt self.now address result.now }
+        ensures longest { Longest self.now.prefixes address result }
+        ensures within { IsWithin self.now result }
     {
-        match self.prefixes.longest(address) {
+        self.prefixes.longest(address)
+    }
+
+    /// What the device does where it makes this choice.
+    pub(crate) fn step(&self, choice: Option<u32>) -> &Step
+        requires { IsWithin self.now choice }
+        ensures { IsStepBy self.now choice result.now }
+    {
+        match choice {
             Some(place) => &self.steps[place as usize],
             None => &self.otherwise,
         }

@@ -1,12 +1,12 @@
 //! The devices that the nodes of a graph belong to.
 
-ghost use Rattle.std.specs.Prelude.{◌≡◌, ◌<◌, ◌≤◌, ◌^◌, IfOk, length, map, nat_eq};
+ghost use Rattle.std.specs.Prelude.{◌≡◌, ◌<◌, ◌≤◌, ◌^◌, false, IfOk, length, map, nat_eq};
 ghost use Rattle.std.specs.List.{All, AllZip, IsDistinct};
 ghost use Rattle.std.specs.List.Sorted.{IsStrictlyIncreasing};
 ghost use Rattle.rela_tables.specs.Distinct.{AreTables, devices_of};
 ghost use Rattle.rela_tables.specs.Forwarding.{routes_of};
 ghost use Rattle.rela_tables.specs.Located.{AreInterfaces};
-ghost use Rattle.rela_fib.specs.Steps.{AreDevices, AreDevicesAt, AreMatched, ArePlaced, AreStepsAt, AreStepsOf, IsMatched};
+ghost use Rattle.rela_fib.specs.Steps.{AreChoices, AreDevices, AreDevicesAt, AreMatched, ArePlaced, AreStepsWith, AreWithin, IsMatched, IsStepWith};
 
 use crate::device::Device;
 use crate::step::Step;
@@ -50,40 +50,59 @@ impl Devices {
         Ok(Devices { devices, of_nodes })
     }
 
-    /// What the device of each node does with the packets to an address. Each device chooses once.
-    /// Time: linear in the nodes, and logarithmic in the number of routes of each device.
+    /// Makes each choice the one that its device makes for an address: the index of a route, and
+    /// `None` where it chooses none. Says whether one has changed. Time: logarithmic in the number
+    /// of routes of each device.
+    pub(crate) fn choose(&self, address: u32, choices: &mut [Option<u32>]) -> bool
+        requires matched { AreMatched self.now.devices.items }
+        requires within { AreWithin self.now.devices.items choices.old }
+        ensures chosen { AreChoices self.now.devices.items address choices.new }
+        ensures within { AreWithin self.now.devices.items choices.new }
+        ensures kept { result ≡ false → choices.new ≡ choices.old }
+    {
+        let mut is_changed = false;
+        for (place, device) in self.devices.iter().enumerate() {
+            let choice = device.choice(address);
+            if choices[place] != choice {
+                is_changed = true;
+            }
+            choices[place] = choice;
+        }
+        is_changed
+    }
+
+    /// What the device of each node does, where the devices make these choices. Time: linear in the
+    /// nodes.
     ///
     /// # Errors
     ///
     /// Only where memory is wanted.
-    pub(crate) fn steps(&self, alloc: Global, address: u32) -> Result<Vec<&Step>, AllocError>
-        requires { IsMatched self.now }
+    pub(crate) fn steps(
+        &self,
+        alloc: Global,
+        choices: &[Option<u32>],
+    ) -> Result<Vec<&Step>, AllocError>
+        requires matched { IsMatched self.now }
+        requires within { AreWithin self.now.devices.items choices.now }
         ensures { IfOk result (λ steps.
-            AreStepsAt self.now address (map (λ s. s.now) steps.items)) }
+            AreStepsWith self.now choices.now (map (λ s. s.now) steps.items)) }
     {
-        let chosen = steps_of(alloc, self.devices.as_slice(), address)?;
+        let devices = self.devices.as_slice();
         let mut steps = Vec::with_capacity(alloc, self.of_nodes.len())?;
         for place in &self.of_nodes {
-            steps.push(chosen[*place as usize])?;
+            steps.push(step_at(devices, choices, *place as usize))?;
         }
         Ok(steps)
     }
 }
 
-/// What each device does with the packets to an address, in the order of the devices.
-fn steps_of<'a>(
-    alloc: Global,
-    devices: &'a [Device],
-    address: u32,
-) -> Result<Vec<&'a Step>, AllocError>
-    requires { AreMatched devices.now }
-    ensures { IfOk result (λ steps. AreStepsOf address devices.now (map (λ s. s.now) steps.items)) }
+/// What the device at a place does, by the choice at that place.
+fn step_at<'d>(devices: &'d [Device], choices: &[Option<u32>], place: usize) -> &'d Step
+    requires within { AreWithin devices.now choices.now }
+    requires place { place < length devices.now }
+    ensures { IsStepWith devices.now choices.now place result.now }
 {
-    let mut steps = Vec::with_capacity(alloc, devices.len())?;
-    for device in devices {
-        steps.push(device.step(address))?;
-    }
-    Ok(steps)
+    devices[place].step(choices[place])
 }
 
 /// The symbols of the devices of these nodes, each once, and for each node the index of its device

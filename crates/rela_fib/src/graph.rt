@@ -1,46 +1,61 @@
 //! The graph on which the packets to an address are forwarded.
 
-ghost use Rattle.std.specs.Prelude.{◌≡◌, ◌<◌, ◌≤◌, ◌^◌, ◌++◌, IfOk, OnOk, length, map, nat_lt};
+ghost use Rattle.std.specs.Prelude.{◌≡◌, ◌<◌, ◌≤◌, ◌^◌, ◌++◌, OnOk, length, map, nat_lt};
 ghost use Rattle.rela_fib.specs.Graph.{edges_to, number_if};
-ghost use Rattle.rela_fib.specs.Steps.{drawn, graph_of};
+ghost use Rattle.rela_fib.specs.Steps.{graph_of};
+ghost use Rattle.rela_fib.specs.Text.{edge_data, number_data};
+ghost use Rattle.rela_fib.specs.Writing.{AreNumerals, IsTextOf, entries_text};
 
+use crate::numerals::{Numeral, push_closing, push_entry, push_opening};
 use crate::step::Step;
 use std::alloc::{AllocError, Global};
 
 /// The greatest number of edges of a graph.
 pub(crate) const MAX_EDGES: usize = 100_000;
 
-/// A graph, whose nodes are named by their indexes in a list.
+/// The text of a graph, whose nodes are named by their indexes in a list: the entries of its
+/// arrays, each with a comma before it.
 #[derive(Drop)]
-pub(crate) struct ForwardingGraph {
+pub(crate) struct GraphText {
     /// The edges, in the order of their first nodes and then of their second ones.
-    pub(crate) edges: Vec<(u32, u32)>,
+    pub(crate) edges: Vec<u8>,
     /// The nodes where packets are delivered, ascending.
-    pub(crate) delivered: Vec<u32>,
+    pub(crate) delivered: Vec<u8>,
     /// The nodes where packets are dropped, ascending.
-    pub(crate) dropped: Vec<u32>,
+    pub(crate) dropped: Vec<u8>,
 }
 
-/// The graph of the nodes whose devices take these steps. Time and space: linear in its size.
-///
-/// # Errors
-///
-/// Only where memory is wanted.
-pub(crate) fn graph_of(alloc: Global, steps: &[&Step]) -> Result<ForwardingGraph, AllocError>
-    requires { length steps.now < 2 ^ 32 }
-    ensures { IfOk result (λ graph. drawn graph ≡ graph_of (map (λ s. s.now) steps.now)) }
-{
-    let mut graph = ForwardingGraph {
-        edges: Vec::new(alloc),
-        delivered: Vec::new(alloc),
-        dropped: Vec::new(alloc),
-    };
-    for (place, step) in steps.iter().enumerate() {
-        push_edges(&mut graph.edges, place as u32, step.next.as_slice())?;
-        push_if(&mut graph.delivered, step.is_delivered, place as u32)?;
-        push_if(&mut graph.dropped, step.is_dropped, place as u32)?;
+impl GraphText {
+    /// The text of nothing.
+    pub(crate) fn new(alloc: Global) -> GraphText {
+        GraphText {
+            edges: Vec::new(alloc),
+            delivered: Vec::new(alloc),
+            dropped: Vec::new(alloc),
+        }
     }
-    Ok(graph)
+
+    /// Writes the graph of the nodes whose devices take these steps, in place of what was written.
+    /// Time: linear in the steps and the text.
+    ///
+    /// # Errors
+    ///
+    /// Only where memory is wanted.
+    pub(crate) fn write(&mut self, numerals: &[Numeral], steps: &[&Step]) -> Result<(), AllocError>
+        requires few { length steps.now < 2 ^ 32 }
+        requires numerals { AreNumerals numerals.now }
+        ensures { OnOk result (IsTextOf (graph_of (map (λ s. s.now) steps.now)) self.new) }
+    {
+        self.edges.clear();
+        self.delivered.clear();
+        self.dropped.clear();
+        for (place, step) in steps.iter().enumerate() {
+            push_edges(&mut self.edges, numerals, place as u32, step.next.as_slice())?;
+            push_if(&mut self.delivered, step.is_delivered, numerals, place as u32)?;
+            push_if(&mut self.dropped, step.is_dropped, numerals, place as u32)?;
+        }
+        Ok(())
+    }
 }
 
 /// Whether the graph of the nodes whose devices take these steps has more than 100,000 edges. Time:
@@ -59,22 +74,37 @@ pub(crate) fn has_many_edges(steps: &[&Step]) -> bool
     false
 }
 
-/// Adds the edges from a node to others.
-fn push_edges(edges: &mut Vec<(u32, u32)>, from: u32, to: &[u32]) -> Result<(), AllocError>
-    ensures { OnOk result (edges.new.items ≡ edges.old.items ++ edges_to from to.now) }
+/// Adds the edges from a node to others, each with a comma before it.
+fn push_edges(
+    text: &mut Vec<u8>,
+    numerals: &[Numeral],
+    from: u32,
+    to: &[u32],
+) -> Result<(), AllocError>
+    requires { AreNumerals numerals.now }
+    ensures { OnOk result (text.new.items
+        ≡ text.old.items ++ entries_text edge_data (edges_to from to.now)) }
 {
     for place in to {
-        edges.push((from, *place))?;
+        push_opening(text, numerals, from)?;
+        push_closing(text, numerals, *place)?;
     }
     Ok(())
 }
 
-/// Adds a number, if it passes.
-fn push_if(numbers: &mut Vec<u32>, passes: bool, number: u32) -> Result<(), AllocError>
-    ensures { OnOk result (numbers.new.items ≡ numbers.old.items ++ number_if passes number) }
+/// Adds a number with a comma before it, if it passes.
+fn push_if(
+    text: &mut Vec<u8>,
+    passes: bool,
+    numerals: &[Numeral],
+    number: u32,
+) -> Result<(), AllocError>
+    requires { AreNumerals numerals.now }
+    ensures { OnOk result (text.new.items
+        ≡ text.old.items ++ entries_text number_data (number_if passes number)) }
 {
     if passes {
-        numbers.push(number)?;
+        push_entry(text, numerals, number)?;
     }
     Ok(())
 }

@@ -5,10 +5,12 @@
 mod classes;
 mod device;
 mod devices;
+mod drawing;
 mod error;
 mod graph;
 mod nodes;
 mod numbers;
+mod numerals;
 mod pieces;
 mod places;
 mod snapshot;

@@ -7,8 +7,8 @@ ghost use Rattle.serde_json.specs.Written.{comma_if, compact_text};
 ghost use Rattle.rela_names.specs.Alphabet.{IsAlphabet};
 ghost use Rattle.rela_names.specs.declared.level.Level.TheVariants.{Interface};
 ghost use Rattle.rela_locations.specs.Network.{alphabet_of};
-ghost use Rattle.rela_fib.specs.Text.{edge_data, list_data, names_of, numbers_data};
-ghost use Rattle.rela_fib.specs.Writing.{key_text, plain_text};
+ghost use Rattle.rela_fib.specs.Text.{list_data, names_of, numbers_data};
+ghost use Rattle.rela_fib.specs.Writing.{array_text, key_text, plain_text};
 
 use rela_locations::Locations;
 use rela_names::{Alphabet, Level, Symbol};
@@ -45,7 +45,7 @@ pub(crate) fn push_plain(text: &mut Vec<u8>, string: &[u8]) -> Result<(), AllocE
 }
 
 /// Adds a number in decimal.
-fn push_number(text: &mut Vec<u8>, number: u32) -> Result<(), AllocError>
+pub(crate) fn push_number(text: &mut Vec<u8>, number: u32) -> Result<(), AllocError>
     ensures { OnOk result (text.new.items ≡ text.old.items ++ decimal number) }
 {
     let mut digits = itoa::Buffer::new();
@@ -66,27 +66,13 @@ pub(crate) fn push_numbers(text: &mut Vec<u8>, numbers: &[u32]) -> Result<(), Al
     Ok(())
 }
 
-/// Adds an array of two numbers: the node that an edge comes from, and the one that it leads to.
-fn push_edge(text: &mut Vec<u8>, edge: (u32, u32)) -> Result<(), AllocError>
-    ensures { OnOk result (text.new.items ≡ text.old.items ++ compact_text (edge_data edge)) }
+/// Adds an array of these entries, each of which has a comma before it.
+pub(crate) fn push_array(text: &mut Vec<u8>, entries: &[u8]) -> Result<(), AllocError>
+    ensures { OnOk result (text.new.items ≡ text.old.items ++ array_text entries.now) }
 {
     text.push(b'[')?;
-    push_number(text, edge.0)?;
-    text.push(b',')?;
-    push_number(text, edge.1)?;
-    text.push(b']')?;
-    Ok(())
-}
-
-/// Adds an array of edges.
-pub(crate) fn push_edges(text: &mut Vec<u8>, edges: &[(u32, u32)]) -> Result<(), AllocError>
-    ensures { OnOk result (text.new.items
-        ≡ text.old.items ++ compact_text (list_data edge_data edges.now)) }
-{
-    text.push(b'[')?;
-    for (place, edge) in edges.iter().enumerate() {
-        push_comma(text, place > 0)?;
-        push_edge(text, *edge)?;
+    if !entries.is_empty() {
+        text.extend_from_slice(&entries[1..])?;
     }
     text.push(b']')?;
     Ok(())

@@ -1,14 +1,15 @@
 //! The text of a snapshot, written flow after flow.
 
 ghost use Rattle.std.specs.Prelude.{◌≡◌, ◌≢◌, ◌<◌, ◌^◌, ◌++◌, Err, IfOk, OnOk, length};
-ghost use Rattle.rela_fib.specs.Steps.{IsMatched, drawn};
+ghost use Rattle.rela_fib.specs.Steps.{IsMatched};
 ghost use Rattle.rela_fib.specs.Text.{names_of};
-ghost use Rattle.rela_fib.specs.Writing.{AddsFlow, AddsFlows, HasManySteps, HasManyStepsIn, IsWhole, IsWholeTooLong, end_text, ends_text, flow_text, middle_text};
+ghost use Rattle.rela_fib.specs.Writing.{AddsFlow, AddsFlows, HasManySteps, HasManyStepsIn, IsDrawing, IsWhole, IsWholeTooLong, array_text, drawn_flow, end_text, ends_text, middle_text};
 
 use crate::devices::Devices;
+use crate::drawing::{Drawing, few_steps};
 use crate::error::FibError;
-use crate::graph::{ForwardingGraph, graph_of, has_many_edges};
-use crate::pieces::{push_comma, push_edges, push_key, push_names, push_numbers, push_plain};
+use crate::graph::GraphText;
+use crate::pieces::{push_array, push_comma, push_key, push_names, push_numbers, push_plain};
 use rela_flows::{Ipv4Prefix, Prefix};
 use rela_locations::Locations;
 use rela_names::Symbol;
@@ -68,8 +69,9 @@ fn push_flows(
     ensures too_many { result ≡ Err FibError.TooMany → HasManyStepsIn devices.now classes.now }
     ensures not_long { result ≢ Err FibError.TooLong }
 {
+    let mut drawing = Drawing::new(alloc, devices)?;
     for (place, class) in classes.iter().enumerate() {
-        push_class(alloc, text, devices, *class, place > 0, end)?;
+        push_class(alloc, text, devices, &mut drawing, *class, place > 0, end)?;
     }
     Ok(())
 }
@@ -84,27 +86,28 @@ fn push_class(
     alloc: Global,
     text: &mut Vec<u8>,
     devices: &Devices,
+    drawing: &mut Drawing,
     class: Ipv4Prefix,
     later: bool,
     end: &[u8],
 ) -> Result<(), FibError>
     requires matched { IsMatched devices.now }
     requires few { length devices.now.of_nodes.items < 2 ^ 32 }
+    requires drawing { IsDrawing devices.now drawing.old }
     ensures flow { OnOk result
         (AddsFlow devices.now end.now class later text.old.items text.new.items) }
+    ensures drawing { OnOk result (IsDrawing devices.now drawing.new) }
     ensures too_many { result ≡ Err FibError.TooMany → HasManySteps devices.now class }
     ensures not_long { result ≢ Err FibError.TooLong }
 {
-    let steps = devices.steps(alloc, class.address)?;
-    if has_many_edges(steps.as_slice()) {
-        return Err(FibError::TooMany);
-    }
+    drawing.choose(devices, class.address);
     if text.len() > MAX_BYTES {
+        few_steps(alloc, devices, drawing.choices.as_slice())?;
         return Ok(());
     }
-    let graph = graph_of(alloc, steps.as_slice())?;
+    drawing.draw(alloc, devices)?;
     push_comma(text, later)?;
-    push_flow(alloc, text, class, &graph, end)?;
+    push_flow(alloc, text, class, &drawing.graph, end)?;
     Ok(())
 }
 
@@ -113,27 +116,28 @@ fn push_flow(
     alloc: Global,
     text: &mut Vec<u8>,
     class: Ipv4Prefix,
-    graph: &ForwardingGraph,
+    graph: &GraphText,
     end: &[u8],
 ) -> Result<(), AllocError>
     ensures { OnOk result (text.new.items
-        ≡ text.old.items ++ flow_text end.now (record { class = class; graph = drawn graph.now })) }
+        ≡ text.old.items ++ drawn_flow end.now class graph.now) }
 {
     push_ends(text, graph)?;
-    push_middle(alloc, text, class, graph)?;
+    push_middle(alloc, text, class, graph.edges.as_slice())?;
     text.extend_from_slice(end)?;
     Ok(())
 }
 
 /// Adds the brace that begins a flow, and the lists of nodes that deliver and that drop.
-fn push_ends(text: &mut Vec<u8>, graph: &ForwardingGraph) -> Result<(), AllocError>
-    ensures { OnOk result (text.new.items ≡ text.old.items ++ ends_text (drawn graph.now)) }
+fn push_ends(text: &mut Vec<u8>, graph: &GraphText) -> Result<(), AllocError>
+    ensures { OnOk result (text.new.items ≡ text.old.items
+        ++ ends_text (array_text graph.now.delivered.items) (array_text graph.now.dropped.items)) }
 {
     text.push(b'{')?;
     push_key(text, false, b"delivered")?;
-    push_numbers(text, graph.delivered.as_slice())?;
+    push_array(text, graph.delivered.as_slice())?;
     push_key(text, true, b"dropped")?;
-    push_numbers(text, graph.dropped.as_slice())?;
+    push_array(text, graph.dropped.as_slice())?;
     Ok(())
 }
 
@@ -142,16 +146,16 @@ fn push_middle(
     alloc: Global,
     text: &mut Vec<u8>,
     class: Ipv4Prefix,
-    graph: &ForwardingGraph,
+    edges: &[u8],
 ) -> Result<(), AllocError>
     ensures { OnOk result (text.new.items
-        ≡ text.old.items ++ middle_text (record { class = class; graph = drawn graph.now })) }
+        ≡ text.old.items ++ middle_text class (array_text edges.now)) }
 {
     let name = Prefix::V4(class).text(alloc)?;
     push_key(text, true, b"dst")?;
     push_plain(text, name.as_slice())?;
     push_key(text, true, b"edges")?;
-    push_edges(text, graph.edges.as_slice())?;
+    push_array(text, edges)?;
     push_key(text, true, b"name")?;
     push_plain(text, name.as_slice())?;
     Ok(())

@@ -1,12 +1,15 @@
-use Rattle.std.proofs.Common.{arith, refl}
-use Rattle.rela_fib.proofs.Steps.{longest_below, step_none, step_some}
+use Rattle.std.proofs.Common.{◌<◌, ℕ, Option, arith, length, refl, subst}
+use Rattle.rela_fib.specs.Steps.{IsWithin}
+use Rattle.rela_fib.proofs.Steps.{step_none, step_some}
 use Rattle.rela_fib.proofs.device.Device.step.Goals as goal
 
 pub index-requires : goal.index-requires
-index-requires c = omega (arith, longest_below c.args.self.now.prefixes c.args.address c.in-Some.place c.longest.result c.in-Some.is c.longest.ensures, c.requires, c.args.self.now.steps.ok.0)
+index-requires c =
+    let lt : c.in-Some.place < length c.args.self.now.steps.items = subst (λ (o : Option ℕ). IsWithin c.args.self.now o) c.in-Some.is c.requires in
+    omega (arith, lt, c.args.self.now.steps.ok.0)
 
 pub returns-in-Some : goal.returns-in-Some
-returns-in-Some c = step_some c.args.self.now c.args.address c.in-Some.place c.longest.result c.index.result.now c.in-Some.is c.longest.ensures c.requires c.index.ensures
+returns-in-Some c = step_some c.args.self.now c.in-Some.place c.args.choice c.index.result.now c.in-Some.is c.requires c.index.ensures
 
 pub returns-in-None : goal.returns-in-None
-returns-in-None c = step_none c.args.self.now c.args.address c.longest.result c.args.self.now.otherwise c.in-None.is c.longest.ensures refl
+returns-in-None c = step_none c.args.self.now c.args.choice c.args.self.now.otherwise c.in-None.is refl
