@@ -85,10 +85,7 @@ pub array_is : {A : Type 0} (data_of : A → Data) (xs : List A) → array_text 
 array_is data_of [] = refl
 array_is data_of (x ∷ xs) = sym (list_is data_of (x ∷ xs))
 
--- a number, and an edge
-pub number_entry : (k : ℕ) → entries_text number_data (k ∷ []) ≡ 44 ∷ decimal k
-number_entry k = ap (λ (s : List ℕ). 44 ∷ s) (append-nil (decimal k))
-
+-- an edge
 edge_entry : (from to : ℕ) → entries_text edge_data ((from, to) ∷ []) ≡ 44 ∷ 91 ∷ (decimal from ++ 44 ∷ (decimal to ++ 93 ∷ []))
 edge_entry from to = ap (λ (s : List ℕ). 44 ∷ s) (append-nil (compact_text (edge_data (from, to))))
 

@@ -1,5 +1,5 @@
 -- Pieces that are put behind one another, and the flow of a class.
-use Rattle.std.proofs.Common.{◌≡◌, ◌∙◌, refl, sym, ap, subst, ℕ, ◌<◌, ◌≤◌, Bool, true, false, ltb-true, ltb-false, List, [], ◌∷◌, ◌++◌, length, append_assoc, arith}
+use Rattle.std.proofs.Common.{◌≡◌, ◌∙◌, refl, sym, ap, ℕ, ◌<◌, ◌≤◌, Bool, true, false, ltb-true, ltb-false, List, [], ◌∷◌, ◌++◌, length, append_assoc, arith}
 use Rattle.std.specs.Prelude.{codes, nat_lt, get_or, Option, Result, Ok, Err, IfOk, OnOk}
 use Rattle.std.proofs.lemmas.List.{get_or-map}
 use Rattle.json.specs.Print.{escape}
@@ -7,9 +7,7 @@ use Rattle.rela_names.specs.declared.level.Level.TheVariants.{Interface}
 use Rattle.rela_locations.specs.Network.{Network, alphabet_of, name_of}
 use Rattle.serde_json.specs.Data.{string}
 use Rattle.serde_json.specs.Written.{comma_if, compact_text}
-use Rattle.rela_flows.specs.Notation.{text_of}
 use Rattle.rela_flows.specs.declared.prefix.Ipv4Prefix.{Ipv4Prefix}
-use Rattle.rela_flows.specs.declared.prefix.Prefix.TheVariants.{V4}
 use Rattle.rela_fib.specs.Graph.{Graph}
 use Rattle.rela_fib.specs.Steps.{AreChoices, AreStepsWith, graph_of}
 use Rattle.rela_fib.specs.Text.{Flow, edge_data, list_data, names_of, number_data, numbers_data}
@@ -22,18 +20,6 @@ use Rattle.rela_fib.proofs.Steps.{steps_chosen}
 
 pub append2 : (t0 t1 t2 a b : List ℕ) → t1 ≡ t0 ++ a → t2 ≡ t1 ++ b → t2 ≡ t0 ++ (a ++ b)
 append2 t0 t1 t2 a b one two = two ∙ ap (λ (t : List ℕ). t ++ b) one ∙ append_assoc t0 a b
-
-pub append3 : (t0 t1 t2 t3 a b c : List ℕ) → t1 ≡ t0 ++ a → t2 ≡ t1 ++ b → t3 ≡ t2 ++ c → t3 ≡ t0 ++ (a ++ (b ++ c))
-append3 t0 t1 t2 t3 a b c one two three = append2 t0 t1 t3 a (b ++ c) one (append2 t1 t2 t3 b c two three)
-
-pub append4 : (t0 t1 t2 t3 t4 a b c d : List ℕ) → t1 ≡ t0 ++ a → t2 ≡ t1 ++ b → t3 ≡ t2 ++ c → t4 ≡ t3 ++ d → t4 ≡ t0 ++ (a ++ (b ++ (c ++ d)))
-append4 t0 t1 t2 t3 t4 a b c d one two three four = append2 t0 t1 t4 a (b ++ (c ++ d)) one (append3 t1 t2 t3 t4 b c d two three four)
-
-pub append5 : (t0 t1 t2 t3 t4 t5 a b c d e : List ℕ) → t1 ≡ t0 ++ a → t2 ≡ t1 ++ b → t3 ≡ t2 ++ c → t4 ≡ t3 ++ d → t5 ≡ t4 ++ e → t5 ≡ t0 ++ (a ++ (b ++ (c ++ (d ++ e))))
-append5 t0 t1 t2 t3 t4 t5 a b c d e one two three four five = append2 t0 t1 t5 a (b ++ (c ++ (d ++ e))) one (append4 t1 t2 t3 t4 t5 b c d e two three four five)
-
-pub append6 : (t0 t1 t2 t3 t4 t5 t6 a b c d e f : List ℕ) → t1 ≡ t0 ++ a → t2 ≡ t1 ++ b → t3 ≡ t2 ++ c → t4 ≡ t3 ++ d → t5 ≡ t4 ++ e → t6 ≡ t5 ++ f → t6 ≡ t0 ++ (a ++ (b ++ (c ++ (d ++ (e ++ f)))))
-append6 t0 t1 t2 t3 t4 t5 t6 a b c d e f one two three four five six = append2 t0 t1 t6 a (b ++ (c ++ (d ++ (e ++ f)))) one (append5 t1 t2 t3 t4 t5 t6 b c d e f two three four five six)
 
 -- ---- the flow of a class
 
@@ -77,13 +63,6 @@ are_many d choices steps are many = record { steps = steps; steps_are = are; man
 
 pub are_few : (steps : List Step) → nat_lt 100000 (length (graph_of steps).edges) ≡ false → length (graph_of steps).edges ≤ 100000
 are_few steps few = ltb-false 100000 (length (graph_of steps).edges) few
-
--- ---- the parts of a flow
-
-pub end_written : (t0 t1 t2 t3 t4 t5 : List ℕ) (names : List (List ℕ)) (starts : List ℕ) → t0 ≡ [] → t1 ≡ t0 ++ key_text true (codes "nodes") → t2 ≡ t1 ++ compact_text (list_data string names) → t3 ≡ t2 ++ key_text true (codes "starts") → t4 ≡ t3 ++ compact_text (numbers_data starts) → t5 ≡ t4 ++ 125 ∷ [] → t5 ≡ end_text names starts
-end_written t0 t1 t2 t3 t4 t5 names starts none one two three four five =
-    append5 t0 t1 t2 t3 t4 t5 (key_text true (codes "nodes")) (compact_text (list_data string names)) (key_text true (codes "starts")) (compact_text (numbers_data starts)) (125 ∷ []) one two three four five
-    ∙ ap (λ (t : List ℕ). t ++ end_text names starts) none
 
 -- ---- the name of a node
 

@@ -1,11 +1,11 @@
 -- From what devices do by their routes to the graph for an address.
 use Rattle.std.proofs.Common.{◌≡◌, ◌∙◌, refl, sym, ap, subst, ℕ, zero, suc, ◌+◌, ◌-◌, ◌<◌, ◌≤◌, Bool, true, false, not, cond, ne_eqb, lt-ltb, le-ltb, eqb-true, List, [], ◌∷◌, ◌++◌, length, map, get_or, set, take, drop, replicate, Option, Some, None, append_assoc, arith}
-use Rattle.std.specs.Prelude.{slice_get, is_none, unwrap_or, option_map, nat_eq, nat_lt, ◌==◌}
+use Rattle.std.specs.Prelude.{slice_get, is_none, unwrap_or, nat_eq, nat_lt, ◌==◌}
 use Rattle.std.specs.Bool.{Decides}
 use Rattle.std.specs.List.{All, AllZip, Contains, list_any}
 use Rattle.std.specs.Option.{option_eq}
 use Rattle.std.proofs.lemmas.Bool.Decides.{Decides-eqb}
-use Rattle.std.proofs.lemmas.Option.{slice_get_within, slice_get_read, slice_get-map, same_Some}
+use Rattle.std.proofs.lemmas.Option.{slice_get_within, slice_get_read, same_Some}
 use Rattle.std.proofs.lemmas.List.{append-nil, get_or_default, length-append, length-map, map-append, set-get_or, take-append-drop, take_all, take_more}
 use Rattle.std.proofs.lemmas.List.Elements.{All-nil, All-cons}
 use Rattle.rela_flows.specs.declared.prefix.Ipv4Prefix.{Ipv4Prefix}

@@ -74,7 +74,7 @@ end_text names starts =
 abbrev pub flow_text : List ℕ → Flow → List ℕ
 flow_text end flow =
     ends_text (compact_text (numbers_data flow.graph.delivered))
-        (compact_text (numbers_data flow.graph.dropped))
+    (compact_text (numbers_data flow.graph.dropped))
     ++ (middle_text flow.class (compact_text (list_data edge_data flow.graph.edges)) ++ end)
 
 -- the same, from the text of the graph

@@ -76,7 +76,8 @@ impl Drawing {
     {
         if !self.is_drawn {
             let steps = few_steps(alloc, devices, self.choices.as_slice())?;
-            self.graph.write(self.numerals.as_slice(), steps.as_slice())?;
+            self.graph
+                .write(self.numerals.as_slice(), steps.as_slice())?;
             self.is_drawn = true;
         }
         Ok(())

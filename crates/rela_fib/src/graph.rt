@@ -50,8 +50,18 @@ impl GraphText {
         self.delivered.clear();
         self.dropped.clear();
         for (place, step) in steps.iter().enumerate() {
-            push_edges(&mut self.edges, numerals, place as u32, step.next.as_slice())?;
-            push_if(&mut self.delivered, step.is_delivered, numerals, place as u32)?;
+            push_edges(
+                &mut self.edges,
+                numerals,
+                place as u32,
+                step.next.as_slice(),
+            )?;
+            push_if(
+                &mut self.delivered,
+                step.is_delivered,
+                numerals,
+                place as u32,
+            )?;
             push_if(&mut self.dropped, step.is_dropped, numerals, place as u32)?;
         }
         Ok(())

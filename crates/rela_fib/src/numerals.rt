@@ -54,7 +54,11 @@ fn numeral_of(alloc: Global, number: u32) -> Result<Numeral, AllocError>
 }
 
 /// Adds a number with a comma before it: of its numeral, if there is one.
-pub(crate) fn push_entry(text: &mut Vec<u8>, numerals: &[Numeral], number: u32) -> Result<(), AllocError>
+pub(crate) fn push_entry(
+    text: &mut Vec<u8>,
+    numerals: &[Numeral],
+    number: u32,
+) -> Result<(), AllocError>
     requires { AreNumerals numerals.now }
     ensures { OnOk result (text.new.items ≡ text.old.items ++ (44 ∷ decimal number)) }
 {
@@ -84,7 +88,11 @@ pub(crate) fn push_opening(
 }
 
 /// Adds how an edge to a node ends: of its numeral, if there is one.
-pub(crate) fn push_closing(text: &mut Vec<u8>, numerals: &[Numeral], to: u32) -> Result<(), AllocError>
+pub(crate) fn push_closing(
+    text: &mut Vec<u8>,
+    numerals: &[Numeral],
+    to: u32,
+) -> Result<(), AllocError>
     requires { AreNumerals numerals.now }
     ensures { OnOk result (text.new.items ≡ text.old.items ++ (44 ∷ (decimal to ++ 93 ∷ []))) }
 {

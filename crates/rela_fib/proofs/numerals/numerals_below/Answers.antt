@@ -1,4 +1,4 @@
-use Rattle.std.proofs.Common.{◌≡◌, ◌+◌, List, [], ◌∷◌, ap, arith, length, subst, sym}
+use Rattle.std.proofs.Common.{List, [], ◌∷◌, ap, arith, length, subst, sym}
 use Rattle.std.proofs.lemmas.List.{length-append}
 use Rattle.rela_fib.specs.Writing.{AreNumerals, IsNumeral}
 use Rattle.rela_fib.specs.declared.numerals.Numeral.{Numeral}

@@ -1,7 +1,7 @@
 use Rattle.std.proofs.Common.{◌≡◌, Bor, Err, List, Option, arith, map, subst, sym, ℕ}
 use Rattle.std.proofs.lemmas.Grind.{common_steps}
 use Rattle.rela_fib.specs.Steps.{AreChoices, AreStepsWith}
-use Rattle.rela_fib.specs.Writing.{AreManySteps, IsDrawnBy}
+use Rattle.rela_fib.specs.Writing.{AreManySteps}
 use Rattle.rela_fib.specs.declared.error.FibError.TheVariants.{TooMany}
 use Rattle.rela_fib.specs.declared.step.Step.{Step}
 use Rattle.rela_fib.proofs.Chains.{flow_added, flow_skipped, too_many_steps}

@@ -1,4 +1,4 @@
-use Rattle.std.proofs.Common.{◌<◌, ◌≡◌, ◌∙◌, Bor, ap, arith, ℕ, List, get_or, length, subst, sym}
+use Rattle.std.proofs.Common.{◌<◌, Bor, ap, arith, ℕ, List, get_or, length, subst, sym}
 use Rattle.rela_fib.specs.Steps.{AreWithin, IsStepWith}
 use Rattle.rela_fib.specs.declared.device.Device.{Device}
 use Rattle.rela_fib.specs.declared.step.Step.{Step}
