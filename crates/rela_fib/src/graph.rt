@@ -103,6 +103,7 @@ fn push_edges(
 }
 
 /// Adds a number with a comma before it, if it passes.
+#[inline]
 fn push_if(
     text: &mut Vec<u8>,
     passes: bool,

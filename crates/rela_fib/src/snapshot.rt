@@ -31,8 +31,9 @@ const MAX_FLOWS: usize = 10_000;
 /// text gives just these flows, each from any address and in the class `default`.
 ///
 /// Time: O(n log n) in the number of routes times the 32 bits of an address and in the number of
-/// hops, and linear in the text; space: linear in the same. For each class the nodes are passed
-/// once, and each of their devices chooses once, in time logarithmic in the number of its routes.
+/// hops, and linear in the text; space: linear in the same. For each class each device of a node
+/// chooses once, in time logarithmic in the number of its routes. The nodes are passed where one
+/// chooses another route than for the class before, or the text is too long already.
 ///
 /// # Errors
 ///
