@@ -1,6 +1,6 @@
 -- Pieces that are put behind one another, and the flow of a class.
 use Rattle.std.proofs.Common.{◌≡◌, ◌∙◌, refl, sym, ap, ℕ, ◌<◌, ◌≤◌, Bool, true, false, ltb-true, ltb-false, List, [], ◌∷◌, ◌++◌, length, append_assoc, arith}
-use Rattle.std.specs.Prelude.{codes, nat_lt, get_or, Option, Result, Ok, Err, IfOk, OnOk}
+use Rattle.std.specs.Prelude.{nat_lt, get_or, Option, Result, Ok, Err, IfOk, OnOk}
 use Rattle.std.proofs.lemmas.List.{get_or-map}
 use Rattle.json.specs.Print.{escape}
 use Rattle.rela_names.specs.declared.level.Level.TheVariants.{Interface}
@@ -11,7 +11,7 @@ use Rattle.rela_flows.specs.declared.prefix.Ipv4Prefix.{Ipv4Prefix}
 use Rattle.rela_fib.specs.Graph.{Graph}
 use Rattle.rela_fib.specs.Steps.{AreChoices, AreStepsWith, graph_of}
 use Rattle.rela_fib.specs.Text.{Flow, edge_data, list_data, names_of, number_data, numbers_data}
-use Rattle.rela_fib.specs.Writing.{AddsFlow, AreManySteps, HasManySteps, IsDrawnBy, IsTextOf, array_text, drawn_flow, end_text, ends_text, flow_text, key_text, middle_text, plain_text}
+use Rattle.rela_fib.specs.Writing.{AddsFlow, AreManySteps, HasManySteps, IsDrawnBy, IsTextOf, array_text, drawn_flow, ends_text, flow_text, middle_text, plain_text}
 use Rattle.rela_fib.specs.declared.devices.Devices.{Devices}
 use Rattle.rela_fib.specs.declared.graph.GraphText.{GraphText}
 use Rattle.rela_fib.specs.declared.step.Step.{Step}

@@ -53,7 +53,7 @@ fn numeral_of(alloc: Global, number: u32) -> Result<Numeral, AllocError>
     })
 }
 
-/// Adds a number with a comma before it: of its numeral, if there is one.
+/// Adds a number with a comma before it, copied from its numeral if it has one.
 pub(crate) fn push_entry(
     text: &mut Vec<u8>,
     numerals: &[Numeral],
@@ -70,7 +70,7 @@ pub(crate) fn push_entry(
     push_number(text, number)
 }
 
-/// Adds how an edge from a node begins: of its numeral, if there is one.
+/// Adds how an edge from a node begins, copied from the node's numeral if it has one.
 pub(crate) fn push_opening(
     text: &mut Vec<u8>,
     numerals: &[Numeral],
@@ -87,7 +87,7 @@ pub(crate) fn push_opening(
     push_number(text, from)
 }
 
-/// Adds how an edge to a node ends: of its numeral, if there is one.
+/// Adds how an edge to a node ends, copied from the node's numeral if it has one.
 pub(crate) fn push_closing(
     text: &mut Vec<u8>,
     numerals: &[Numeral],

@@ -19,8 +19,8 @@ use std::alloc::{AllocError, Global};
 const MAX_BYTES: usize = 33_554_432;
 
 /// The text of the snapshot that has a flow for each of these classes, which all end in `end`.
-/// Time: linear in the text, a choice of each device for each class, and a pass over the nodes where
-/// one of these changes or the text is too long already.
+/// Time: linear in the text, a choice of each device for each class, and a pass over the nodes
+/// where one of these changes or the text is too long already.
 ///
 /// # Errors
 ///
