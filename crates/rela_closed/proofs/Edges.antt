@@ -14,11 +14,11 @@ use Rattle.rela_closed.proofs.Targets.{Contains-nil}
 abbrev pub edge_of : List Bool → ℕ → Move
 edge_of label to = record { label = Some label; to = to }
 
-or_left : (a b : Bool) → a ≡ true → (a || b) ≡ true
+pub or_left : (a b : Bool) → a ≡ true → (a || b) ≡ true
 or_left true b e = refl
 or_left false b e = absurd (false≢true e)
 
-or_right : (a b : Bool) → b ≡ true → (a || b) ≡ true
+pub or_right : (a b : Bool) → b ≡ true → (a || b) ≡ true
 or_right true b e = refl
 or_right false b e = e
 
@@ -33,7 +33,7 @@ same_edge s label t to e = (same_some label s (ap (λ (m : Move). m.label) e), a
     same_some x y e = cc
 
 module _ (label : List Bool) (to : ℕ) (old new : List Move) (put : IsPutIn label to old new) where
-  put_old : (k t : ℕ) → StepIn old (Some k) t → StepIn new (Some k) t
+  pub put_old : (k t : ℕ) → StepIn old (Some k) t → StepIn new (Some k) t
   put_old k t (s, (j, below, at), in_s) = elim put [
     | inl pushed ↦ (s, subst (λ l. Contains l (edge_of s t)) (sym pushed) (Contains-append_left old (edge_of label to ∷ []) (edge_of s t) (j, below, at)), in_s)
     | inr (i, joined, i_in, is, ends, sized, either) ↦
@@ -56,7 +56,7 @@ module _ (label : List Bool) (to : ℕ) (old new : List Move) (put : IsPutIn lab
         ])
   ]
 
-  put_here : (k : ℕ) → has label k ≡ true → StepIn new (Some k) to
+  pub put_here : (k : ℕ) → has label k ≡ true → StepIn new (Some k) to
   put_here k in_label = elim put [
     | inl pushed ↦ (label, subst (λ l. Contains l (edge_of label to)) (sym pushed) (Contains-push old (edge_of label to)), in_label)
     | inr (i, joined, i_in, is, ends, sized, either) ↦
@@ -145,35 +145,34 @@ module _ (over : List Bool) (automata : List Automaton) (table : List (List (Lis
     moves = All-nil (IsMove (length over) (length table));
   }
 
-  -- a letter that isn't in the set
-  pub edges_skip : (k : ℕ) (out : List Move) → has over k ≡ false → AreEdges over automata table sets k out → AreEdges over automata table sets (k + 1) out
-  edges_skip k out no' are = record {
+  -- a letter by which an edge may be taken, or that isn't in the set
+  pub edges_skip : (k : ℕ) (out : List Move) → (has over k ≡ true → (to : ℕ) × StepIn out (Some k) to) → AreEdges over automata table sets k out → AreEdges over automata table sets (k + 1) out
+  edges_skip k out here are = record {
     labelled = are.labelled;
     sound = are.sound;
     all = λ j below read. elim (cases_lt j k) [
       | inl earlier ↦ are.all j earlier read
-      | inr last ↦ let here : j ≡ k = omega arith in absurd (false≢true (sym no' ∙ ap (has over) (sym here) ∙ read))
+      | inr last ↦ let same : k ≡ j = omega arith in subst (λ n. (to : ℕ) × StepIn out (Some n) to) same (here (subst (λ n. has over n ≡ true) (sym same) read))
     ];
     moves = are.moves;
   }
 
-  -- an edge by one letter more
-  pub edges_more : (k to : ℕ) (label : List Bool) (out out' : List Move) → has over k ≡ true → to < length table → Leads automata sets k (get_or table to [])
-      → length label ≡ length over → ((j : ℕ) → (has label j ≡ true) ↔ (j ≡ k)) → IsPutIn label to out out' → AreEdges over automata table sets k out → AreEdges over automata table sets (k + 1) out'
-  edges_more k to label out out' read below leads len just put are = record {
+  -- an edge by some letters more, of which k is one
+  pub edges_more : (k to : ℕ) (label : List Bool) (out out' : List Move) → to < length table → ((j : ℕ) → has label j ≡ true → (has over j ≡ true) × Leads automata sets j (get_or table to []))
+      → length label ≡ length over → has label k ≡ true → IsPutIn label to out out' → AreEdges over automata table sets k out → AreEdges over automata table sets (k + 1) out'
+  edges_more k to label out out' below each len in_label put are = record {
     labelled = put_labelled label to out out' put are.labelled;
     sound = λ j t step. elim (put_cases label to out out' put j t step) [
       | inl before ↦ are.sound j t before
       | inr here ↦
-          let at : j ≡ k = (just j).0 here.0 in
-          subst (λ n. (has over j ≡ true) × (n < length table) × Leads automata sets j (get_or table n [])) here.1
-          (subst (λ i. (has over i ≡ true) × (to < length table) × Leads automata sets i (get_or table to [])) (sym at) (read, below, leads))
+          let (read, leads) = each j here.0 in
+          subst (λ n. (has over j ≡ true) × (n < length table) × Leads automata sets j (get_or table n [])) here.1 (read, below, leads)
     ];
     all = λ j j_below j_read. elim (cases_lt j k) [
       | inl earlier ↦ let (t, step) = are.all j earlier j_read in (t, put_old label to out out' put j t step)
       | inr last ↦
           let here : k ≡ j = omega arith in
-          (to, subst (λ i. StepIn out' (Some i) to) here (put_here label to out out' put k ((just k).1 refl)))
+          (to, subst (λ i. StepIn out' (Some i) to) here (put_here label to out out' put k in_label))
     ];
     moves = put_moves label to out out' put (length over) (length table) len below are.moves;
   }

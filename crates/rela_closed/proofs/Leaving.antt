@@ -1,5 +1,6 @@
 -- The sets of a table, left by one letter more.
-use Rattle.std.proofs.Common.{◌≡◌, ◌≢◌, ℕ, ◌+◌, ◌<◌, ◌≤◌, Bool, true, false, List, [], ◌∷◌, ◌++◌, length, get_or, sym, ap, ◌∙◌, subst, inl, inr, arith}
+use Rattle.std.proofs.Common.{◌≡◌, ◌≢◌, ℕ, ◌+◌, ◌<◌, ◌≤◌, Bool, true, false, List, [], ◌∷◌, ◌++◌, length, get_or, Option, None, Some, sym, ap, ◌∙◌, subst, inl, inr, arith}
+use Rattle.std.specs.Option.{IfSome, is_some}
 use Rattle.std.proofs.lemmas.Bool.{cases_lt, false≢true}
 use Rattle.std.proofs.lemmas.List.{get_or_past}
 use Rattle.rela_labels.specs.Letters.{has}
@@ -37,20 +38,6 @@ module _ (automata : List Automaton) (sets : List (List ℕ)) (table table' : Li
     pub goes_out : n ≡ length table → AreDistinct table' → LeadsOut automata table here k
     goes_out at distinct = record { next = sets; leads = leads; lacking = new_lacking at distinct }
 
-module _ (over : List Bool) (automata : List Automaton) (table : List (List (List ℕ))) (sets : List (List ℕ)) (k : ℕ) where
-  pub followed_more : ((j : ℕ) → j < k → has over j ≡ true → IsFollowed automata table sets j) → (has over k ≡ true → IsFollowed automata table sets k)
-      → (j : ℕ) → j < k + 1 → has over j ≡ true → IsFollowed automata table sets j
-  followed_more before here j below read = elim (cases_lt j k) [
-    | inl earlier ↦ before j earlier read
-    | inr last ↦ let same : k ≡ j = omega arith in subst (λ m. IsFollowed automata table sets m) same (here (subst (λ m. has over m ≡ true) (sym same) read))
-  ]
-
-  pub followed_all : length over ≤ k → ((j : ℕ) → j < k → has over j ≡ true → IsFollowed automata table sets j) → (j : ℕ) → has over j ≡ true → IsFollowed automata table sets j
-  followed_all all before j read = elim (cases_lt j k) [
-    | inl below ↦ before j below read
-    | inr past ↦ absurd (false≢true (sym (get_or_past over j false (omega arith)) ∙ read))
-  ]
-
 pub no_more_letters : (over : List Bool) (k : ℕ) → length over ≤ k → (j : ℕ) → k ≤ j → has over j ≡ true → ⊥
 no_more_letters over k all j past read = false≢true (sym (get_or_past over j false (omega arith)) ∙ read)
 
@@ -72,3 +59,8 @@ pub followed_as : (automata automata' : List Automaton) (table table' : List (Li
     → IsFollowed automata' table' (get_or table' p []) k → IsFollowed automata table (get_or table p []) k
 followed_as automata automata' table table' p k one two is =
     subst (λ l. IsFollowed l table (get_or table p []) k) one (subst (λ t. IsFollowed automata' t (get_or t p []) k) two is)
+
+-- an option that has a value
+pub some_of : {X : Type 0} (o : Option X) (P : X → Type 0) → is_some o ≡ true → IfSome o P → (x : X) × P x
+some_of None P e holds = absurd (false≢true e)
+some_of (Some x) P e holds = (x, holds)

@@ -47,6 +47,13 @@ module _ (automata : List Automaton) where
       | inr new ↦ omega (arith, ap length new.0, length_push table sets)
     ]
 
+    -- by one at most
+    pub table_one_longer : length table' ≤ length table + 1
+    table_one_longer = elim numbered.grown [
+      | inl old ↦ omega (arith, ap length old.0)
+      | inr new ↦ omega (arith, ap length new.0, length_push table sets)
+    ]
+
   -- one word more
   pub listed_more : (words : List (List ℕ)) (word : List ℕ) (sets : List (List ℕ)) (table table' : List (List (List ℕ))) (numbers : List ℕ) (n : ℕ) → 0 < length words
       → AreListed automata words table numbers → AreNumbered sets table table' n → AreReached automata word sets → AreListed automata (words ++ word ∷ []) table' (numbers ++ n ∷ [])

@@ -10,12 +10,13 @@ use Rattle.rela_names.proofs.ShortlexLaws.{before_transitive}
 use Rattle.rela_nfa.specs.Automaton.{Automaton}
 use Rattle.rela_closed.specs.Closed.{AreApart, ReachSets}
 use Rattle.rela_build.specs.Complement.{IsOver}
-use Rattle.rela_closed.specs.Listing.{IsSearched}
+use Rattle.rela_closed.specs.Listing.{IsLed, IsSearched}
 use Rattle.rela_closed.specs.Sets.{AreDistinct, AreNumbered, AreReached, Leads}
+use Rattle.rela_closed.specs.Splitting.{LeadAlike}
 use Rattle.rela_closed.specs.Words.{IsUpTo, words_of}
 use Rattle.rela_closed.specs.declared.step.Step.{Step}
 use Rattle.rela_closed.proofs.JointSets.{sets_apart}
-use Rattle.rela_closed.proofs.LastLetters.{before_last, before_push, nil_before}
+use Rattle.rela_closed.proofs.LastLetters.{before_last, before_push, nil_before, upto_transitive}
 use Rattle.rela_closed.proofs.Listed.{table_kept}
 use Rattle.rela_closed.proofs.WordLists.{word_by, words_of_push}
 
@@ -47,8 +48,18 @@ module _ (over : List Bool) (automata : List Automaton) where
 
   module _ (words : List (List ℕ)) (table : List (List (List ℕ))) (p k : ℕ) (so_far : IsSearched over automata words table p k) where
     -- where the letter has been followed
-    abbrev Goes : ℕ → ℕ → Type 0
-    Goes i j = (to : ℕ) × (to < length words) × Leads automata (get_or table i []) j (get_or table to []) × IsUpTo (get_or words to []) (get_or words i [] ++ j ∷ [])
+    abbrev pub Goes : ℕ → ℕ → Type 0
+    Goes i j = IsLed automata words table i j
+
+    -- another letter leads alike
+    pub led_alike : (j l : ℕ) → p < length words → j < k → has over j ≡ true → has over l ≡ true → LeadAlike automata (get_or table p []) j l → Goes p l
+    led_alike j l p_in before j_read l_read alike = elim (cases_lt l k) [
+      | inl earlier ↦ so_far.out p l p_in (inr (refl, earlier)) l_read
+      | inr later ↦
+          let (to, to_below, leads, upto) = so_far.out p j p_in (inr (refl, before)) j_read in
+          let next : IsBefore (get_or words p [] ++ j ∷ []) (get_or words p [] ++ l ∷ []) = before_last (get_or words p []) j l (omega arith) in
+          (to, to_below, alike (get_or table to []) leads, upto_transitive (get_or words to []) (get_or words p [] ++ j ∷ []) (get_or words p [] ++ l ∷ []) upto (inr next))
+    ]
 
     ahead_more : p < length words → (i : ℕ) → i < length words → IsBefore (get_or words i []) (get_or words p [] ++ (k + 1) ∷ [])
     ahead_more within i below =
@@ -118,10 +129,10 @@ module _ (over : List Bool) (automata : List Automaton) where
           )))
 
       module _ (read : has over k ≡ true) (pushed : table' ≡ table ++ sets ∷ []) (at : n ≡ length table) where
-        abbrev word : List ℕ
+        abbrev pub word : List ℕ
         word = get_or words p [] ++ k ∷ []
 
-        abbrev words' : List (List ℕ)
+        abbrev pub words' : List (List ℕ)
         words' = words ++ word ∷ []
 
         len : length words' ≡ length words + 1
@@ -149,10 +160,10 @@ module _ (over : List Bool) (automata : List Automaton) where
               (subst (λ w. IsBefore w (get_or words p [] ++ (k + 1) ∷ [])) (sym last) (before_last (get_or words p []) k (k + 1) (omega arith)))
         ]
 
-        abbrev Goes' : ℕ → ℕ → Type 0
-        Goes' i j = (to : ℕ) × (to < length words') × Leads automata (get_or table' i []) j (get_or table' to []) × IsUpTo (get_or words' to []) (get_or words' i [] ++ j ∷ [])
+        abbrev pub Goes' : ℕ → ℕ → Type 0
+        Goes' i j = IsLed automata words' table' i j
 
-        keeps : (i j : ℕ) → i < length words → Goes i j → Goes' i j
+        pub keeps : (i j : ℕ) → i < length words → Goes i j → Goes' i j
         keeps i j below (to, to_below, leads, upto) = (
           to,
           (let l = len in let within : to < length words' = omega arith in within),

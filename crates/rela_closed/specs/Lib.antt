@@ -1,4 +1,5 @@
 pub mod Closed
 pub mod Listing
 pub mod Sets
+pub mod Splitting
 pub mod Words

@@ -103,6 +103,12 @@ abbrev pub ArePlaced : {S : Type 0} → List Move → HashMap ℕ ℕ S → Type
 ArePlaced moves places = (to i : ℕ) → get nat_eq places to ≡ Some i → (i < length moves)
     × ((move : Move) → (slice_index_or moves i move).to ≡ to)
 
+-- the letter leads from the sets of number i to those that a word reaches which isn't after the one with the letter
+abbrev pub IsLed : List Automaton → List (List ℕ) → List (List (List ℕ)) → ℕ → ℕ → Type 0
+IsLed automata words table i letter = (to : ℕ) × (to < length words)
+    × Leads automata (slice_index_or table i []) letter (slice_index_or table to [])
+    × IsUpTo (slice_index_or words to []) (slice_index_or words i [] ++ letter ∷ [])
+
 -- the search so far: the words in ascending order and the sets that they reach. Those before number p have been left
 -- by each letter, and that one by the letters below k; each leads to a word that isn't after the one with the letter.
 pub record IsSearched (over : List Bool) (automata : List Automaton) (words : List (List ℕ))
@@ -117,7 +123,5 @@ pub record IsSearched (over : List Bool) (automata : List Automaton) (words : Li
       IsBefore (slice_index_or words i []) (slice_index_or words j [])
   pub ahead : p < length words → (i : ℕ) → i < length words →
       IsBefore (slice_index_or words i []) (slice_index_or words p [] ++ k ∷ [])
-  pub out : (i j : ℕ) → i < length words → (i < p) ⊎ ((i ≡ p) × (j < k)) → has over j ≡ true
-      → (to : ℕ) × (to < length words)
-      × Leads automata (slice_index_or table i []) j (slice_index_or table to [])
-      × IsUpTo (slice_index_or words to []) (slice_index_or words i [] ++ j ∷ [])
+  pub out : (i j : ℕ) → i < length words → (i < p) ⊎ ((i ≡ p) × (j < k)) → has over j ≡ true →
+      IsLed automata words table i j

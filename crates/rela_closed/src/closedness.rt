@@ -12,7 +12,7 @@ use rela_labels::LabelSet;
 use std::alloc::{AllocError, Global};
 
 /// Whether each letter of `over` leads from all sets of the table to sets of the table. Time: a
-/// step of the reader for each of the sets and each letter.
+/// step of the reader for each of the sets and each block of letters.
 pub(crate) fn is_closed<'a, L: LabelSet>(
     alloc: Global,
     reader: &mut Reader<'a, L>,
@@ -54,36 +54,14 @@ fn is_followed<'a, L: LabelSet>(
         reader.old table.old) }
     ensures same { reader.new ≡ reader.old }
 {
+    let mut blocks = reader.blocks(alloc, over, table.get(number))?;
     for letter in 0..over.size() {
-        if !leads_back(alloc, reader, over, table, number, letter)? {
+        let Some(_block) = blocks.take(alloc, letter)? else {
+            continue;
+        };
+        if follower(alloc, reader, table, number, letter)?.is_none() {
             return Ok(false);
         }
     }
     Ok(true)
-}
-
-/// Whether the letter, if it is one of `over`, leads from the sets of this number to sets of the
-/// table. If it doesn't, those to which it leads are put behind the others.
-fn leads_back<'a, L: LabelSet>(
-    alloc: Global,
-    reader: &mut Reader<'a, L>,
-    over: &L,
-    table: &mut Table,
-    number: usize,
-    letter: u32,
-) -> Result<bool, AllocError>
-    requires number { number < length table.old }
-    requires met { AreMet reader.old (slice_index_or table.old number []) }
-    ensures followed { IfOk result (λ back. IsTrue back → has (L.letters over.now) letter ≡ true →
-        IsFollowed reader.old table.old (slice_index_or table.old number []) letter) }
-    ensures kept { IfOk result (λ back. IsTrue back → table.new ≡ table.old) }
-    ensures left { IfOk result (λ back. IsFalse back → IsLeft (L.letters over.now) reader.old
-        table.old) }
-    ensures same { reader.new ≡ reader.old }
-{
-    if !over.contains(letter) {
-        return Ok(true);
-    }
-    let next = follower(alloc, reader, table, number, letter)?;
-    Ok(next.is_some())
 }

@@ -17,9 +17,10 @@ use std::alloc::{AllocError, Global};
 /// that words over the letters reach, just the first such word, in shortlex order. It begins with
 /// the empty word, and each other word is given by its step.
 ///
-/// Time: for each listed word and each letter a look at each edge out of the states that it
-/// reaches, and a look-up of the states that follow. Space: linear in the words and their sets of
-/// states.
+/// Time: for each listed word and each block of letters by which the same edges leave the states
+/// that it reaches, a look at each of these edges, and a look-up of the states that follow; and as
+/// in [`follow`](crate::follow) what it costs to split the letters into blocks. Space: linear in the
+/// words and their sets of states.
 ///
 /// # Errors
 ///
@@ -68,9 +69,10 @@ pub fn find<L: LabelSet>(
     Ok(steps)
 }
 
-/// Leaves the sets of this number by each letter of `over`, in ascending order. The sets to which
-/// a letter is the first to lead are put into the table, and the steps to them behind the others.
-/// `Limit` where there are then more than `limit`.
+/// Leaves the sets of this number by each letter of `over`: by blocks of letters that lead alike,
+/// each taken at its first letter, in ascending order. The sets to which a letter is the first to
+/// lead are put into the table, and the steps to them behind the others. `Limit` where there are
+/// then more than `limit`.
 fn leave<'a, L: LabelSet>(
     alloc: Global,
     reader: &mut Reader<'a, L>,
@@ -95,48 +97,21 @@ fn leave<'a, L: LabelSet>(
     ensures limit { IfErr result (λ e. e ≡ BuildError.Limit →
         ReachSets (L.letters over.now) reader.old (limit + 1)) }
 {
+    let mut blocks = reader.blocks(alloc, over, table.get(number))?;
     for letter in 0..over.size() {
-        leave_by(alloc, reader, over, table, steps, number, letter)?;
+        let Some(_block) = blocks.take(alloc, letter)? else {
+            continue;
+        };
+        let known = table.len();
+        let next = reader.next(alloc, table.get(number), letter)?;
+        if table.number(next)? < known {
+            continue;
+        }
+        let parent = number as u32;
+        steps.push(Step { parent, letter })?;
         if table.len() > limit {
             return Err(BuildError::Limit);
         }
     }
-    Ok(())
-}
-
-/// Leaves the sets of this number by the letter, if it is one of `over`. If no letter led before to
-/// those that follow, they are put into the table, and the step to them behind the others.
-fn leave_by<'a, L: LabelSet>(
-    alloc: Global,
-    reader: &mut Reader<'a, L>,
-    over: &L,
-    table: &mut Table,
-    steps: &mut Vec<Step>,
-    number: usize,
-    letter: u32,
-) -> Result<(), AllocError>
-    requires numbered { number < 2 ^ 32 }
-    requires number { number < length table.old }
-    requires ordered { AreOrdered steps.old.items }
-    requires searched { IsSearched (L.letters over.now) reader.old (words_of steps.old.items)
-        table.old number letter }
-    ensures searched { IfOk result (λ _. IsSearched (L.letters over.now) reader.old
-        (words_of steps.new.items) table.new number (letter + 1)) }
-    ensures ordered { IfOk result (λ _. AreOrdered steps.new.items) }
-    ensures more { IfOk result (λ _. length table.old ≤ length table.new) }
-    ensures one { IfOk result (λ _. length table.new ≤ length table.old + 1) }
-    ensures same { reader.new ≡ reader.old }
-{
-    if !over.contains(letter) {
-        return Ok(());
-    }
-    let next = reader.next(alloc, table.get(number), letter)?;
-    let known = table.len();
-    let to = table.number(next)?;
-    if to < known {
-        return Ok(());
-    }
-    let parent = number as u32;
-    steps.push(Step { parent, letter })?;
     Ok(())
 }

@@ -24,9 +24,11 @@ pub struct Followed {
 /// and each letter of `over`, some listed word reaches the same states of each automaton as the
 /// word with the letter behind it. `None` where it isn't closed.
 ///
-/// Time: for each listed word, and for each different list of sets of states and each letter, a
-/// look at each edge out of the states, and a look-up of the states that follow. Space: linear in
-/// the words and in the different lists of sets that they reach.
+/// Time: for each listed word, and for each different list of sets of states and each block of
+/// letters by which the same edges leave them, a look at each edge out of the states, and a look-up
+/// of the states that follow. To split the letters into blocks costs at most a set operation for
+/// each block and each edge with more letters than one, and no more than a look at each such edge
+/// for each letter. Space: linear in the words and in the different lists of sets that they reach.
 ///
 /// # Errors
 ///

@@ -4,6 +4,7 @@
 #![tactic(auto)]
 
 mod acceptance;
+mod blocks;
 mod bundle;
 mod closed_laws;
 mod closedness;
@@ -12,9 +13,11 @@ mod complementing;
 mod finding;
 mod followers;
 mod following;
+mod labels;
 mod marks;
 mod numbering;
 mod reader;
+mod single;
 mod step;
 mod table;
 mod transitions;

@@ -1,10 +1,14 @@
 //! Automata that read words together.
-ghost use Rattle.std.specs.Prelude.{◌≡◌, ◌≤◌, [], IfOk, map};
+ghost use Rattle.std.specs.Prelude.{◌≡◌, ℕ, ◌≤◌, [], IfOk, length, map};
 ghost use Rattle.std.specs.List.{All};
+ghost use Rattle.rela_labels.specs.Letters.{has};
 ghost use Rattle.rela_nfa.specs.Automaton.{states};
 ghost use Rattle.rela_closed.specs.Sets.{AreMet, AreReached, Leads};
+ghost use Rattle.rela_closed.specs.Splitting.{AreTold, remains};
 
+use crate::blocks::Blocks;
 use crate::closure::{first_set, next_set};
+use crate::labels::Labels;
 use crate::visited::Visited;
 use rela_labels::LabelSet;
 use rela_nfa::Nfa;
@@ -77,6 +81,29 @@ impl<'a, L: LabelSet> Reader<'a, L> {
             next.push(next_set(alloc, a, &sets[i], letter, &mut self.visited)?)?;
         }
         Ok(next)
+    }
+
+    /// The letters of `over` in blocks that lead alike from these sets. Time: a look at each edge
+    /// out of the states of the sets, and a few set operations for each by more letters than one.
+    pub(crate) fn blocks(
+        &self,
+        alloc: Global,
+        over: &L,
+        sets: &[Vec<usize>],
+    ) -> Result<Blocks<'a, L>, AllocError>
+        requires { AreMet self.now (map (λ set. set.items) sets.now) }
+        ensures told { IfOk result (λ blocks. AreTold self.now (map (λ set. set.items) sets.now)
+            blocks) }
+        ensures all { IfOk result (λ blocks. (k : ℕ) → remains blocks k
+            ≡ has (L.letters over.now) k) }
+        ensures size { IfOk result (λ blocks. length blocks.rest ≡ length (L.letters over.now)) }
+    {
+        let mut labels = Labels::none(alloc, over.size())?;
+        for i in 0..self.automata.len() {
+            let a = self.automata[i];
+            labels.put_from(alloc, a, &sets[i], over)?;
+        }
+        Blocks::new(alloc, over, labels)
     }
 }
 

@@ -1,7 +1,6 @@
 //! The edges from the sets of a table to one another.
-ghost use Rattle.std.specs.Prelude.{◌≡◌, ℕ, ◌<◌, ◌↔◌, [], true, IfNone, IfOk, IfSome, length, map, slice_index_or};
+ghost use Rattle.std.specs.Prelude.{◌≡◌, ◌<◌, [], IfNone, IfOk, IfSome, length, map, slice_index_or};
 ghost use Rattle.std.specs.List.{All};
-ghost use Rattle.rela_labels.specs.Letters.{has};
 ghost use Rattle.rela_nfa.specs.Stored.{move_of, moves_in};
 ghost use Rattle.rela_closed.specs.Listing.{AreAllEdges, AreEdges, IsLeft};
 ghost use Rattle.rela_closed.specs.Sets.{AreMet};
@@ -16,7 +15,7 @@ use std::alloc::{AllocError, Global};
 
 /// The edges by the letters of `over` out of all sets of the table, in the order of their numbers,
 /// and `None` where a letter leads to sets that aren't in the table. Time: a step of the reader and
-/// a set operation for each of the sets and each letter.
+/// a set operation for each of the sets and each block of letters.
 pub(crate) fn transitions<'a, L: LabelSet>(
     alloc: Global,
     reader: &mut Reader<'a, L>,
@@ -62,28 +61,16 @@ fn edges_from<'a, L: LabelSet>(
         table.old)) }
     ensures same { reader.new ≡ reader.old }
 {
+    let mut blocks = reader.blocks(alloc, over, table.get(number))?;
     let mut bundle = Bundle::new(alloc);
     for letter in 0..over.size() {
-        if !over.contains(letter) {
+        let Some(label) = blocks.take(alloc, letter)? else {
             continue;
-        }
+        };
         let Some(to) = follower(alloc, reader, table, number, letter)? else {
             return Ok(None);
         };
-        let label = one_letter(alloc, over.size(), letter)?;
         bundle.put(alloc, label, to)?;
     }
     Ok(Some(bundle.into_edges()))
-}
-
-/// The set, of this size, of one letter.
-fn one_letter<L: LabelSet>(alloc: Global, size: u32, letter: u32) -> Result<L, AllocError>
-    requires fits { L.fits size }
-    requires below { letter < size }
-    ensures size { IfOk result (λ set. length (L.letters set) ≡ size) }
-    ensures alone { IfOk result (λ set. (k : ℕ) → (has (L.letters set) k ≡ true) ↔ (k ≡ letter)) }
-{
-    let mut set = L::none(alloc, size)?;
-    set.add(alloc, letter)?;
-    Ok(set)
 }

@@ -1,18 +1,32 @@
-use Rattle.std.proofs.Common.{◌≤◌, [], length, get_or, ◌∙◌, arith}
-use Rattle.rela_closed.proofs.Leaving.{followed_all, followed_as, followed_more}
+use Rattle.std.proofs.Common.{◌≡◌, ℕ, [], get_or, ◌∙◌}
+use Rattle.rela_closed.specs.Listing.{IsFollowed, LeadsTo}
+use Rattle.rela_closed.proofs.Leaving.{leads_as, some_of}
+use Rattle.rela_closed.proofs.TakenBlocks.{block_leads, done_taken, fewer_remain, told_fewer}
 use Rattle.rela_closed.proofs.closedness.is_followed.Goals as goal
 
 pub loop-letter-preserved : goal.loop-letter-preserved
-loop-letter-preserved g c = record {
-  same = c.in_ok-leads_back.ensures.same ∙ c.loop-letter.invariant.same;
-  kept = c.in_ok-leads_back.ensures.kept c.if-not-branch.false ∙ c.loop-letter.invariant.kept;
-  followed =
-      followed_more (g.L.LabelSet.letters c.args.over.now) c.args.reader.now c.args.table.now (get_or c.args.table.now c.args.number []) c.loop-letter.letter c.loop-letter.invariant.followed
-      (λ read. followed_as c.args.reader.now c.loop-letter.reader c.args.table.now c.loop-letter.table c.args.number c.loop-letter.letter c.loop-letter.invariant.same
-      c.loop-letter.invariant.kept (c.in_ok-leads_back.ensures.followed c.if-not-branch.false read));
-}
-
-pub returns-clause-followed : goal.returns-clause-followed
-returns-clause-followed g c = λ _.
-    let all : length (g.L.LabelSet.letters c.args.over.now) ≤ c.loop-letter.letter = omega (arith, c.size-letter-end.ensures.size, c.loop-letter-test.false) in
-    followed_all (g.L.LabelSet.letters c.args.over.now) c.args.reader.now c.args.table.now (get_or c.args.table.now c.args.number []) c.loop-letter.letter all c.loop-letter.invariant.followed
+loop-letter-preserved g c =
+    let over = g.L.LabelSet.letters c.args.over.now in
+    let sets = get_or c.args.table.now c.args.number [] in
+    let letter = c.loop-letter.letter in
+    let block = g.L.LabelSet.letters c.in-Some._block in
+    let is = rw c.in-Some.is at c.in_ok-_block.ensures.block in
+    let fewer = rw c.in-Some.is at c.in_ok-_block.ensures.fewer in
+    let (to, follows) =
+    some_of c.in_ok-follower.field-0 (λ to. LeadsTo c.loop-letter.reader c.loop-letter.table (get_or c.loop-letter.table c.args.number []) letter to) c.if-is_none.ensures
+    c.in_ok-follower.ensures.follows in
+    let kept = some_of c.in_ok-follower.field-0 (λ _. c.follower.new.table ≡ c.loop-letter.table) c.if-is_none.ensures c.in_ok-follower.ensures.kept in
+    let leads =
+    leads_as c.args.reader.now c.loop-letter.reader c.args.table.now c.loop-letter.table c.args.number letter to c.loop-letter.invariant.same c.loop-letter.invariant.kept follows in
+    record {
+      same = c.in_ok-follower.ensures.same ∙ c.loop-letter.invariant.same;
+      kept = kept.1 ∙ c.loop-letter.invariant.kept;
+      told = told_fewer block c.loop-letter.blocks c.take.new.self fewer c.args.reader.now sets c.loop-letter.invariant.told;
+      over = λ k there. c.loop-letter.invariant.over k (fewer_remain block c.loop-letter.blocks c.take.new.self fewer k there);
+      followed =
+          done_taken over (λ k. IsFollowed c.args.reader.now c.args.table.now sets k) c.loop-letter.blocks c.take.new.self letter block is fewer
+          (λ k read among. (
+            to,
+            record { below = leads.below; leads = block_leads c.args.reader.now sets c.loop-letter.blocks letter block c.loop-letter.invariant.told is k among (get_or c.args.table.now to []) leads.leads },
+          )) c.loop-letter.invariant.followed;
+    }

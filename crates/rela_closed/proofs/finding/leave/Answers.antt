@@ -1,29 +1,140 @@
-use Rattle.std.proofs.Common.{◌+◌, ◌∙◌, subst, arith}
-use Rattle.rela_closed.specs.Listing.{IsSearched}
+use Rattle.std.proofs.Common.{◌≡◌, ◌+◌, ◌<◌, ◌≤◌, [], get_or, length, sym, ap, ◌∙◌, subst, inl, inr, arith}
+use Rattle.rela_closed.specs.Listing.{IsLed, IsSearched}
+use Rattle.rela_closed.specs.Splitting.{AreTold, remains}
 use Rattle.rela_closed.specs.Words.{words_of}
 use Rattle.rela_closed.proofs.Leaving.{no_more_letters}
-use Rattle.rela_closed.proofs.Searching.{search_next, search_passed}
+use Rattle.rela_closed.proofs.LeftLetters.{done_after, leads_from, led_new, same_table, searched_known, searched_new, told_after}
+use Rattle.rela_closed.proofs.Listed.{table_kept, table_longer, table_one_longer}
+use Rattle.rela_closed.proofs.Searching.{search_next, search_old, search_passed}
+use Rattle.rela_closed.proofs.SetsFound.{sets_in}
+use Rattle.rela_closed.proofs.TakenBlocks.{AreDone, done_skipped, fewer_remain}
+use Rattle.rela_closed.proofs.WordLists.{ordered_push, words_of_length}
 use Rattle.rela_closed.proofs.finding.leave.Goals as goal
 
-pub loop-letter-preserved : goal.loop-letter-preserved
-loop-letter-preserved g c = record {
-  same = c.in_ok-leave_by.ensures.same ∙ c.loop-letter.invariant.same;
-  more = omega (arith, c.in_ok-leave_by.ensures.more, c.loop-letter.invariant.more);
-  few = omega (arith, c.len.ensures.len, c.if-len-limit.false);
-  ordered = c.in_ok-leave_by.ensures.ordered;
-  searched =
-      subst (λ l. IsSearched (g.L.LabelSet.letters c.args.over.now) l (words_of c.leave_by.new.steps.items) c.leave_by.new.table c.args.number (c.loop-letter.letter + 1))
-      c.loop-letter.invariant.same c.in_ok-leave_by.ensures.searched;
-}
+pub loop-letter-preserved-in_default : goal.loop-letter-preserved-in_default
+loop-letter-preserved-in_default g c =
+    let over = g.L.LabelSet.letters c.args.over.now in
+    let words = words_of c.loop-letter.steps.items in
+    let table = c.loop-letter.table in
+    let letter = c.loop-letter.letter in
+    let none = rw c.in_default.is at c.in_ok-_block.ensures.none in
+    let same = rw c.in_default.is at c.in_ok-_block.ensures.same in
+    record {
+      same = c.loop-letter.invariant.same;
+      more = c.loop-letter.invariant.more;
+      few = c.loop-letter.invariant.few;
+      ordered = c.loop-letter.invariant.ordered;
+      searched = search_old over c.args.reader.now words table c.args.number letter c.loop-letter.invariant.searched (λ read. c.loop-letter.invariant.done letter read (inr none));
+      told = subst (AreTold c.args.reader.now (get_or table c.args.number [])) (sym same) c.loop-letter.invariant.told;
+      over = λ k there. c.loop-letter.invariant.over k (ap (λ b. remains b k) (sym same) ∙ there);
+      done =
+          subst (λ b. AreDone over (λ k. IsLed c.args.reader.now words table c.args.number k) b (letter + 1)) (sym same)
+          (done_skipped over (λ k. IsLed c.args.reader.now words table c.args.number k) c.loop-letter.blocks letter none c.loop-letter.invariant.done);
+    }
+
+pub loop-letter-preserved-then-branch-known : goal.loop-letter-preserved-then-branch-known
+loop-letter-preserved-then-branch-known g c =
+    let over = g.L.LabelSet.letters c.args.over.now in
+    let automata = c.args.reader.now in
+    let words = words_of c.loop-letter.steps.items in
+    let table = c.loop-letter.table in
+    let table' = c.number.new.self in
+    let letter = c.loop-letter.letter in
+    let p = c.args.number in
+    let n = c.in_ok-number.field-0 in
+    let block = g.L.LabelSet.letters c.in-Some._block in
+    let is = rw c.in-Some.is at c.in_ok-_block.ensures.block in
+    let fewer = rw c.in-Some.is at c.in_ok-_block.ensures.fewer in
+    let next = sets_in c.in_ok-next.next.items in
+    let numbered = c.in_ok-number.ensures.numbered in
+    let known : n < length table = omega (arith, c.if-branch-known.true, c.len-known.ensures.len) in
+    let p_in : p < length words = omega (arith, c.loop-letter.invariant.searched.each, c.loop-letter.invariant.more, c.requires.number) in
+    let leads =
+    leads_from automata c.loop-letter.reader (get_or table p []) (sets_in c.get-in-loop-letter.result.now) next letter c.loop-letter.invariant.same c.get-in-loop-letter.ensures
+    c.in_ok-next.ensures.leads in
+    let same = same_table over automata words table table' p letter n next c.loop-letter.invariant.searched p_in numbered leads known in
+    let searched = searched_known over automata words table table' p letter n next c.loop-letter.invariant.searched p_in numbered leads known in
+    let kept : get_or table' p [] ≡ get_or table p [] = ap (λ t. get_or t p []) same in
+    record {
+      same = c.in_ok-next.ensures.same ∙ c.loop-letter.invariant.same;
+      more = omega (arith, ap length same, c.loop-letter.invariant.more);
+      few = omega (arith, ap length same, c.loop-letter.invariant.few);
+      ordered = c.loop-letter.invariant.ordered;
+      searched = searched;
+      told = told_after over automata words table p letter c.loop-letter.blocks c.take.new.self block c.loop-letter.invariant.told c.loop-letter.invariant.over is fewer c.loop-letter.invariant.done
+          words table' kept;
+      over = λ k there. c.loop-letter.invariant.over k (fewer_remain block c.loop-letter.blocks c.take.new.self fewer k there);
+      done = done_after over automata words table p letter c.loop-letter.blocks c.take.new.self block c.loop-letter.invariant.told c.loop-letter.invariant.over is fewer c.loop-letter.invariant.done
+          words table' kept searched p_in (λ k led. subst (λ t. IsLed automata words t p k) (sym same) led);
+    }
 
 pub returns-then-len-limit-clause-limit : goal.returns-then-len-limit-clause-limit
 returns-then-len-limit-clause-limit g c = λ _.
-    search_passed (g.L.LabelSet.letters c.args.over.now) c.args.reader.now (words_of c.leave_by.new.steps.items) c.leave_by.new.table c.args.number (c.loop-letter.letter + 1) c.args.limit
-    (subst (λ l. IsSearched (g.L.LabelSet.letters c.args.over.now) l (words_of c.leave_by.new.steps.items) c.leave_by.new.table c.args.number (c.loop-letter.letter + 1))
-    c.loop-letter.invariant.same c.in_ok-leave_by.ensures.searched)
-    c.len.ensures.distinct (omega (arith, c.len.ensures.len, c.if-len-limit.true)) (omega (arith, c.in_ok-leave_by.ensures.one, c.loop-letter.invariant.few))
+    let over = g.L.LabelSet.letters c.args.over.now in
+    let automata = c.args.reader.now in
+    let words = words_of c.loop-letter.steps.items in
+    let table = c.loop-letter.table in
+    let table' = c.number.new.self in
+    let letter = c.loop-letter.letter in
+    let p = c.args.number in
+    let n = c.in_ok-number.field-0 in
+    let is = rw c.in-Some.is at c.in_ok-_block.ensures.block in
+    let next = sets_in c.in_ok-next.next.items in
+    let numbered = c.in_ok-number.ensures.numbered in
+    let past : length table ≤ n = omega (arith, c.if-branch-known.false, c.len-known.ensures.len) in
+    let p_in : p < length words = omega (arith, c.loop-letter.invariant.searched.each, c.loop-letter.invariant.more, c.requires.number) in
+    let leads =
+    leads_from automata c.loop-letter.reader (get_or table p []) (sets_in c.get-in-loop-letter.result.now) next letter c.loop-letter.invariant.same c.get-in-loop-letter.ensures
+    c.in_ok-next.ensures.leads in
+    let searched =
+    searched_new over automata c.loop-letter.steps.items c.push.new.self.items table table' p letter n next c.in_ok-push.ensures.items c.loop-letter.invariant.searched p_in numbered leads
+    (c.loop-letter.invariant.over letter (is.within letter is.member)) past in
+    search_passed over automata (words_of c.push.new.self.items) table' p (letter + 1) c.args.limit searched c.len.ensures.distinct (omega (arith, c.len.ensures.len, c.if-len-limit.true))
+    (omega (arith, table_one_longer automata next table table' n numbered, c.loop-letter.invariant.few))
+
+pub loop-letter-preserved : goal.loop-letter-preserved
+loop-letter-preserved g c =
+    let over = g.L.LabelSet.letters c.args.over.now in
+    let automata = c.args.reader.now in
+    let steps = c.loop-letter.steps.items in
+    let steps' = c.push.new.self.items in
+    let words = words_of steps in
+    let table = c.loop-letter.table in
+    let table' = c.number.new.self in
+    let letter = c.loop-letter.letter in
+    let p = c.args.number in
+    let n = c.in_ok-number.field-0 in
+    let block = g.L.LabelSet.letters c.in-Some._block in
+    let is = rw c.in-Some.is at c.in_ok-_block.ensures.block in
+    let fewer = rw c.in-Some.is at c.in_ok-_block.ensures.fewer in
+    let next = sets_in c.in_ok-next.next.items in
+    let numbered = c.in_ok-number.ensures.numbered in
+    let past : length table ≤ n = omega (arith, c.if-branch-known.false, c.len-known.ensures.len) in
+    let p_in : p < length words = omega (arith, c.loop-letter.invariant.searched.each, c.loop-letter.invariant.more, c.requires.number) in
+    let leads =
+    leads_from automata c.loop-letter.reader (get_or table p []) (sets_in c.get-in-loop-letter.result.now) next letter c.loop-letter.invariant.same c.get-in-loop-letter.ensures
+    c.in_ok-next.ensures.leads in
+    let read = c.loop-letter.invariant.over letter (is.within letter is.member) in
+    let searched =
+    searched_new over automata steps steps' table table' p letter n next c.in_ok-push.ensures.items c.loop-letter.invariant.searched p_in numbered leads read past in
+    let kept = table_kept automata next table table' n numbered p (omega (arith, c.loop-letter.invariant.more, c.requires.number)) in
+    let p_in' : p < length (words_of steps') = omega (arith, searched.each, table_longer automata next table table' n numbered, c.loop-letter.invariant.more, c.requires.number) in
+    record {
+      same = c.in_ok-next.ensures.same ∙ c.loop-letter.invariant.same;
+      more = omega (arith, table_longer automata next table table' n numbered, c.loop-letter.invariant.more);
+      few = omega (arith, c.len.ensures.len, c.if-len-limit.false);
+      ordered = ordered_push steps steps' (record { parent = p; letter = letter }) c.in_ok-push.ensures.items c.loop-letter.invariant.ordered
+          (omega (arith, c.loop-letter.invariant.searched.each, words_of_length steps, p_in));
+      searched = searched;
+      told = told_after over automata words table p letter c.loop-letter.blocks c.take.new.self block c.loop-letter.invariant.told c.loop-letter.invariant.over is fewer c.loop-letter.invariant.done
+          (words_of steps') table' kept;
+      over = λ k there. c.loop-letter.invariant.over k (fewer_remain block c.loop-letter.blocks c.take.new.self fewer k there);
+      done = done_after over automata words table p letter c.loop-letter.blocks c.take.new.self block c.loop-letter.invariant.told c.loop-letter.invariant.over is fewer c.loop-letter.invariant.done
+          (words_of steps') table' kept searched p_in'
+          (led_new over automata steps steps' table table' p letter n next c.in_ok-push.ensures.items c.loop-letter.invariant.searched p_in numbered leads read past);
+    }
 
 pub returns-clause-searched : goal.returns-clause-searched
 returns-clause-searched g c =
     search_next (g.L.LabelSet.letters c.args.over.now) c.args.reader.now (words_of c.loop-letter.steps.items) c.loop-letter.table c.args.number c.loop-letter.letter
-    c.loop-letter.invariant.searched (no_more_letters (g.L.LabelSet.letters c.args.over.now) c.loop-letter.letter (omega (arith, c.size-letter-end.ensures.size)))
+    c.loop-letter.invariant.searched (no_more_letters (g.L.LabelSet.letters c.args.over.now) c.loop-letter.letter (omega (arith, c.size-letter-end.ensures.size, c.loop-letter-test.false)))

@@ -3,23 +3,10 @@ use Rattle.std.proofs.lemmas.List.{get_or-map, get_or_default, length-map, take_
 use Rattle.rela_nfa.specs.Automaton.{Automaton, states}
 use Rattle.rela_nfa.specs.declared.nfa.Nfa.{Nfa}
 use Rattle.rela_closed.specs.Sets.{AreReached, Lists, ReachedBy}
-use Rattle.rela_closed.proofs.JointSets.{reached_at, reached_each}
-use Rattle.rela_closed.proofs.Readers.{all_at, map_pushed, map_take_more, reached_pushed}
+use Rattle.rela_closed.proofs.Readers.{all_at, map_pushed, map_take_more, place_of, reached_pushed, sets_as_many}
 use Rattle.rela_closed.proofs.SetsFound.{sets_in}
 use Rattle.rela_closed.proofs.reader.Reader.next.Given
 use Rattle.rela_closed.proofs.reader.Reader.next.Goals as goal
-
--- the automaton and the set of a place
-place_of : {X : Type 0} (now : X → Automaton) (xs : List X) (mine : List Automaton) (i : ℕ) (x : X) (word : List ℕ) (sets : List (List ℕ)) → map now xs ≡ mine → i < length xs → x ≡ get_or xs i x
-    → AreReached mine word sets → Lists (ReachedBy (now x) word) (get_or sets i [])
-place_of now xs mine i x word sets is below at reached =
-    subst (λ a. Lists (ReachedBy a word) (get_or sets i [])) (get_or-map now xs i x (now x) below ∙ ap now (sym at))
-    (reached_at (map now xs) word sets (subst (λ l. AreReached l word sets) (sym is) reached) i (now x) (omega (arith, length-map xs now)))
-
-sets_as_many : {X Y : Type 0} (now : X → Automaton) (items : Y → List ℕ) (xs : List X) (ys : List Y) (mine : List Automaton) (word : List ℕ) → map now xs ≡ mine → AreReached mine word (map items ys)
-    → length ys ≡ length xs
-sets_as_many now items xs ys mine word is reached =
-    omega (arith, reached_each mine word (map items ys) reached, length-map ys items, length-map xs now, ap length is)
 
 pub bounds-sets-i : goal.bounds-sets-i
 bounds-sets-i g c =

@@ -1,0 +1,149 @@
+//! The letters of a set in blocks, by each of which the same edges may be taken.
+ghost use Rattle.std.specs.Prelude.{◌≡◌, ℕ, ◌||◌, ◌&&◌, ◌↔◌, not, true, false, IfNone, IfOk, IfSome, length, map};
+ghost use Rattle.std.specs.List.{All};
+ghost use Rattle.rela_labels.specs.Letters.{has};
+ghost use Rattle.rela_closed.specs.Splitting.{AreFewer, AreTogether, IsBlock, remains};
+
+use crate::labels::Labels;
+use crate::single::one_letter;
+use rela_labels::LabelSet;
+use std::alloc::{AllocError, Global};
+use std::marker::Model;
+
+/// How many blocks at most are split off by set operations: these cost about as much as a look at
+/// each letter, and where there are more blocks, the letters that remain come by themselves.
+const MOST_SPLITS: u32 = 64;
+
+/// Letters of a set that are taken in blocks. Those that labels have alone come by themselves, and
+/// cost nothing for the other labels. Contracts see the letters that remain, and the labels.
+#[derive(Drop)]
+pub(crate) struct Blocks<'a, L: LabelSet> {
+    /// The letters that come by themselves. They stay when they have been taken.
+    alone: L,
+    /// The other letters, without the blocks that have been split off.
+    rest: L,
+    /// The labels that tell the letters of the rest apart.
+    labels: Vec<&'a L>,
+    /// How many more blocks may be split off.
+    splits: u32,
+}
+
+impl<'a, L: LabelSet> Model for Blocks<'a, L> {
+    ghost use Rattle.std.specs.Prelude.{◌≡◌, length, map};
+    ghost use Rattle.std.specs.List.{All};
+    ghost use Rattle.rela_closed.specs.Splitting.{Splitting};
+
+    ghost Value = { Splitting };
+
+    ghost view = { λ blocks. record {
+      alone = L.letters blocks.alone;
+      rest = L.letters blocks.rest;
+      labels = map (λ label. L.letters label.now) blocks.labels.items;
+    } };
+
+    ghost invariant = { λ blocks. (length (L.letters blocks.alone)
+        ≡ length (L.letters blocks.rest))
+        × All (λ label. length label ≡ length (L.letters blocks.rest))
+        (map (λ label. L.letters label.now) blocks.labels.items) };
+}
+
+impl<'a, L: LabelSet> Blocks<'a, L> {
+    /// All letters of `over` remain. Time: a few set operations.
+    pub(crate) fn new(
+        alloc: Global,
+        over: &L,
+        labels: Labels<'a, L>,
+    ) -> Result<Blocks<'a, L>, AllocError>
+        requires { length labels.alone ≡ length (L.letters over.now) }
+        ensures alone { IfOk result (λ blocks. (k : ℕ) → has blocks.alone k
+            ≡ (has (L.letters over.now) k && has labels.entry.alone k)) }
+        ensures rest { IfOk result (λ blocks. (k : ℕ) → has blocks.rest k
+            ≡ (has (L.letters over.now) k && not (has labels.entry.alone k))) }
+        ensures labels { IfOk result (λ blocks. blocks.labels ≡ labels.entry.others) }
+        ensures size { IfOk result (λ blocks. length blocks.rest ≡ length (L.letters over.now)) }
+    {
+        let Labels { alone, others } = labels;
+        let rest = over.minus(alloc, &alone)?;
+        let alone = over.meet(alloc, &alone)?;
+        Ok(Blocks {
+            alone,
+            rest,
+            labels: others,
+            splits: MOST_SPLITS,
+        })
+    }
+
+    /// The block of this letter, if the letter remains, and else `None`. A block of the rest doesn't
+    /// remain. Time: a look at two sets of letters, where the letter comes by itself or doesn't
+    /// remain, and else a set operation for each label.
+    pub(crate) fn take(&mut self, alloc: Global, letter: u32) -> Result<Option<L>, AllocError>
+        ensures none { IfOk result (λ block. IfNone block (remains self.old letter ≡ false)) }
+        ensures same { IfOk result (λ block. IfNone block (self.new ≡ self.old)) }
+        ensures block { IfOk result (λ block. IfSome block (λ block.
+            IsBlock self.old letter (L.letters block))) }
+        ensures fewer { IfOk result (λ block. IfSome block (λ block.
+            AreFewer (L.letters block) self.old self.new)) }
+    {
+        if self.rest.contains(letter) {
+            return Ok(Some(self.split_off(alloc, letter)?));
+        }
+        if self.alone.contains(letter) {
+            return Ok(Some(one_letter(alloc, self.alone.size(), letter)?));
+        }
+        Ok(None)
+    }
+
+    /// The block of this letter, which is of the rest: as long as blocks may be split off, all
+    /// letters of the rest that no label tells from it.
+    fn split_off(&mut self, alloc: Global, letter: u32) -> Result<L, AllocError>
+        requires { has self.old.rest letter ≡ true }
+        ensures block { IfOk result (λ block. IsBlock self.old letter (L.letters block)) }
+        ensures fewer { IfOk result (λ block. AreFewer (L.letters block) self.old self.new) }
+    {
+        if self.splits == 0 {
+            return one_letter(alloc, self.rest.size(), letter);
+        }
+        self.splits -= 1;
+        let block = narrowed(alloc, &self.rest, &self.labels, letter)?;
+        self.rest = self.rest.minus(alloc, &block)?;
+        Ok(block)
+    }
+}
+
+/// The letters of the set that are in the same of the labels as this letter. Time: a set operation
+/// for each label.
+fn narrowed<L: LabelSet>(
+    alloc: Global,
+    set: &L,
+    labels: &[&L],
+    letter: u32,
+) -> Result<L, AllocError>
+    requires { All (λ label. length label ≡ length (L.letters set.now))
+        (map (λ label. L.letters label.now) labels.now) }
+    ensures size { IfOk result (λ block. length (L.letters block)
+        ≡ length (L.letters set.now)) }
+    ensures together { IfOk result (λ block. (k : ℕ) → (has (L.letters block) k ≡ true)
+        ↔ ((has (L.letters set.now) k ≡ true)
+        × AreTogether (map (λ label. L.letters label.now) labels.now) letter k)) }
+{
+    let mut block = set.copy(alloc)?;
+    for label in labels {
+        block = cut(alloc, &block, label, letter)?;
+    }
+    Ok(block)
+}
+
+/// The letters of the block that are in the label, if this letter is, and else those that aren't.
+fn cut<L: LabelSet>(alloc: Global, block: &L, label: &L, letter: u32) -> Result<L, AllocError>
+    requires { length (L.letters block.now) ≡ length (L.letters label.now) }
+    ensures size { IfOk result (λ part. length (L.letters part) ≡ length (L.letters block.now)) }
+    ensures together { IfOk result (λ part. (k : ℕ) → (has (L.letters part) k ≡ true)
+        ↔ ((has (L.letters block.now) k ≡ true)
+        × (has (L.letters label.now) k ≡ has (L.letters label.now) letter))) }
+{
+    if label.contains(letter) {
+        block.meet(alloc, label)
+    } else {
+        block.minus(alloc, label)
+    }
+}
