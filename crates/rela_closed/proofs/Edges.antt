@@ -14,11 +14,11 @@ use Rattle.rela_closed.proofs.Targets.{Contains-nil}
 abbrev pub edge_of : List Bool → ℕ → Move
 edge_of label to = record { label = Some label; to = to }
 
-pub or_left : (a b : Bool) → a ≡ true → (a || b) ≡ true
+or_left : (a b : Bool) → a ≡ true → (a || b) ≡ true
 or_left true b e = refl
 or_left false b e = absurd (false≢true e)
 
-pub or_right : (a b : Bool) → b ≡ true → (a || b) ≡ true
+or_right : (a b : Bool) → b ≡ true → (a || b) ≡ true
 or_right true b e = refl
 or_right false b e = e
 

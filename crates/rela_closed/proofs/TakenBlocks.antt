@@ -1,11 +1,11 @@
 -- Blocks of letters that are taken one after the other.
-use Rattle.std.proofs.Common.{◌≡◌, ℕ, ◌+◌, ◌<◌, ◌≤◌, ◌⊎◌, ◌↔◌, ◌&&◌, ◌||◌, not, Bool, true, false, List, [], length, refl, sym, ap, ◌∙◌, subst, inl, inr, arith}
+use Rattle.std.proofs.Common.{◌≡◌, ℕ, ◌+◌, ◌<◌, ◌≤◌, ◌⊎◌, ◌↔◌, ◌&&◌, not, Bool, true, false, List, [], length, refl, sym, ap, ◌∙◌, subst, inl, inr, arith}
 use Rattle.std.specs.List.{All}
-use Rattle.std.proofs.lemmas.Bool.{cases_Bool, cases_lt, false≢true, or_cases}
+use Rattle.std.proofs.lemmas.Bool.{cases_Bool, cases_lt, false≢true}
 use Rattle.rela_labels.specs.Letters.{has}
 use Rattle.rela_nfa.specs.Automaton.{Automaton}
 use Rattle.rela_closed.specs.Splitting.{AreFewer, AreTogether, AreTold, IsBlock, LeadAlike, Splitting, remains}
-use Rattle.rela_closed.proofs.Edges.{letter_below, or_left, or_right}
+use Rattle.rela_closed.proofs.Edges.{letter_below}
 
 -- letters of a block lead alike
 pub block_leads : (automata : List Automaton) (sets : List (List ℕ)) (blocks : Splitting) (letter : ℕ) (block : List Bool) → AreTold automata sets blocks → IsBlock blocks letter block
@@ -20,10 +20,7 @@ module _ (block : List Bool) (old new : Splitting) (fewer : AreFewer block old n
   told_fewer automata sets told j k j_in k_in together = told j k (fewer.rest j j_in) (fewer.rest k k_in) (subst (λ ls. AreTogether ls j k) fewer.labels together)
 
   pub fewer_remain : (k : ℕ) → remains new k ≡ true → remains old k ≡ true
-  fewer_remain k h = elim (or_cases (has new.alone k) (has new.rest k) h) [
-    | inl alone ↦ or_left (has old.alone k) (has old.rest k) (ap (λ l. has l k) (sym fewer.alone) ∙ alone)
-    | inr rest ↦ or_right (has old.alone k) (has old.rest k) (fewer.rest k rest)
-  ]
+  fewer_remain = fewer.left
 
 -- P holds of the letters before n and of those that don't remain
 abbrev pub AreDone : List Bool → (ℕ → Type 0) → Splitting → ℕ → Type 0
@@ -76,42 +73,35 @@ module _ (blocks : Splitting) (letter : ℕ) (block : List Bool) (just : (k : �
   }
 
   pub alone_fewer : AreFewer block blocks blocks
-  alone_fewer = record { alone = refl; labels = refl; size = refl; rest = λ k h. h; gone = λ k was gone. absurd (false≢true (sym gone ∙ was)) }
+  alone_fewer = record { labels = refl; size = refl; left = λ k h. h; rest = λ k h. h; gone = λ k was gone. absurd (false≢true (sym gone ∙ was)) }
 
 -- a block that is split off from the rest
-module _ (blocks : Splitting) (letter : ℕ) (block : List Bool) (among : has blocks.rest letter ≡ true)
+module _ (blocks : Splitting) (letter : ℕ) (block : List Bool) (among : has blocks.rest letter ≡ true) (inside : (k : ℕ) → has blocks.rest k ≡ true → remains blocks k ≡ true)
     (narrow : (k : ℕ) → (has block k ≡ true) ↔ ((has blocks.rest k ≡ true) × AreTogether blocks.labels letter k)) where
   pub split_block : length block ≡ length blocks.rest → IsBlock blocks letter block
   split_block size = record {
     sized = size;
     member = (narrow letter).1 (among, λ i d below. refl);
-    within = λ k h. or_right (has blocks.alone k) (has blocks.rest k) ((narrow k).0 h).0;
+    within = λ k h. inside k ((narrow k).0 h).0;
     alike = λ k h. inr (among, ((narrow k).0 h).0, ((narrow k).0 h).1);
   }
 
-  pub split_fewer : (new : Splitting) → new.alone ≡ blocks.alone → new.labels ≡ blocks.labels → length new.rest ≡ length blocks.rest
-      → ((k : ℕ) → has new.rest k ≡ (has blocks.rest k && not (has block k))) → AreFewer block blocks new
-  split_fewer new alone labels size cut = record {
-    alone = alone;
-    labels = labels;
-    size = size;
-    rest = λ k h. first (has blocks.rest k) (has block k) (sym (cut k) ∙ h);
-    gone = λ k was gone.
-        in_block (has blocks.alone k) (has blocks.rest k) (has block k) was (ap (λ l. has l k || (has blocks.rest k && not (has block k))) (sym alone) ∙ ap (λ b. has new.alone k || b) (sym (cut k)) ∙ gone);
-  }
-    where
-      first : (x y : Bool) → (x && not y) ≡ true → x ≡ true
-      first true y e = refl
-      first false y e = absurd (false≢true e)
+first : (x y : Bool) → (x && not y) ≡ true → x ≡ true
+first true y e = refl
+first false y e = absurd (false≢true e)
 
-      in_block : (x y z : Bool) → (x || y) ≡ true → (x || (y && not z)) ≡ false → z ≡ true
-      in_block true y z was gone = absurd (false≢true (sym gone))
-      in_block false true true was gone = refl
-      in_block false true false was gone = absurd (false≢true (sym gone))
-      in_block false false z was gone = absurd (false≢true was)
+in_block : (x y : Bool) → x ≡ true → (x && not y) ≡ false → y ≡ true
+in_block true true was gone = refl
+in_block true false was gone = absurd (false≢true (sym gone))
+in_block false y was gone = absurd (false≢true was)
 
--- all letters remain at first
-pub all_remain : (x y : Bool) → ((x && y) || (x && not y)) ≡ x
-all_remain true true = refl
-all_remain true false = refl
-all_remain false y = refl
+-- the letters of the block are gone
+pub split_fewer : (blocks new : Splitting) (block : List Bool) → new.labels ≡ blocks.labels → length new.rest ≡ length blocks.rest
+    → ((k : ℕ) → has new.rest k ≡ (has blocks.rest k && not (has block k))) → ((k : ℕ) → has new.left k ≡ (has blocks.left k && not (has block k))) → AreFewer block blocks new
+split_fewer blocks new block labels size cut cut_left = record {
+  labels = labels;
+  size = size;
+  left = λ k h. first (has blocks.left k) (has block k) (sym (cut_left k) ∙ h);
+  rest = λ k h. first (has blocks.rest k) (has block k) (sym (cut k) ∙ h);
+  gone = λ k was gone. in_block (has blocks.left k) (has block k) was (sym (cut_left k) ∙ gone);
+}

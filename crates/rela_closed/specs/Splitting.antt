@@ -1,5 +1,5 @@
 -- The letters of a set in blocks, by each of which the same edges may be taken.
-use Rattle.std.specs.Prelude.{◌≡◌, ℕ, ◌⊎◌, ◌||◌, Bool, true, false, List, length, Contains}
+use Rattle.std.specs.Prelude.{◌≡◌, ℕ, ◌⊎◌, Bool, true, false, List, length, Contains}
 use Rattle.std.specs.List.{All}
 use Rattle.std.specs.Option.{ForSome}
 use Rattle.rela_labels.specs.Letters.{has}
@@ -34,15 +34,15 @@ pub record IsMore (over : List Bool) (old new : Sorted) : Type 0 where
   pub alone : (k : ℕ) → has over k ≡ true → has old.alone k ≡ true → has new.alone k ≡ true
   pub others : (label : List Bool) → Contains old.others label → Contains new.others label
 
--- the letters that remain: those that come by themselves, and the rest, which the labels tell apart
+-- the letters that remain, those of them that the labels tell apart, and these labels
 pub record Splitting : Type 0 where
-  pub alone : List Bool
+  pub left : List Bool
   pub rest : List Bool
   pub labels : List (List Bool)
 
 -- whether the letter remains
 abbrev pub remains : Splitting → ℕ → Bool
-remains splitting k = has splitting.alone k || has splitting.rest k
+remains splitting k = has splitting.left k
 
 -- letters of the rest that the labels don't tell apart lead alike from the sets
 abbrev pub AreTold : List Automaton → List (List ℕ) → Splitting → Type 0
@@ -59,8 +59,8 @@ pub record IsBlock (splitting : Splitting) (letter : ℕ) (block : List Bool) : 
 
 -- none remain but those that did before, and all of these but for letters of the block
 pub record AreFewer (block : List Bool) (old new : Splitting) : Type 0 where
-  pub alone : new.alone ≡ old.alone
   pub labels : new.labels ≡ old.labels
   pub size : length new.rest ≡ length old.rest
+  pub left : (k : ℕ) → remains new k ≡ true → remains old k ≡ true
   pub rest : (k : ℕ) → has new.rest k ≡ true → has old.rest k ≡ true
   pub gone : (k : ℕ) → remains old k ≡ true → remains new k ≡ false → has block k ≡ true

@@ -1,5 +1,5 @@
 //! The letters of a set in blocks, by each of which the same edges may be taken.
-ghost use Rattle.std.specs.Prelude.{◌≡◌, ℕ, ◌||◌, ◌&&◌, ◌↔◌, not, true, false, IfNone, IfOk, IfSome, length, map};
+ghost use Rattle.std.specs.Prelude.{◌≡◌, ℕ, ◌&&◌, ◌↔◌, not, true, IfOk, length, map};
 ghost use Rattle.std.specs.List.{All};
 ghost use Rattle.rela_labels.specs.Letters.{has};
 ghost use Rattle.rela_closed.specs.Splitting.{AreFewer, AreTogether, IsBlock, remains};
@@ -15,12 +15,13 @@ use std::marker::Model;
 const MOST_SPLITS: u32 = 64;
 
 /// Letters of a set that are taken in blocks. Those that labels have alone come by themselves, and
-/// cost nothing for the other labels. Contracts see the letters that remain, and the labels.
+/// cost nothing for the other labels. Contracts see the letters that remain, the rest of them, which
+/// the labels tell apart, and the labels.
 #[derive(Drop)]
 pub(crate) struct Blocks<'a, L: LabelSet> {
-    /// The letters that come by themselves. They stay when they have been taken.
-    alone: L,
-    /// The other letters, without the blocks that have been split off.
+    /// The letters that remain. Those that come by themselves stay when they have been taken.
+    left: L,
+    /// Those of them that don't come by themselves.
     rest: L,
     /// The labels that tell the letters of the rest apart.
     labels: Vec<&'a L>,
@@ -29,20 +30,21 @@ pub(crate) struct Blocks<'a, L: LabelSet> {
 }
 
 impl<'a, L: LabelSet> Model for Blocks<'a, L> {
-    ghost use Rattle.std.specs.Prelude.{◌≡◌, length, map};
+    ghost use Rattle.std.specs.Prelude.{◌≡◌, ℕ, true, length, map};
     ghost use Rattle.std.specs.List.{All};
+    ghost use Rattle.rela_labels.specs.Letters.{has};
     ghost use Rattle.rela_closed.specs.Splitting.{Splitting};
 
     ghost Value = { Splitting };
 
     ghost view = { λ blocks. record {
-      alone = L.letters blocks.alone;
+      left = L.letters blocks.left;
       rest = L.letters blocks.rest;
       labels = map (λ label. L.letters label.now) blocks.labels.items;
     } };
 
-    ghost invariant = { λ blocks. (length (L.letters blocks.alone)
-        ≡ length (L.letters blocks.rest))
+    ghost invariant = { λ blocks. (length (L.letters blocks.left) ≡ length (L.letters blocks.rest))
+        × ((k : ℕ) → has (L.letters blocks.rest) k ≡ true → has (L.letters blocks.left) k ≡ true)
         × All (λ label. length label ≡ length (L.letters blocks.rest))
         (map (λ label. L.letters label.now) blocks.labels.items) };
 }
@@ -55,8 +57,8 @@ impl<'a, L: LabelSet> Blocks<'a, L> {
         labels: Labels<'a, L>,
     ) -> Result<Blocks<'a, L>, AllocError>
         requires { length labels.alone ≡ length (L.letters over.now) }
-        ensures alone { IfOk result (λ blocks. (k : ℕ) → has blocks.alone k
-            ≡ (has (L.letters over.now) k && has labels.entry.alone k)) }
+        ensures all { IfOk result (λ blocks. (k : ℕ) → remains blocks k
+            ≡ has (L.letters over.now) k) }
         ensures rest { IfOk result (λ blocks. (k : ℕ) → has blocks.rest k
             ≡ (has (L.letters over.now) k && not (has labels.entry.alone k))) }
         ensures labels { IfOk result (λ blocks. blocks.labels ≡ labels.entry.others) }
@@ -64,48 +66,48 @@ impl<'a, L: LabelSet> Blocks<'a, L> {
     {
         let Labels { alone, others } = labels;
         let rest = over.minus(alloc, &alone)?;
-        let alone = over.meet(alloc, &alone)?;
+        let left = over.copy(alloc)?;
         Ok(Blocks {
-            alone,
+            left,
             rest,
             labels: others,
             splits: MOST_SPLITS,
         })
     }
 
-    /// The block of this letter, if the letter remains, and else `None`. A block of the rest doesn't
-    /// remain. Time: a look at two sets of letters, where the letter comes by itself or doesn't
-    /// remain, and else a set operation for each label.
-    pub(crate) fn take(&mut self, alloc: Global, letter: u32) -> Result<Option<L>, AllocError>
-        ensures none { IfOk result (λ block. IfNone block (remains self.old letter ≡ false)) }
-        ensures same { IfOk result (λ block. IfNone block (self.new ≡ self.old)) }
-        ensures block { IfOk result (λ block. IfSome block (λ block.
-            IsBlock self.old letter (L.letters block))) }
-        ensures fewer { IfOk result (λ block. IfSome block (λ block.
-            AreFewer (L.letters block) self.old self.new)) }
+    /// Whether the letter remains.
+    pub(crate) fn has_left(&self, letter: u32) -> bool
+        ensures { result ≡ remains self.now letter }
     {
-        if self.rest.contains(letter) {
-            return Ok(Some(self.split_off(alloc, letter)?));
-        }
-        if self.alone.contains(letter) {
-            return Ok(Some(one_letter(alloc, self.alone.size(), letter)?));
-        }
-        Ok(None)
+        self.left.contains(letter)
     }
 
-    /// The block of this letter, which is of the rest: as long as blocks may be split off, all
-    /// letters of the rest that no label tells from it.
+    /// The block of this letter, which remains. A block of the rest doesn't remain. Time: constant,
+    /// where the letter comes by itself, and else a set operation for each label.
+    pub(crate) fn take(&mut self, alloc: Global, letter: u32) -> Result<L, AllocError>
+        requires { remains self.old letter ≡ true }
+        ensures block { IfOk result (λ block. IsBlock self.old letter (L.letters block)) }
+        ensures fewer { IfOk result (λ block. AreFewer (L.letters block) self.old self.new) }
+    {
+        if self.splits == 0 || !self.rest.contains(letter) {
+            return one_letter(alloc, self.left.size(), letter);
+        }
+        self.splits -= 1;
+        self.split_off(alloc, letter)
+    }
+
+    /// The block of this letter, which is of the rest: all letters of the rest that no label tells
+    /// from it.
     fn split_off(&mut self, alloc: Global, letter: u32) -> Result<L, AllocError>
         requires { has self.old.rest letter ≡ true }
         ensures block { IfOk result (λ block. IsBlock self.old letter (L.letters block)) }
         ensures fewer { IfOk result (λ block. AreFewer (L.letters block) self.old self.new) }
     {
-        if self.splits == 0 {
-            return one_letter(alloc, self.rest.size(), letter);
-        }
-        self.splits -= 1;
         let block = narrowed(alloc, &self.rest, &self.labels, letter)?;
-        self.rest = self.rest.minus(alloc, &block)?;
+        let rest = self.rest.minus(alloc, &block)?;
+        let left = self.left.minus(alloc, &block)?;
+        self.rest = rest;
+        self.left = left;
         Ok(block)
     }
 }

@@ -56,9 +56,10 @@ fn is_followed<'a, L: LabelSet>(
 {
     let mut blocks = reader.blocks(alloc, over, table.get(number))?;
     for letter in 0..over.size() {
-        let Some(_block) = blocks.take(alloc, letter)? else {
+        if !blocks.has_left(letter) {
             continue;
-        };
+        }
+        let _block = blocks.take(alloc, letter)?;
         if follower(alloc, reader, table, number, letter)?.is_none() {
             return Ok(false);
         }

@@ -99,9 +99,10 @@ fn leave<'a, L: LabelSet>(
 {
     let mut blocks = reader.blocks(alloc, over, table.get(number))?;
     for letter in 0..over.size() {
-        let Some(_block) = blocks.take(alloc, letter)? else {
+        if !blocks.has_left(letter) {
             continue;
-        };
+        }
+        let _block = blocks.take(alloc, letter)?;
         let known = table.len();
         let next = reader.next(alloc, table.get(number), letter)?;
         if table.number(next)? < known {

@@ -64,9 +64,10 @@ fn edges_from<'a, L: LabelSet>(
     let mut blocks = reader.blocks(alloc, over, table.get(number))?;
     let mut bundle = Bundle::new(alloc);
     for letter in 0..over.size() {
-        let Some(label) = blocks.take(alloc, letter)? else {
+        if !blocks.has_left(letter) {
             continue;
-        };
+        }
+        let label = blocks.take(alloc, letter)?;
         let Some(to) = follower(alloc, reader, table, number, letter)? else {
             return Ok(None);
         };

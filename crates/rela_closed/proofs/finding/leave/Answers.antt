@@ -11,25 +11,23 @@ use Rattle.rela_closed.proofs.TakenBlocks.{AreDone, done_skipped, fewer_remain}
 use Rattle.rela_closed.proofs.WordLists.{ordered_push, words_of_length}
 use Rattle.rela_closed.proofs.finding.leave.Goals as goal
 
-pub loop-letter-preserved-in_default : goal.loop-letter-preserved-in_default
-loop-letter-preserved-in_default g c =
+pub loop-letter-preserved-then-not-has_left : goal.loop-letter-preserved-then-not-has_left
+loop-letter-preserved-then-not-has_left g c =
     let over = g.L.LabelSet.letters c.args.over.now in
     let words = words_of c.loop-letter.steps.items in
     let table = c.loop-letter.table in
     let letter = c.loop-letter.letter in
-    let none = rw c.in_default.is at c.in_ok-_block.ensures.none in
-    let same = rw c.in_default.is at c.in_ok-_block.ensures.same in
+    let none = sym c.has_left.ensures ∙ c.if-not-has_left.true in
     record {
       same = c.loop-letter.invariant.same;
       more = c.loop-letter.invariant.more;
       few = c.loop-letter.invariant.few;
       ordered = c.loop-letter.invariant.ordered;
       searched = search_old over c.args.reader.now words table c.args.number letter c.loop-letter.invariant.searched (λ read. c.loop-letter.invariant.done letter read (inr none));
-      told = subst (AreTold c.args.reader.now (get_or table c.args.number [])) (sym same) c.loop-letter.invariant.told;
-      over = λ k there. c.loop-letter.invariant.over k (ap (λ b. remains b k) (sym same) ∙ there);
+      told = c.loop-letter.invariant.told;
+      over = c.loop-letter.invariant.over;
       done =
-          subst (λ b. AreDone over (λ k. IsLed c.args.reader.now words table c.args.number k) b (letter + 1)) (sym same)
-          (done_skipped over (λ k. IsLed c.args.reader.now words table c.args.number k) c.loop-letter.blocks letter none c.loop-letter.invariant.done);
+          done_skipped over (λ k. IsLed c.args.reader.now words table c.args.number k) c.loop-letter.blocks letter none c.loop-letter.invariant.done;
     }
 
 pub loop-letter-preserved-then-branch-known : goal.loop-letter-preserved-then-branch-known
@@ -42,9 +40,9 @@ loop-letter-preserved-then-branch-known g c =
     let letter = c.loop-letter.letter in
     let p = c.args.number in
     let n = c.in_ok-number.field-0 in
-    let block = g.L.LabelSet.letters c.in-Some._block in
-    let is = rw c.in-Some.is at c.in_ok-_block.ensures.block in
-    let fewer = rw c.in-Some.is at c.in_ok-_block.ensures.fewer in
+    let block = g.L.LabelSet.letters c.in_ok-_block._block in
+    let is = c.in_ok-_block.ensures.block in
+    let fewer = c.in_ok-_block.ensures.fewer in
     let next = sets_in c.in_ok-next.next.items in
     let numbered = c.in_ok-number.ensures.numbered in
     let known : n < length table = omega (arith, c.if-branch-known.true, c.len-known.ensures.len) in
@@ -78,7 +76,7 @@ returns-then-len-limit-clause-limit g c = λ _.
     let letter = c.loop-letter.letter in
     let p = c.args.number in
     let n = c.in_ok-number.field-0 in
-    let is = rw c.in-Some.is at c.in_ok-_block.ensures.block in
+    let is = c.in_ok-_block.ensures.block in
     let next = sets_in c.in_ok-next.next.items in
     let numbered = c.in_ok-number.ensures.numbered in
     let past : length table ≤ n = omega (arith, c.if-branch-known.false, c.len-known.ensures.len) in
@@ -104,9 +102,9 @@ loop-letter-preserved g c =
     let letter = c.loop-letter.letter in
     let p = c.args.number in
     let n = c.in_ok-number.field-0 in
-    let block = g.L.LabelSet.letters c.in-Some._block in
-    let is = rw c.in-Some.is at c.in_ok-_block.ensures.block in
-    let fewer = rw c.in-Some.is at c.in_ok-_block.ensures.fewer in
+    let block = g.L.LabelSet.letters c.in_ok-_block._block in
+    let is = c.in_ok-_block.ensures.block in
+    let fewer = c.in_ok-_block.ensures.fewer in
     let next = sets_in c.in_ok-next.next.items in
     let numbered = c.in_ok-number.ensures.numbered in
     let past : length table ≤ n = omega (arith, c.if-branch-known.false, c.len-known.ensures.len) in

@@ -7,31 +7,29 @@ use Rattle.rela_closed.proofs.Leaving.{leads_as}
 use Rattle.rela_closed.proofs.TakenBlocks.{AreDone, block_leads, done_skipped, done_taken, done_weaker, fewer_remain, told_fewer}
 use Rattle.rela_closed.proofs.transitions.edges_from.Goals as goal
 
-pub loop-letter-preserved-in_default : goal.loop-letter-preserved-in_default
-loop-letter-preserved-in_default g c =
+pub loop-letter-preserved-then-not-has_left : goal.loop-letter-preserved-then-not-has_left
+loop-letter-preserved-then-not-has_left g c =
     let over = g.L.LabelSet.letters c.args.over.now in
     let sets = get_or c.args.table.now c.args.number [] in
     let bundle = c.loop-letter.bundle in
     let letter = c.loop-letter.letter in
-    let none = rw c.in_default.is at c.in_ok-label.ensures.none in
-    let same = rw c.in_default.is at c.in_ok-label.ensures.same in
+    let none = sym c.has_left.ensures ∙ c.if-not-has_left.true in
     record {
       same = c.loop-letter.invariant.same;
       kept = c.loop-letter.invariant.kept;
-      size = ap (λ b. length b.rest) same ∙ c.loop-letter.invariant.size;
-      told = subst (AreTold c.args.reader.now sets) (sym same) c.loop-letter.invariant.told;
-      over = λ k there. c.loop-letter.invariant.over k (ap (λ b. remains b k) (sym same) ∙ there);
+      size = c.loop-letter.invariant.size;
+      told = c.loop-letter.invariant.told;
+      over = c.loop-letter.invariant.over;
       edges = edges_skip over c.args.reader.now c.args.table.now sets letter bundle (λ read. c.loop-letter.invariant.done letter read (inr none)) c.loop-letter.invariant.edges;
       done =
-          subst (λ b. AreDone over (λ k. (to : ℕ) × StepIn bundle (Some k) to) b (letter + 1)) (sym same)
-          (done_skipped over (λ k. (to : ℕ) × StepIn bundle (Some k) to) c.loop-letter.blocks letter none c.loop-letter.invariant.done);
+          done_skipped over (λ k. (to : ℕ) × StepIn bundle (Some k) to) c.loop-letter.blocks letter none c.loop-letter.invariant.done;
     }
 
-pub returns-in_default-2-clause-left : goal.returns-in_default-2-clause-left
-returns-in_default-2-clause-left g c =
+pub returns-in_default-clause-left : goal.returns-in_default-clause-left
+returns-in_default-clause-left g c =
     let letter = c.loop-letter.letter in
-    let is = rw c.in-Some.is at c.in_ok-label.ensures.block in
-    let out = rw c.in_default-2.is at c.in_ok-to.ensures.out in
+    let is = c.in_ok-label.ensures.block in
+    let out = rw c.in_default.is at c.in_ok-to.ensures.out in
     record {
       from = c.args.number;
       letter = letter;
@@ -44,7 +42,7 @@ returns-in_default-2-clause-left g c =
 
 pub put-requires : goal.put-requires
 put-requires g c = λ i d below set e.
-    let is = rw c.in-Some.is at c.in_ok-label.ensures.block in
+    let is = c.in_ok-label.ensures.block in
     (c.loop-letter.invariant.edges.moves i d below).sized set e ∙ sym (is.sized ∙ c.loop-letter.invariant.size)
 
 pub loop-letter-preserved : goal.loop-letter-preserved
@@ -56,12 +54,12 @@ loop-letter-preserved g c =
     let letter = c.loop-letter.letter in
     let old = c.loop-letter.bundle in
     let new = c.put.new.self in
-    let to = c.in-Some-2.to in
-    let block = g.L.LabelSet.letters c.in-Some.label in
-    let is = rw c.in-Some.is at c.in_ok-label.ensures.block in
-    let fewer = rw c.in-Some.is at c.in_ok-label.ensures.fewer in
-    let follows = rw c.in-Some-2.is at c.in_ok-to.ensures.follows in
-    let kept = rw c.in-Some-2.is at c.in_ok-to.ensures.kept in
+    let to = c.in-Some.to in
+    let block = g.L.LabelSet.letters c.in_ok-label.label in
+    let is = c.in_ok-label.ensures.block in
+    let fewer = c.in_ok-label.ensures.fewer in
+    let follows = rw c.in-Some.is at c.in_ok-to.ensures.follows in
+    let kept = rw c.in-Some.is at c.in_ok-to.ensures.kept in
     let put = c.in_ok-put.ensures in
     let leads = leads_as automata c.loop-letter.reader table c.loop-letter.table c.args.number letter to c.loop-letter.invariant.same c.loop-letter.invariant.kept follows in
     record {

@@ -8,11 +8,11 @@ pub returns-clause-block : goal.returns-clause-block
 returns-clause-block g c =
     let letters = g.L.LabelSet.letters in
     let inside : Splitting = record {
-      alone = letters c.self.inside.alone;
+      left = letters c.self.inside.left;
       rest = letters c.self.inside.rest;
       labels = map (λ label. letters label.now) c.self.inside.labels.items;
     } in
     subst (λ s. IsBlock s c.args.letter (letters c.in_ok-block.block)) c.self.view_is
-    (split_block inside c.args.letter (letters c.in_ok-block.block) (subst (λ (s : Splitting). has s.rest c.args.letter ≡ true) (sym c.self.view_is) c.requires)
+    (split_block inside c.args.letter (letters c.in_ok-block.block) (subst (λ (s : Splitting). has s.rest c.args.letter ≡ true) (sym c.self.view_is) c.requires) c.self.invariant.1
     (subst (λ ls. (k : ℕ) → (has (letters c.in_ok-block.block) k ≡ true) ↔ ((has inside.rest k ≡ true) × AreTogether (map (λ label. letters label.now) ls) c.args.letter k)) c.deref.ensures.value
     c.in_ok-block.ensures.together) c.in_ok-block.ensures.size)
