@@ -1,16 +1,16 @@
 -- Letters by which the same edges may be taken lead to the same sets.
-use Rattle.std.proofs.Common.{◌≡◌, ℕ, suc, ◌<◌, ◌↔◌, ◌&&◌, not, Bool, true, false, List, [], ◌∷◌, ◌++◌, length, get_or, Option, None, Some, refl, sym, ap, ◌∙◌, subst, inl, inr, arith, length-append}
+use Rattle.std.proofs.Common.{◌≡◌, ℕ, suc, ◌<◌, ◌&&◌, not, Bool, true, false, List, [], ◌∷◌, ◌++◌, length, get_or, Option, None, Some, refl, sym, ap, ◌∙◌, subst, inl, inr, arith, length-append}
 use Rattle.std.specs.List.{All, Contains}
 use Rattle.std.specs.Option.{ForSome, option_to_list}
 use Rattle.std.proofs.lemmas.Bool.{cases_Bool, false≢true}
 use Rattle.std.proofs.lemmas.List.{append-nil, same_from_push}
-use Rattle.std.proofs.lemmas.List.Elements.{All-contains, All-from_get_or, All-get_or, All-weaker}
+use Rattle.std.proofs.lemmas.List.Elements.{All-contains, All-weaker}
 use Rattle.rela_labels.specs.Letters.{has}
 use Rattle.rela_nfa.specs.Automaton.{Automaton, Move, moves_of}
 use Rattle.rela_nfa.specs.Runs.{HasStep, Reach, StepIn}
 use Rattle.rela_nfa.proofs.Reaching.{reach_each, reach_silent, reach_step}
 use Rattle.rela_closed.specs.Listing.{takes}
-use Rattle.rela_closed.specs.Sets.{AreReached, Leads, Lists, ReachedBy}
+use Rattle.rela_closed.specs.Sets.{AreReached, Lists, ReachedBy}
 use Rattle.rela_closed.specs.Splitting.{AreSorted, AreTogether, AreTold, IsSorted, LeadAlike, Sorted, Splitting}
 use Rattle.rela_closed.proofs.Walks.{lists_as}
 

@@ -10,7 +10,7 @@ use Rattle.rela_closed.specs.declared.step.Step.{Step}
 use Rattle.rela_closed.proofs.Leaving.{known_same, new_at, new_pushed}
 use Rattle.rela_closed.proofs.Searching.{keeps, led_alike, search_known, search_new, search_step}
 use Rattle.rela_closed.proofs.TakenBlocks.{AreDone, block_leads, done_taken, done_weaker, told_fewer}
-use Rattle.rela_closed.proofs.WordLists.{word_by, words_of_push}
+use Rattle.rela_closed.proofs.WordLists.{words_of_push}
 
 module _ (over : List Bool) (automata : List Automaton) (words : List (List ℕ)) (table : List (List (List ℕ))) (p letter : ℕ) (blocks blocks' : Splitting) (block : List Bool)
     (told : AreTold automata (get_or table p []) blocks) (within : (k : ℕ) → remains blocks k ≡ true → has over k ≡ true) (is : IsBlock blocks letter block) (fewer : AreFewer block blocks blocks')

@@ -1,5 +1,4 @@
-use Rattle.std.proofs.Common.{◌≡◌, Bor, length, map, ap, sym, ◌∙◌}
-use Rattle.std.proofs.lemmas.List.{get_or-map, length-map}
+use Rattle.std.proofs.Common.{◌≡◌, length, ap, sym, ◌∙◌}
 use Rattle.rela_closed.proofs.Narrowing.{narrowed_all, narrowed_more, narrowed_none}
 use Rattle.rela_closed.proofs.Readers.{all_at}
 use Rattle.rela_closed.proofs.blocks.narrowed.Goals as goal

@@ -1,4 +1,4 @@
-use Rattle.std.proofs.Common.{◌≡◌, ℕ, [], get_or, ◌∙◌}
+use Rattle.std.proofs.Common.{◌≡◌, [], get_or, ◌∙◌}
 use Rattle.rela_closed.specs.Listing.{IsFollowed, LeadsTo}
 use Rattle.rela_closed.proofs.Leaving.{leads_as, some_of}
 use Rattle.rela_closed.proofs.TakenBlocks.{block_leads, done_taken, fewer_remain, told_fewer}

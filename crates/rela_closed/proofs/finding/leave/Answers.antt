@@ -1,13 +1,12 @@
-use Rattle.std.proofs.Common.{◌≡◌, ◌+◌, ◌<◌, ◌≤◌, [], get_or, length, sym, ap, ◌∙◌, subst, inl, inr, arith}
-use Rattle.rela_closed.specs.Listing.{IsLed, IsSearched}
-use Rattle.rela_closed.specs.Splitting.{AreTold, remains}
+use Rattle.std.proofs.Common.{◌≡◌, ◌+◌, ◌<◌, ◌≤◌, [], get_or, length, sym, ap, ◌∙◌, subst, inr, arith}
+use Rattle.rela_closed.specs.Listing.{IsLed}
 use Rattle.rela_closed.specs.Words.{words_of}
 use Rattle.rela_closed.proofs.Leaving.{no_more_letters}
 use Rattle.rela_closed.proofs.LeftLetters.{done_after, leads_from, led_new, same_table, searched_known, searched_new, told_after}
 use Rattle.rela_closed.proofs.Listed.{table_kept, table_longer, table_one_longer}
 use Rattle.rela_closed.proofs.Searching.{search_next, search_old, search_passed}
 use Rattle.rela_closed.proofs.SetsFound.{sets_in}
-use Rattle.rela_closed.proofs.TakenBlocks.{AreDone, done_skipped, fewer_remain}
+use Rattle.rela_closed.proofs.TakenBlocks.{done_skipped, fewer_remain}
 use Rattle.rela_closed.proofs.WordLists.{ordered_push, words_of_length}
 use Rattle.rela_closed.proofs.finding.leave.Goals as goal
 

@@ -1,10 +1,9 @@
-use Rattle.std.proofs.Common.{◌≡◌, ℕ, ◌+◌, Some, [], get_or, length, sym, ap, ◌∙◌, subst, inr, arith}
+use Rattle.std.proofs.Common.{◌≡◌, ℕ, Some, [], get_or, length, sym, ◌∙◌, subst, inr, arith}
 use Rattle.rela_nfa.specs.Runs.{StepIn}
 use Rattle.rela_closed.specs.Listing.{AreEdges, LeadsOut}
-use Rattle.rela_closed.specs.Splitting.{AreTold, remains}
 use Rattle.rela_closed.proofs.Edges.{edges_more, edges_skip, put_here, put_old}
 use Rattle.rela_closed.proofs.Leaving.{leads_as}
-use Rattle.rela_closed.proofs.TakenBlocks.{AreDone, block_leads, done_skipped, done_taken, done_weaker, fewer_remain, told_fewer}
+use Rattle.rela_closed.proofs.TakenBlocks.{block_leads, done_skipped, done_taken, done_weaker, fewer_remain, told_fewer}
 use Rattle.rela_closed.proofs.transitions.edges_from.Goals as goal
 
 pub loop-letter-preserved-then-not-has_left : goal.loop-letter-preserved-then-not-has_left

@@ -1,6 +1,5 @@
-use Rattle.std.proofs.Common.{◌≡◌, Some, length, map, take, refl, sym, ap, ◌∙◌, subst, arith}
+use Rattle.std.proofs.Common.{map, take, refl, sym, ap, ◌∙◌, subst, arith}
 use Rattle.std.proofs.lemmas.List.{take_all}
-use Rattle.std.proofs.lemmas.List.Elements.{All-nil}
 use Rattle.rela_nfa.specs.Stored.{move_of}
 use Rattle.rela_closed.specs.Splitting.{AreSorted}
 use Rattle.rela_closed.proofs.Readers.{map_take_more}

@@ -1,10 +1,10 @@
-use Rattle.std.proofs.Common.{◌≡◌, ◌<◌, ◌≢◌, List, ℕ, [], ◌∷◌, get_or, length, take, refl, sym, ap, ◌∙◌, subst, inl, inr, arith}
+use Rattle.std.proofs.Common.{◌<◌, get_or, take, refl, sym, ◌∙◌, subst, inl, inr}
 use Rattle.std.specs.List.{Contains}
 use Rattle.std.proofs.lemmas.List.{take_all, take_more}
 use Rattle.std.proofs.lemmas.List.Elements.{All-get_or, Contains-push_cases}
 use Rattle.rela_nfa.specs.Automaton.{moves_of, states}
 use Rattle.rela_closed.specs.Splitting.{AreSorted}
-use Rattle.rela_closed.proofs.SortedOut.{more_alone, more_more, more_same, sorted_alone, still_all}
+use Rattle.rela_closed.proofs.SortedOut.{more_more, more_same, still_all}
 use Rattle.rela_closed.proofs.Targets.{Contains-nil}
 use Rattle.rela_closed.proofs.Walks.{set_within}
 use Rattle.rela_closed.proofs.labels.Labels.put_from.Goals as goal

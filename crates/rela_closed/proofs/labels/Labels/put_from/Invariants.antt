@@ -1,4 +1,4 @@
-use Rattle.std.proofs.Common.{◌≡◌, ℕ, Bool, List, length, take}
+use Rattle.std.proofs.Common.{◌≡◌, ℕ, length, take}
 use Rattle.std.specs.List.{Contains}
 use Rattle.rela_nfa.specs.Automaton.{moves_of}
 use Rattle.rela_closed.specs.Splitting.{AreSorted, IsMore}

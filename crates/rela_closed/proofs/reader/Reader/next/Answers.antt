@@ -1,5 +1,5 @@
-use Rattle.std.proofs.Common.{rules, ◌≡◌, ℕ, ◌<◌, ◌≤◌, Bor, List, [], ◌∷◌, ◌++◌, length, get_or, map, take, refl, sym, ap, ◌∙◌, subst, arith}
-use Rattle.std.proofs.lemmas.List.{get_or-map, get_or_default, length-map, take_all}
+use Rattle.std.proofs.Common.{rules, ◌≡◌, ◌<◌, ◌≤◌, Bor, [], ◌∷◌, ◌++◌, length, get_or, map, take, refl, sym, ap, ◌∙◌, subst, arith}
+use Rattle.std.proofs.lemmas.List.{get_or-map, get_or_default, take_all}
 use Rattle.rela_nfa.specs.Automaton.{Automaton, states}
 use Rattle.rela_nfa.specs.declared.nfa.Nfa.{Nfa}
 use Rattle.rela_closed.specs.Sets.{AreReached, Lists, ReachedBy}
