@@ -1,4 +1,4 @@
--- The blocks by which a check is judged for a flow.
+-- The blocks of a check, and those by which it is judged for a flow.
 use Rattle.std.proofs.Common.{◌≡◌, ◌∙◌, ℕ, zero, suc, ◌+◌, ◌-◌, ◌<◌, ◌≤◌, ◌↔◌, List, [], ◌∷◌, ◌++◌, length, get_or, map, inl, inr, refl, sym, ap, subst, append_assoc, add-one, arith}
 use Rattle.std.specs.List.{All, range_with_len}
 use Rattle.std.specs.Prelude.{Contains, Result, Ok, Err, IfOk}
@@ -7,15 +7,18 @@ use Rattle.std.proofs.lemmas.List.{length-map, get_or-map}
 use Rattle.std.proofs.lemmas.List.FromFn.{get_or-range_with_len, length-range_with_len}
 use Rattle.std.proofs.lemmas.List.Elements.{All-append, All-map, All-weaker, All-contains, Contains-append_left, Contains-append_right, Contains-get_or}
 use Rattle.rela_build.specs.Lettering.{AreLetterBlocks, AreListedAlike, IsAlone}
+use Rattle.rela_build.specs.Named.{NamesR}
 use Rattle.rela_graph.specs.Alone.{StandsAlone}
 use Rattle.rela_graph.specs.Topology.{Topology, symbol_at}
 use Rattle.rela_graph.specs.declared.node.Node.{Node}
 use Rattle.rela_labels.specs.Partition.{IsPartition, Together}
 use Rattle.rela_names.specs.declared.level.Level.{Level}
+use Rattle.rela_nfa.specs.Relabelling.{Refines}
 use Rattle.rela_translate.specs.Checked.{Checked, IsCheck, markers_of}
+use Rattle.rela_translate.specs.Terms.{after_of, before_of}
 use Rattle.rela_translate.specs.Zones.{marker_symbol}
 use Rattle.rela_blocks.specs.Readable.{IsGraphReadable}
-use Rattle.rela_blocks.specs.RowBlocks.{AreRowBlocks, symbols_apart, symbols_of}
+use Rattle.rela_blocks.specs.RowBlocks.{AreCheckBlocks, AreRowBlocks, check_symbols_apart, node_symbols, symbols_of}
 use Rattle.rela_blocks.specs.Scenes.{lettering_of}
 use Rattle.rela_blocks.proofs.NamedByChecks.{before_names, after_names}
 
@@ -50,125 +53,176 @@ one_of level nodes k d within =
     let long : k < length (map (symbol_at level) nodes) = omega (arith, within, length-map nodes (symbol_at level)) in
     subst (Contains (map (symbol_at level) nodes)) (get_or-map (symbol_at level) nodes k d 0 within) (Contains-get_or (map (symbol_at level) nodes) k 0 long)
 
-module _ (check : Checked) (names : List (List ℕ)) (pre post : Topology) where
-  abbrev n : ℕ
-  n = length names
+range_from : (first count : ℕ) → All (λ s. first ≤ s) (range_with_len first count)
+range_from first count i d within =
+    let inside : i < count = omega (arith, within, length-range_with_len first count) in
+    let at = get_or-range_with_len first count i d inside in
+    omega (arith, at)
 
+-- the symbols u are set apart in the finer partition
+abbrev AreApart : List ℕ → ℕ → ℕ → Type 0
+AreApart symbols s t = (u : ℕ) → Contains symbols u → (s ≡ u) ↔ (t ≡ u)
+
+module _ (check : Checked) (n : ℕ) where
   abbrev m : ℕ
   m = length (markers_of check.body)
 
-  abbrev At : Topology → List ℕ
-  At g = map (symbol_at check.level) g.nodes
-
   abbrev tail : List ℕ
-  tail = range_with_len n (2 + m)
-
-  abbrev parts : List ℕ
-  parts = symbols_apart check n pre post
+  tail = check_symbols_apart check n
 
   abbrev IsSymbol : ℕ → Type 0
   IsSymbol s = s < symbols_of check n
 
-  abbrev IsPlaced : Topology → Type 0
-  IsPlaced g = All (λ node. symbol_at check.level node < n) g.nodes
+  pub tail_below : All IsSymbol tail
+  tail_below = range_below n (2 + m) (symbols_of check n) (omega arith)
 
-  at_below : (g : Topology) → IsPlaced g → All IsSymbol (At g)
-  at_below g placed =
-      All-map IsSymbol (symbol_at check.level) g.nodes
-      (All-weaker (λ node. symbol_at check.level node < n) (λ node. IsSymbol (symbol_at check.level node)) (λ node less. omega (arith, less)) g.nodes placed)
+  -- where all symbols but the locations stand alone, so does each that a term names
+  module _ (blocks : List ℕ) (apart : (s : ℕ) → n ≤ s → IsSymbol s → IsAlone blocks s) (is : IsCheck check) where
+    -- a marker of the check is one of its last symbols
+    marked : (k : ℕ) → Contains (markers_of check.body) k → IsAlone blocks (marker_symbol n k)
+    marked k has =
+        let among : Contains (range_with_len 1 m) k = subst (λ (l : List ℕ). Contains l k) is.numbered has in
+        let low : 1 ≤ k = All-contains (λ s. 1 ≤ s) (range_with_len 1 m) k (range_from 1 m) among in
+        let high : k < 1 + m = All-contains (λ s. s < 1 + m) (range_with_len 1 m) k (range_below 1 m (1 + m) (omega arith)) among in
+        apart (marker_symbol n k) (omega arith) (omega (arith, low, high))
 
-  pub parts_below : IsPlaced pre → IsPlaced post → All IsSymbol parts
-  parts_below pre_placed post_placed =
-      All-append IsSymbol (At pre ++ At post) tail
-      (All-append IsSymbol (At pre) (At post) (at_below pre pre_placed) (at_below post post_placed))
-      (range_below n (2 + m) (symbols_of check n) (omega arith))
+    before_alone : NamesR (IsAlone blocks) (before_of n check.body)
+    before_alone = before_names (IsAlone blocks) n (apart n (omega arith) (omega arith)) check.body marked
 
-  -- ---- where these symbols were set apart
+    after_alone : NamesR (IsAlone blocks) (after_of n check.body)
+    after_alone = after_names (IsAlone blocks) n (apart n (omega arith) (omega arith)) check.body marked
 
-  module _ (coarse fine : List ℕ) (few : length coarse ≡ symbols_of check n)
-      (alike : (s t : ℕ) → s < symbols_of check n → t < symbols_of check n → Together coarse s t → AreListedAlike check.classes s t)
-      (size : length fine ≡ length coarse) (partition : IsPartition fine)
-      (together : (s t : ℕ) → s < length coarse → t < length coarse
-      → Together fine s t ↔ (Together coarse s t × ((u : ℕ) → Contains parts u → (s ≡ u) ↔ (t ≡ u)))) where
-    alone : (s : ℕ) → IsSymbol s → Contains parts s → StandsAlone fine s
-    alone s below has t within one =
-        sym ((((together s t (omega (arith, below, few)) (omega (arith, within, size))).0 one).1 s has).0 refl)
+  -- blocks that split those of a check
+  lettered : (blocks : List ℕ) → length blocks ≡ symbols_of check n → IsPartition blocks → ((s : ℕ) → n ≤ s → IsSymbol s → IsAlone blocks s)
+      → ((s t : ℕ) → s < length blocks → t < length blocks → Together blocks s t → AreListedAlike check.classes s t) → AreLetterBlocks (lettering_of check n blocks)
+  lettered blocks size partition apart alike = record {
+    symbols = size;
+    partition = partition;
+    of_path = λ s t s_in t_in one path. elim (cases_lt t (n + 2)) [
+      | inl below ↦ below
+      | inr past ↦
+          let same : s ≡ t = (apart t (omega arith) (omega (arith, t_in, size))).alone s s_in one in
+          omega (arith, same, path)
+    ];
+    of_classes = alike;
+  }
 
-    of_tail : (s : ℕ) → n ≤ s → s < symbols_of check n → Contains parts s
-    of_tail s low high = Contains-append_right (At pre ++ At post) tail s (in_range n (2 + m) s low (omega arith))
+  -- ---- the blocks of the check
 
-    last_alone : (s : ℕ) → n ≤ s → s < symbols_of check n → StandsAlone fine s
-    last_alone s low high = alone s high (of_tail s low high)
-
-    is_alone : (s : ℕ) → n ≤ s → s < symbols_of check n → IsAlone fine s
-    is_alone s low high = record {
+  module _ (split blocks : List ℕ) (few : length split ≡ symbols_of check n)
+      (alike : (s t : ℕ) → IsSymbol s → IsSymbol t → Together split s t → AreListedAlike check.classes s t)
+      (size : length blocks ≡ length split) (partition : IsPartition blocks)
+      (together : (s t : ℕ) → s < length split → t < length split → Together blocks s t ↔ (Together split s t × AreApart tail s t)) (is : IsCheck check) where
+    tail_alone : (s : ℕ) → n ≤ s → IsSymbol s → IsAlone blocks s
+    tail_alone s low high = record {
       symbol = omega (arith, high, size, few);
-      alone = λ t within one. sym (last_alone s low high t within (sym one));
+      alone = λ t within one.
+          let apart = ((together t s (omega (arith, within, size)) (omega (arith, high, few))).0 one).1 in
+          (apart s (in_range n (2 + m) s low (omega arith))).1 refl;
     }
 
-    letters : AreLetterBlocks (lettering_of check n fine)
-    letters = record {
-      symbols = omega (arith, size, few);
-      partition = partition;
-      of_path = λ s t s_in t_in one path. elim (cases_lt t (n + 2)) [
-        | inl below ↦ below
-        | inr past ↦
-            let same : t ≡ s = last_alone t (omega arith) (omega (arith, t_in, size, few)) s s_in (sym one) in
-            omega (arith, same, path)
-      ];
-      of_classes = λ s t s_in t_in one.
+    are_check_blocks : AreCheckBlocks check n blocks
+    are_check_blocks = record {
+      letters = lettered blocks (omega (arith, size, few)) partition tail_alone (λ s t s_in t_in one.
           alike s t (omega (arith, s_in, size, few)) (omega (arith, t_in, size, few))
-          ((together s t (omega (arith, s_in, size)) (omega (arith, t_in, size))).0 one).0;
+          ((together s t (omega (arith, s_in, size)) (omega (arith, t_in, size))).0 one).0);
+      apart = tail_alone;
+      before = before_alone blocks tail_alone is;
+      after = after_alone blocks tail_alone is;
     }
 
-    of_pre : (s : ℕ) → Contains (At pre) s → Contains parts s
-    of_pre s has = Contains-append_left (At pre ++ At post) tail s (Contains-append_left (At pre) (At post) s has)
+  pub check_result : {E : Type 0} (split symbols : List ℕ) (r : Result (List ℕ) E) → symbols ≡ tail → length split ≡ symbols_of check n
+      → ((s t : ℕ) → IsSymbol s → IsSymbol t → Together split s t → AreListedAlike check.classes s t)
+      → IfOk r (λ blocks. length blocks ≡ length split) → IfOk r IsPartition
+      → IfOk r (λ blocks. (s t : ℕ) → s < length split → t < length split → Together blocks s t ↔ (Together split s t × AreApart symbols s t))
+      → IsCheck check → IfOk r (AreCheckBlocks check n)
+  check_result split symbols (Err e) gathered few alike size partition together is = tt
+  check_result split symbols (Ok blocks) gathered few alike size partition together is =
+      are_check_blocks split blocks few alike size partition
+      (subst (λ (l : List ℕ). (s t : ℕ) → s < length split → t < length split → Together blocks s t ↔ (Together split s t × AreApart l s t)) gathered together) is
 
-    of_post : (s : ℕ) → Contains (At post) s → Contains parts s
-    of_post s has = Contains-append_left (At pre ++ At post) tail s (Contains-append_right (At pre) (At post) s has)
+-- ---- the blocks of a row
+
+module _ (check : Checked) (names : List (List ℕ)) (pre post : Topology) where
+  abbrev At : Topology → List ℕ
+  At g = map (symbol_at check.level) g.nodes
+
+  abbrev parts : List ℕ
+  parts = node_symbols check.level pre post
+
+  abbrev IsPlaced : Topology → Type 0
+  IsPlaced g = All (λ node. symbol_at check.level node < length names) g.nodes
+
+  at_below : (g : Topology) → IsPlaced g → All (λ s. s < symbols_of check (length names)) (At g)
+  at_below g placed =
+      All-map (λ s. s < symbols_of check (length names)) (symbol_at check.level) g.nodes
+      (All-weaker (λ node. symbol_at check.level node < length names) (λ node. symbol_at check.level node < symbols_of check (length names)) (λ node less. omega (arith, less)) g.nodes placed)
+
+  pub parts_below : IsPlaced pre → IsPlaced post → All (λ s. s < symbols_of check (length names)) parts
+  parts_below pre_placed post_placed =
+      All-append (λ s. s < symbols_of check (length names)) (At pre) (At post) (at_below pre pre_placed) (at_below post post_placed)
+
+  module _ (coarse fine : List ℕ) (are : AreCheckBlocks check (length names) coarse) (is : IsCheck check)
+      (size : length fine ≡ length coarse) (partition : IsPartition fine)
+      (together : (s t : ℕ) → s < length coarse → t < length coarse → Together fine s t ↔ (Together coarse s t × AreApart parts s t)) where
+    few : length coarse ≡ symbols_of check (length names)
+    few = are.letters.symbols
+
+    refines : Refines fine coarse
+    refines = record {
+      same_symbols = size;
+      together = λ s t s_in t_in one. ((together s t (omega (arith, s_in, size)) (omega (arith, t_in, size))).0 one).0;
+    }
+
+    still_alone : (s : ℕ) → length names ≤ s → s < symbols_of check (length names) → IsAlone fine s
+    still_alone s low high = record {
+      symbol = omega (arith, high, size, few);
+      alone = λ t within one. (are.apart s low high).alone t (omega (arith, within, size)) (refines.together t s within (omega (arith, high, size, few)) one);
+    }
+
+    stands : (s : ℕ) → IsAlone fine s → StandsAlone fine s
+    stands s alone t within one = sym (alone.alone t within (sym one))
+
+    node_alone : (s : ℕ) → s < symbols_of check (length names) → Contains parts s → StandsAlone fine s
+    node_alone s below has t within one =
+        sym ((((together s t (omega (arith, below, few)) (omega (arith, within, size))).0 one).1 s has).0 refl)
 
     readable : (g : Topology) → IsPlaced g → ((s : ℕ) → Contains (At g) s → Contains parts s) → IsGraphReadable check.level names g fine
     readable g placed within = record {
       placed = placed;
       symbols = omega (arith, size, few);
       nodes = λ k d inside.
-          alone (symbol_at check.level (get_or g.nodes k d)) (let less = placed k d inside in omega (arith, less))
+          node_alone (symbol_at check.level (get_or g.nodes k d)) (let less = placed k d inside in omega (arith, less))
           (within (symbol_at check.level (get_or g.nodes k d)) (one_of check.level g.nodes k d inside));
-      drops = last_alone n (omega arith) (omega arith);
-      loops = last_alone (n + 1) (omega arith) (omega arith);
+      drops = stands (length names) (still_alone (length names) (omega arith) (omega arith));
+      loops = stands (length names + 1) (still_alone (length names + 1) (omega arith) (omega arith));
     }
 
-    -- a marker of the check is one of its last symbols
-    marked : IsCheck check → (k : ℕ) → Contains (markers_of check.body) k → IsAlone fine (marker_symbol n k)
-    marked is k has =
-        let among : Contains (range_with_len 1 m) k = subst (λ (l : List ℕ). Contains l k) is.numbered has in
-        let low : 1 ≤ k = All-contains (λ s. 1 ≤ s) (range_with_len 1 m) k (range_from 1 m) among in
-        let high : k < 1 + m = All-contains (λ s. s < 1 + m) (range_with_len 1 m) k (range_below 1 m (1 + m) (omega arith)) among in
-        is_alone (marker_symbol n k) (omega arith) (omega (arith, low, high)) where
-          range_from : (first count : ℕ) → All (λ s. first ≤ s) (range_with_len first count)
-          range_from first count i d within =
-              let inside : i < count = omega (arith, within, length-range_with_len first count) in
-              let at = get_or-range_with_len first count i d inside in
-              omega (arith, at)
-
-    pub are_row_blocks : IsCheck check → IsPlaced pre → IsPlaced post → AreRowBlocks check names pre post fine
-    are_row_blocks is pre_placed post_placed = record {
-      letters = letters;
-      before = before_names (IsAlone fine) n (is_alone n (omega arith) (omega arith)) check.body (marked is);
-      after = after_names (IsAlone fine) n (is_alone n (omega arith) (omega arith)) check.body (marked is);
-      graphs = (readable pre pre_placed of_pre, readable post post_placed of_post);
+    are_row_blocks : IsPlaced pre → IsPlaced post → AreRowBlocks check names pre post fine
+    are_row_blocks pre_placed post_placed = record {
+      letters = lettered check (length names) fine (omega (arith, size, few)) partition still_alone (λ s t s_in t_in one.
+          are.letters.of_classes s t (omega (arith, s_in, size)) (omega (arith, t_in, size)) (refines.together s t s_in t_in one));
+      before = before_alone check (length names) fine still_alone is;
+      after = after_alone check (length names) fine still_alone is;
+      graphs = (
+        readable pre pre_placed (λ s has. Contains-append_left (At pre) (At post) s has),
+        readable post post_placed (λ s has. Contains-append_right (At pre) (At post) s has),
+      );
     }
 
   -- the partition in which the gathered symbols stand alone
-  pub row_result : {E : Type 0} (coarse symbols : List ℕ) (r : Result (List ℕ) E) → symbols ≡ parts → length coarse ≡ symbols_of check n
-      → ((s t : ℕ) → s < symbols_of check n → t < symbols_of check n → Together coarse s t → AreListedAlike check.classes s t)
-      → IfOk r (λ fine. length fine ≡ length coarse) → IfOk r IsPartition
-      → IfOk r (λ fine. (s t : ℕ) → s < length coarse → t < length coarse
-      → Together fine s t ↔ (Together coarse s t × ((u : ℕ) → Contains symbols u → (s ≡ u) ↔ (t ≡ u))))
-      → IsCheck check → IsPlaced pre → IsPlaced post → IfOk r (AreRowBlocks check names pre post)
-  row_result coarse symbols (Err e) gathered few alike same partition together is pre_placed post_placed = tt
-  row_result coarse symbols (Ok fine) gathered few alike same partition together is pre_placed post_placed =
-      are_row_blocks coarse fine few alike same partition
-      (subst (λ (l : List ℕ). (s t : ℕ) → s < length coarse → t < length coarse
-      → Together fine s t ↔ (Together coarse s t × ((u : ℕ) → Contains l u → (s ≡ u) ↔ (t ≡ u)))) gathered together)
-      is pre_placed post_placed
+  module _ (coarse symbols : List ℕ) (gathered : symbols ≡ parts) (are : AreCheckBlocks check (length names) coarse) (is : IsCheck check) where
+    abbrev IsSplit : List ℕ → List ℕ → Type 0
+    IsSplit l fine = (s t : ℕ) → s < length coarse → t < length coarse → Together fine s t ↔ (Together coarse s t × AreApart l s t)
+
+    pub row_result : {E : Type 0} (r : Result (List ℕ) E) → IfOk r (λ fine. length fine ≡ length coarse) → IfOk r IsPartition → IfOk r (IsSplit symbols)
+        → IsPlaced pre → IsPlaced post → IfOk r (AreRowBlocks check names pre post)
+    row_result (Err e) size partition together pre_placed post_placed = tt
+    row_result (Ok fine) size partition together pre_placed post_placed =
+        are_row_blocks coarse fine are is size partition (subst (λ (l : List ℕ). IsSplit l fine) gathered together) pre_placed post_placed
+
+    pub finer_result : {E : Type 0} (r : Result (List ℕ) E) → IfOk r (λ fine. length fine ≡ length coarse) → IfOk r IsPartition → IfOk r (IsSplit symbols)
+        → IfOk r (λ fine. Refines fine coarse)
+    finer_result (Err e) size partition together = tt
+    finer_result (Ok fine) size partition together =
+        refines coarse fine are is size partition (subst (λ (l : List ℕ). IsSplit l fine) gathered together)

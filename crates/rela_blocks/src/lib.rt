@@ -1,5 +1,5 @@
-//! The blocks of symbols over which a check is judged for one flow, and the paths of the flow as they
-//! are read by them.
+//! The blocks of a check's symbols, those over which it is judged for one flow, and the paths of the
+//! flow as they are read by them.
 #![tactic(auto)]
 
 mod blocks;
@@ -8,6 +8,6 @@ mod letters;
 mod markers;
 mod split;
 
-pub use blocks::{row_blocks, symbols_of};
+pub use blocks::{check_blocks, row_blocks, symbols_of};
 pub use flow_paths::FlowPaths;
-pub use letters::row_letters;
+pub use letters::check_letters;
