@@ -12,6 +12,7 @@ use Rattle.rela_certfile.specs.Listed.{IsBlock}
 use Rattle.rela_certfile.specs.declared.rows.ListedRow.{ListedRow}
 use Rattle.rela_certfile.specs.declared.rows.Step.{Step}
 use Rattle.rela_flows.specs.declared.planning.PlannedRow.{PlannedRow}
+use Rattle.rela_flows.specs.declared.planning.PlannedRow.TheVariants.{Checked as CheckedRow}
 use Rattle.rela_snapshot.specs.PairsLocated.{ArePairsLocated, IsPairLocated}
 use Rattle.rela_snapshot.specs.declared.pairing.FlowPair.{FlowPair}
 use Rattle.rela_translate.specs.Checked.{Checked}
@@ -25,6 +26,7 @@ use Rattle.rela_cert.specs.Subject.{HoldsAt, IsSubject, ListsPathSymbols, Subjec
 use Rattle.rela_cert.specs.declared.judgement.Judgement.{Judgement}
 use Rattle.rela_cert.specs.declared.judgement.Judgement.TheVariants.{Met, OpenComplement, BadImages, TooLarge}
 use Rattle.rela_cert.specs.declared.row.Row.{Row}
+use Rattle.rela_cert.proofs.ListedRows.{same_some}
 
 -- what each has, the one at a place has
 pub all_at : {X : Type 0} (P : X → Type 0) (xs : List X) (k : ℕ) (x : X) → All P xs → slice_get xs k ≡ Some x → P x
@@ -49,6 +51,13 @@ module _ (s : Subject) (planned : List PlannedRow) (rows : List ListedRow) (numb
   names = r.alphabet.now
 
   -- ---- what the judgement asks
+
+  -- the check is that of the number that is planned
+  pub check_there : (flow k : ℕ) → slice_get planned row.place ≡ Some (CheckedRow flow k) → slice_get s.checks k ≡ Some check
+  check_there flow k planned_as =
+      let e : CheckedRow is.of.flow is.of.number ≡ CheckedRow flow k = same_some (slice_get planned row.place) _ _ is.of.planned_as planned_as in
+      let same : is.of.number ≡ k = cc in
+      subst (λ (j : ℕ). slice_get s.checks j ≡ Some check) same is.of.of_check
 
   module _ (subject : IsSubject s) where
     pub classes_listed : All (λ set. All (λ x. x < length names + 2) set.members) check.classes

@@ -6,6 +6,12 @@ pub mod RowStops
 pub mod FlagWords
 pub mod ImageNames
 pub mod RowJudged
+pub mod Refinements
+pub mod FixedTerms
+pub mod FixedParts
+pub mod RefinedRelations
+pub mod RelationStops
+pub mod KeptRelations
 pub mod ComplementCounts
 pub mod ListedRows
 pub mod Listings

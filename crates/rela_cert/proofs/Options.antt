@@ -27,3 +27,7 @@ on_ok (Err e) on is = tt
 pub ok_weaker : {X E : Type 0} (P Q : X → Type 0) (r : Result X E) → ((x : X) → P x → Q x) → IfOk r P → IfOk r Q
 ok_weaker P Q (Ok x) on is = on x is
 ok_weaker P Q (Err e) on is = tt
+
+pub always : {X E P : Type 0} (r : Result X E) → P → OnOk r P
+always (Ok x) is = is
+always (Err e) is = tt

@@ -19,7 +19,7 @@ use Rattle.rela_cert.specs.Letters.{letter_words}
 use Rattle.rela_cert.specs.Rows.{IsOpenAt, MayPass, parts_of}
 use Rattle.rela_cert.proofs.ByStates.{closed_one}
 
-at_place : (before : List PathTerm) (part : PathTerm) (later : List PathTerm) → slice_get (before ++ part ∷ later) (length before) ≡ Some part
+pub at_place : (before : List PathTerm) (part : PathTerm) (later : List PathTerm) → slice_get (before ++ part ∷ later) (length before) ≡ Some part
 at_place [] part later = refl
 at_place (x ∷ before) part later = at_place before part later
 

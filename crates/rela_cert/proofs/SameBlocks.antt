@@ -1,5 +1,5 @@
 -- Listed rows with the same blocks, by their blocks one after another.
-use Rattle.std.proofs.Common.{◌≡◌, ◌≢◌, ◌∙◌, ℕ, ◌<◌, Bool, true, false, not, Option, Some, List, [], length, get_or, nat_eq, ◌&&◌, refl, sym, ap, subst, arith}
+use Rattle.std.proofs.Common.{◌≡◌, ◌≢◌, ◌∙◌, ℕ, zero, suc, ◌+◌, ◌-◌, ◌<◌, ◌∷◌, ◌++◌, Bool, true, false, not, Option, Some, List, [], length, get_or, nat_eq, ◌&&◌, refl, sym, ap, subst, arith, length-append}
 use Rattle.std.specs.Bool.{Decides}
 use Rattle.std.specs.Cmp.{IsEquivalence}
 use Rattle.std.specs.Cmp.Lexicographic.{pointwise}
@@ -14,6 +14,7 @@ use Rattle.std.specs.Option.{unwrap_or}
 use Rattle.rela_certfile.specs.Blocks.{block_at, blocks_of, blocks_of_row}
 use Rattle.rela_certfile.specs.declared.rows.ListedRow.{ListedRow}
 use Rattle.rela_certfile.specs.declared.rows.Step.{Step}
+use Rattle.rela_cert.specs.KeptChecks.{complements_of_row}
 use Rattle.rela_cert.proofs.ListedRows.{some_is}
 use Rattle.rela_cert.proofs.Listings.{map_at, row_there}
 
@@ -109,9 +110,75 @@ module _ (rows : List ListedRow) (i j : ℕ) (blocks : (i k : ℕ) (row : Listed
       (map_at (λ (r : ListedRow). length (blocks_of r)) rows i one.0 count one.1 told)
       (map_at (λ (r : ListedRow). length (blocks_of r)) rows j other.0 count other.1 other_told) each
 
-  -- and if one of them differs they have not
-  pub differ_if_one : (k : ℕ) (b c : List Step) → block_at rows i k ≡ Some b → block_at rows j k ≡ Some c → b ≢ c
-      → blocks_of_row (slice_get rows i) ≢ blocks_of_row (slice_get rows j)
-  differ_if_one k b c here there differ same =
-      let e : Some b ≡ Some c = sym here ∙ (each_same rows i j one.0 other.0 one.1 other.1 blocks same k ∙ there) in
-      differ (cc)
+  -- and rows with the same blocks have each the same
+  pub each_if_same : blocks_of_row (slice_get rows i) ≡ blocks_of_row (slice_get rows j) → (k : ℕ) → block_at rows i k ≡ block_at rows j k
+  each_if_same same k = each_same rows i j one.0 other.0 one.1 other.1 blocks same k
+
+-- ---- complement blocks
+
+-- what stands at a place of the first of two lists
+slice_get_front : {X : Type 0} (xs ys : List X) (k : ℕ) → k < length xs → slice_get (xs ++ ys) k ≡ slice_get xs k
+slice_get_front [] ys k below = absurd (omega (arith, below))
+slice_get_front (x ∷ xs) ys zero below = refl
+slice_get_front (x ∷ xs) ys (suc k) below = slice_get_front xs ys k (omega (arith, below))
+
+module _ (rows : List ListedRow) (blocks : (i k : ℕ) (row : ListedRow) → slice_get rows i ≡ Some row → block_at rows i k ≡ slice_get (blocks_of row) k) (i j : ℕ)
+    (row other : ListedRow) (at : slice_get rows i ≡ Some row) (other_at : slice_get rows j ≡ Some other) where
+  block_is : (i k : ℕ) (row : ListedRow) → slice_get rows i ≡ Some row → k < length row.complements → block_at rows i k ≡ slice_get row.complements k
+  block_is i k row at below = blocks i k row at ∙ slice_get_front row.complements (row.images ∷ []) k below
+
+  complements_if : length row.complements ≡ length other.complements → ((k : ℕ) → k < length row.complements → block_at rows i k ≡ block_at rows j k) → row.complements ≡ other.complements
+  complements_if same each =
+      let reads : (k : ℕ) (d : List Step) → k < length row.complements → get_or row.complements k d ≡ get_or other.complements k d = λ k d below.
+      let found : slice_get row.complements k ≡ slice_get other.complements k =
+      sym (block_is i k row at below) ∙ (each k below ∙ block_is j k other other_at (omega (arith, below, same))) in
+      sym (unwrap_or-slice_get row.complements k d) ∙ (ap (λ (o : Option (List Step)). unwrap_or o d) found ∙ unwrap_or-slice_get other.complements k d) in
+      same_lists row.complements other.complements same reads
+
+  each_if : row.complements ≡ other.complements → (k : ℕ) → k < length row.complements → block_at rows i k ≡ block_at rows j k
+  each_if same k below =
+      let long : length row.complements ≡ length other.complements = ap (λ (bs : List (List Step)). length bs) same in
+      block_is i k row at below ∙ (ap (λ (bs : List (List Step)). slice_get bs k) same ∙ sym (block_is j k other other_at (omega (arith, below, long))))
+
+module _ (rows : List ListedRow) (blocks : (i k : ℕ) (row : ListedRow) → slice_get rows i ≡ Some row → block_at rows i k ≡ slice_get (blocks_of row) k) (i j : ℕ)
+    (below : i < length rows) (other_below : j < length rows) where
+  abbrev first : (row : ListedRow) × (slice_get rows i ≡ Some row)
+  first = row_there rows i below
+
+  abbrev second : (row : ListedRow) × (slice_get rows j ≡ Some row)
+  second = row_there rows j other_below
+
+  -- how many complement blocks a row has that has so many blocks
+  fewer : (i : ℕ) (row : ListedRow) (count : ℕ) → slice_get rows i ≡ Some row → option_map (λ listed. length (blocks_of listed)) (slice_get rows i) ≡ Some count
+      → length row.complements + 1 ≡ count
+  fewer i row count at told =
+      let many : length (blocks_of row) ≡ count = map_at (λ (r : ListedRow). length (blocks_of r)) rows i row count at told in
+      sym (length-append row.complements (row.images ∷ [])) ∙ many
+
+  pub same_complements_if_each : (count : ℕ) → option_map (λ listed. length (blocks_of listed)) (slice_get rows i) ≡ Some count
+      → option_map (λ listed. length (blocks_of listed)) (slice_get rows j) ≡ Some count → ((k : ℕ) → k < count - 1 → block_at rows i k ≡ block_at rows j k)
+      → complements_of_row (slice_get rows i) ≡ complements_of_row (slice_get rows j)
+  same_complements_if_each count told other_told each =
+      let one = fewer i first.0 count first.1 told in
+      let two = fewer j second.0 count second.1 other_told in
+      ap complements_of_row first.1
+      ∙ (complements_if rows blocks i j first.0 second.0 first.1 second.1 (omega (arith, one, two)) (λ k less. each k (omega (arith, less, one)))
+      ∙ sym (ap complements_of_row second.1))
+
+  module _ (same : complements_of_row (slice_get rows i) ≡ complements_of_row (slice_get rows j)) where
+    equal_complements : first.0.complements ≡ second.0.complements
+    equal_complements = sym (ap complements_of_row first.1) ∙ (same ∙ ap complements_of_row second.1)
+
+    pub each_of_complements : (count : ℕ) → option_map (λ listed. length (blocks_of listed)) (slice_get rows i) ≡ Some count
+        → (k : ℕ) → k < count - 1 → block_at rows i k ≡ block_at rows j k
+    each_of_complements count told k less =
+        let one = fewer i first.0 count first.1 told in
+        each_if rows blocks i j first.0 second.0 first.1 second.1 equal_complements k (omega (arith, less, one))
+
+    pub same_counts : (count other_count : ℕ) → option_map (λ listed. length (blocks_of listed)) (slice_get rows i) ≡ Some count
+        → option_map (λ listed. length (blocks_of listed)) (slice_get rows j) ≡ Some other_count → count ≡ other_count
+    same_counts count other_count told other_told =
+        let one = fewer i first.0 count first.1 told in
+        let two = fewer j second.0 other_count second.1 other_told in
+        let long : length first.0.complements ≡ length second.0.complements = ap (λ (bs : List (List Step)). length bs) equal_complements in
+        omega (arith, one, two, long)

@@ -7,6 +7,8 @@ pub mod Inputs
 pub mod Planned
 pub mod RowAt
 pub mod RowParts
+pub mod CheckRelations
+pub mod KeptChecks
 pub mod Found
 pub mod Audited
 pub mod Answers

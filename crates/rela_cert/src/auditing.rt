@@ -88,6 +88,7 @@ fn audit_rows(
         certificate.now) }
 {
     let mut known = HashMap::new(alloc);
+    let mut kept = HashMap::new(alloc);
     for number in 0..certificate.len() {
         let answer = shared_answer_of_row(
             alloc,
@@ -96,6 +97,7 @@ fn audit_rows(
             certificate,
             number,
             &mut known,
+            &mut kept,
         )?;
         if let Some(audit) = answer {
             return Ok(audit);

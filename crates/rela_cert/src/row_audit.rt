@@ -1,60 +1,81 @@
 //! The judgement of one listed row.
 
-ghost use Rattle.std.specs.Prelude.{◌≡◌, ℕ, ◌<◌, ◌⊎◌, true, List, IfOk, IfErr, All, length, map};
+ghost use Rattle.std.specs.Prelude.{◌≡◌, ℕ, ◌<◌, ◌⊎◌, true, List, IfOk, OnOk, Some, All, length, map};
+ghost use Rattle.std.specs.List.{slice_get};
+ghost use Rattle.rela_blocks.specs.RowBlocks.{AreRowBlocks};
 ghost use Rattle.rela_certfile.specs.Listed.{IsBlock};
 ghost use Rattle.rela_certfile.specs.declared.rows.Step.{Step};
 ghost use Rattle.rela_labels.specs.Letters.{has};
 ghost use Rattle.rela_snapshot.specs.PairsLocated.{IsPairLocated};
 ghost use Rattle.rela_translate.specs.Zones.{path_symbols};
-ghost use Rattle.rela_cert.specs.RowParts.{HasLetters, IsAfterImage, IsBeforeImage, locations_of, paths_at, symbols_at};
-ghost use Rattle.rela_cert.specs.Rows.{IsOpenAt, Judges, MayPass};
+ghost use Rattle.rela_cert.specs.Inputs.{subject_of};
+ghost use Rattle.rela_cert.specs.KeptChecks.{AreKept, IsKept};
+ghost use Rattle.rela_cert.specs.RowParts.{IsAfterImage, IsBeforeImage, locations_of, paths_at, symbols_at};
+ghost use Rattle.rela_cert.specs.Rows.{Judges};
 
-use crate::checking::Checking;
-use crate::images::{Images, row_images};
+use crate::flow_images::flow_images;
+use crate::images::Images;
+use crate::inputs::Inputs;
 use crate::judgement::Judgement;
+use crate::kept_checks::{KeptCheck, KeptChecks, relations_of_row};
 use crate::lettered::lettered;
 use crate::row::Row;
 use crate::words::judge_words;
-use rela_blocks::{row_blocks, row_letters};
-use rela_build::{Letters, Stop};
-use rela_certfile::Step;
-use rela_labels::{LabelSet, WideSet};
+use rela_blocks::row_blocks;
+use rela_build::Stop;
+use rela_certfile::{Certificate, Step};
+use rela_labels::{LabelSet, Partition, WideSet};
+use rela_nfa::BuildError;
 use std::alloc::{AllocError, Global};
 
 /// How many states an automaton may have.
 pub const MAX_STATES: usize = 4_000_000;
 
-/// What is found of the blocks of a listed row: the complement blocks, in the order of the
-/// complements in the check's two images, and the images block. Nothing is searched for: each
-/// complement is made by the words of its block.
+/// What is found of the blocks of the listed row of this number, which is a row of the check of this
+/// index: the complement blocks, in the order of the complements in the check's two images, and the
+/// images block. Nothing is searched for: each complement is made by the words of its block, once for
+/// the rows of a check with the same complement blocks that follow one another.
 ///
-/// Time and space: those of the constructions, of which each meet, image and composition makes at
-/// most [`MAX_STATES`] states, and for each listed word a look-up for each letter. The only error
-/// is want of memory.
+/// Time and space: linear in the complement blocks, and where they aren't those of the check's row
+/// before it those of [`relations_of_row`]; and those of [`judge_images`]. The only error is want of
+/// memory.
 pub(crate) fn audit_row(
     alloc: Global,
+    inputs: &Inputs<'_>,
+    certificate: &Certificate,
+    number: usize,
+    check: usize,
     row: &Row<'_>,
     complements: &[&[Step]],
     images: &[Step],
+    kept: &mut KeptChecks,
 ) -> Result<Judgement, AllocError>
+    requires number { number < length certificate.now }
+    requires check { slice_get inputs.now.checks.now check ≡ Some row.now.check.now }
+    requires alphabet { row.now.alphabet.now ≡ inputs.now.alphabet.now }
     requires classes { All (λ set. All (λ s. s < path_symbols (locations_of row.now)) set.members)
         row.now.check.now.classes }
     requires located { IsPairLocated row.now.alphabet.now row.now.check.now.level row.now.pair.now }
     requires complements { All (λ block. IsBlock (path_symbols (locations_of row.now)) block.now)
         complements.now }
     requires images { IsBlock (symbols_at row.now) images.now }
-    ensures { IfOk result (Judges row.now.check.now (locations_of row.now) (paths_at row.now)
-        MAX_STATES (map (λ block. block.now) complements.now) images.now) }
+    requires kept { AreKept (subject_of inputs.now) (length certificate.now) kept.old }
+    ensures judged { IfOk result (Judges row.now.check.now (locations_of row.now)
+        (paths_at row.now) MAX_STATES (map (λ block. block.now) complements.now) images.now) }
+    ensures kept { OnOk result (AreKept (subject_of inputs.now) (length certificate.now) kept.new) }
 {
-    let blocks = row_blocks(alloc, row.check, row.pair, row.alphabet)?;
-    let letters = row_letters(alloc, row.check, row.pair, row.alphabet, &blocks)?;
-    match images_over(alloc, row, &letters, complements) {
-        Ok(both) => judge_over(alloc, row, &letters, &both, images),
+    let found = kept.remove(&check);
+    match relations_of_row(alloc, certificate, number, row, complements, found) {
+        Ok(one) => {
+            let judgement = judge_images(alloc, row, &one, images)?;
+            kept.insert(check, one)?;
+            Ok(judgement)
+        }
         Err(stop) => stopped(stop),
     }
 }
 
-/// What is found of a row of which the images weren't built; the error is want of memory.
+/// What is found of a row of which the relations weren't made; the error is want of memory.
 fn stopped(stop: Stop) -> Result<Judgement, AllocError>
     ensures { IfOk result (λ judgement.
         ((stop ≡ Stop.Limit) × (judgement ≡ Judgement.TooLarge))
@@ -68,39 +89,30 @@ fn stopped(stop: Stop) -> Result<Judgement, AllocError>
     }
 }
 
-/// The automata of the row's images over these letters, with the complements that the blocks list.
+/// What is found of the images block of a row, by the relations that are kept of its check.
 ///
-/// # Errors
-///
-/// - `Limit` only where the images have more places than [`MAX_STATES`].
-/// - `Refused` with the number of a complement block that isn't closed.
-/// - `Memory` where there isn't memory.
-fn images_over(
+/// Time and space: those of the row's blocks and of [`flow_images`], and for each listed word a look-up
+/// for each letter. The only error is want of memory.
+fn judge_images(
     alloc: Global,
     row: &Row<'_>,
-    letters: &Letters<'_>,
-    complements: &[&[Step]],
-) -> Result<Images, Stop>
-    requires letters { HasLetters row.now letters.now }
-    requires complements { All (λ block. IsBlock (path_symbols (locations_of row.now)) block.now)
-        complements.now }
-    ensures before { IfOk result (λ images.
-        IsBeforeImage (Unit {0}) row.now letters.now.blocks images.before) }
-    ensures after { IfOk result (λ images.
-        IsAfterImage (Unit {0}) row.now letters.now.blocks images.after) }
-    ensures limit { IfErr result (λ e. e ≡ Stop.Limit →
-        MayPass row.now.check.now (locations_of row.now) (paths_at row.now) MAX_STATES) }
-    ensures refused { IfErr result (λ e. (number : ℕ) → e ≡ Stop.Refused number →
-        IsOpenAt row.now.check.now (locations_of row.now) (paths_at row.now)
-        (map (λ block. block.now) complements.now) number) }
+    kept: &KeptCheck,
+    images: &[Step],
+) -> Result<Judgement, AllocError>
+    requires kept { (count : ℕ) × IsKept count (locations_of row.now) row.now.check.now kept.now }
+    requires located { IsPairLocated row.now.alphabet.now row.now.check.now.level row.now.pair.now }
+    requires images { IsBlock (symbols_at row.now) images.now }
+    ensures { IfOk result (λ judgement. (complements : List (List Step)) →
+        Judges row.now.check.now (locations_of row.now) (paths_at row.now) MAX_STATES complements
+        images.now judgement) }
 {
-    letters.are_covered();
-    let checking = Checking {
-        letters: letters.partition(),
-        listed: complements,
-    };
-    let mut notes = Vec::new(alloc);
-    row_images(alloc, row, letters, &checking, MAX_STATES, &mut notes)
+    let coarse = &kept.parts.blocks;
+    let blocks = row_blocks(alloc, row.check, row.pair, row.alphabet, coarse)?;
+    match flow_images(alloc, row, &kept.relations, coarse, &blocks) {
+        Ok(both) => judge_over(alloc, row, &blocks, &both, images),
+        Err(BuildError::Limit) => Ok(Judgement::TooLarge),
+        Err(BuildError::Memory) => Err(AllocError),
+    }
 }
 
 /// What is found of the images block, by the automata of the two images. The only error is want of
@@ -108,20 +120,21 @@ fn images_over(
 fn judge_over(
     alloc: Global,
     row: &Row<'_>,
-    letters: &Letters<'_>,
+    blocks: &Partition,
     both: &Images,
     images: &[Step],
 ) -> Result<Judgement, AllocError>
-    requires letters { HasLetters row.now letters.now }
+    requires blocks { AreRowBlocks row.now.check.now row.now.alphabet.now row.now.pair.now.before
+        row.now.pair.now.after blocks.now }
     requires images { IsBlock (symbols_at row.now) images.now }
-    requires before { IsBeforeImage (Unit {0}) row.now letters.now.blocks both.now.before }
-    requires after { IsAfterImage (Unit {0}) row.now letters.now.blocks both.now.after }
+    requires before { IsBeforeImage (Unit {0}) row.now blocks.now both.now.before }
+    requires after { IsAfterImage (Unit {0}) row.now blocks.now both.now.after }
     ensures { IfOk result (λ judgement. (complements : List (List Step)) →
         Judges row.now.check.now (locations_of row.now) (paths_at row.now) MAX_STATES complements
         images.now judgement) }
 {
-    let blocks = letters.partition();
-    let all = all_letters(alloc, letters.count())?;
+    let count = blocks.blocks();
+    let all = all_letters(alloc, count)?;
     let steps = lettered(alloc, blocks, images)?;
     judge_words(alloc, row.check.at_most(), both, &all, steps.as_slice())
 }

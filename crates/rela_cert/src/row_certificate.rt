@@ -13,7 +13,7 @@ use crate::by_symbols::{all_by_symbols, by_symbols};
 use crate::row::Row;
 use crate::row_audit::MAX_STATES;
 use crate::row_words::words_of_row;
-use rela_blocks::{row_blocks, row_letters};
+use rela_blocks::{check_blocks, check_letters, row_blocks};
 use rela_certfile::ListedRow;
 use std::alloc::{AllocError, Global};
 
@@ -45,8 +45,9 @@ pub(crate) fn certified_row(
     ensures excused { IfOk result (λ found. IfNone found
         (IsExcused (locations_of row.now) states row.now.check.now (paths_at row.now))) }
 {
-    let blocks = row_blocks(alloc, row.check, row.pair, row.alphabet)?;
-    let letters = row_letters(alloc, row.check, row.pair, row.alphabet, &blocks)?;
+    let coarse = check_blocks(alloc, row.check, row.alphabet)?;
+    let blocks = row_blocks(alloc, row.check, row.pair, row.alphabet, &coarse)?;
+    let letters = check_letters(alloc, row.check, row.alphabet, &blocks)?;
     let Some(words) = words_of_row(alloc, row, &letters, states)? else {
         return Ok(None);
     };

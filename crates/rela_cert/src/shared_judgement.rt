@@ -8,12 +8,14 @@ ghost use Rattle.rela_certfile.specs.Listed.{AreListed};
 ghost use Rattle.rela_certfile.specs.declared.rows.ListedRow.{ListedRow};
 ghost use Rattle.rela_cert.specs.Audited.{Finds, IsMet};
 ghost use Rattle.rela_cert.specs.Inputs.{subject_of};
+ghost use Rattle.rela_cert.specs.KeptChecks.{AreKept};
 ghost use Rattle.rela_cert.specs.Planned.{IsPlanned};
 ghost use Rattle.rela_cert.specs.Sharing.{AreKnownMet, same_numbers};
 ghost use Rattle.rela_cert.specs.Subject.{IsSubject, layout_of};
 
 use crate::answer::Audit;
 use crate::inputs::Inputs;
+use crate::kept_checks::KeptChecks;
 use crate::listed_row::answer_of_row;
 use crate::planning::Planning;
 use crate::row::flow_and_check;
@@ -39,6 +41,7 @@ pub(crate) fn shared_answer_of_row(
     certificate: &Certificate,
     number: usize,
     known: &mut KnownMet,
+    kept: &mut KeptChecks,
 ) -> Result<Option<Audit>, AllocError>
     requires subject { IsSubject (subject_of inputs.now) }
     requires planned { IsPlanned (subject_of inputs.now) planning.now }
@@ -46,6 +49,7 @@ pub(crate) fn shared_answer_of_row(
         certificate.now }
     requires number { number < length certificate.now }
     requires known { AreKnownMet (subject_of inputs.now) (length certificate.now) known.old }
+    requires kept { AreKept (subject_of inputs.now) (length certificate.now) kept.old }
     ensures met { IfOk result (λ found. IfNone found ((row : ListedRow) →
         slice_get certificate.now number ≡ Some row →
         IsMet (subject_of inputs.now) planning.now.rows.items row)) }
@@ -53,6 +57,8 @@ pub(crate) fn shared_answer_of_row(
         Finds (subject_of inputs.now) planning.now.rows.items MAX_STATES certificate.now audit)) }
     ensures known { OnOk result
         (AreKnownMet (subject_of inputs.now) (length certificate.now) known.new) }
+    ensures kept { OnOk result
+        (AreKept (subject_of inputs.now) (length certificate.now) kept.new) }
 {
     let (flow, check) = flow_and_check(inputs, planning, certificate, number);
     let other = planning.alike[flow];
@@ -61,7 +67,7 @@ pub(crate) fn shared_answer_of_row(
     if is_known(certificate, number, known, (other, check)) {
         return Ok(None);
     }
-    let answer = answer_of_row(alloc, inputs, planning, certificate, number)?;
+    let answer = answer_of_row(alloc, inputs, planning, certificate, number, kept)?;
     if answer.is_none() {
         rows_carry_over(&inputs.checks[check], another, pair, inputs.alphabet);
         known.insert((other, check), number)?;

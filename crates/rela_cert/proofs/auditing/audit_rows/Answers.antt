@@ -15,6 +15,7 @@ loop-number-preserved c = record {
       met row (subst (λ (i : ℕ). slice_get c.args.certificate.now i ≡ Some row) same at))
       (cases_lt k c.loop-number.number);
   known = c.in_ok-answer.ensures.known;
+  kept = c.in_ok-answer.ensures.kept;
 }
 
 pub returns : goal.returns

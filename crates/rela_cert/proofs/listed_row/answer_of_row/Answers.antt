@@ -7,12 +7,25 @@ use Rattle.rela_certfile.specs.declared.rows.Step.{Step}
 use Rattle.rela_cert.specs.Audited.{Finds, IsMet}
 use Rattle.rela_cert.specs.Inputs.{subject_of}
 use Rattle.rela_cert.specs.declared.answer.Audit.{Audit}
-use Rattle.rela_cert.proofs.AuditedRows.{JudgesHere, answer_here, classes_listed, complements_are_blocks, images_are_block, judged_here, met_here, open_below, pair_located}
+use Rattle.rela_cert.proofs.AuditedRows.{JudgesHere, answer_here, check_there, classes_listed, complements_are_blocks, images_are_block, judged_here, met_here, open_below, pair_located}
 use Rattle.rela_cert.proofs.ListedRows.{blocks_there}
 use Rattle.rela_cert.proofs.Options.{if_none_each}
 use Rattle.rela_cert.proofs.Listings.{map_at, row_there}
 use Rattle.rela_cert.proofs.listed_row.answer_of_row.Goals as goal
 use Rattle.rela_cert.proofs.listed_row.answer_of_row.Goals.{After-as_slice, After-len}
+
+pub audit_row-requires-clause-check : goal.audit_row-requires-clause-check
+audit_row-requires-clause-check c =
+    let found = row_there c.args.certificate.now c.args.number c.requires.number in
+    check_there (subject_of c.args.inputs.now) c.args.planning.now.rows.items c.args.certificate.now c.args.number found.0 found.1
+    c.row_at-row.result (c.row_at-row.ensures found.0 found.1) c.flow_and_check-check.result.0 c.flow_and_check-check.result.1
+    (c.flow_and_check-check.ensures.planned found.0 found.1)
+
+pub audit_row-requires-clause-alphabet : goal.audit_row-requires-clause-alphabet
+audit_row-requires-clause-alphabet c =
+    let found = row_there c.args.certificate.now c.args.number c.requires.number in
+    let is = c.row_at-row.ensures found.0 found.1 in
+    is.names
 
 pub audit_row-requires-clause-classes : goal.audit_row-requires-clause-classes
 audit_row-requires-clause-classes c =
@@ -69,7 +82,7 @@ judged c row at =
     let here = (goal.at.answer_to-requires-clause-block c).After-as_slice in
     judged_here (subject_of c.args.inputs.now) c.args.planning.now.rows.items c.args.certificate.now c.args.number row at c.row_at-row.result (c.row_at-row.ensures row at)
     c.as_slice.result.now (blocks_are here row at) c.images-images.result.now (images_are here row at)
-    c.in_ok-judgement.judgement c.in_ok-judgement.ensures
+    c.in_ok-judgement.judgement c.in_ok-judgement.ensures.judged
 
 pub answer_to-requires-clause-blocks : goal.answer_to-requires-clause-blocks
 answer_to-requires-clause-blocks c k below =

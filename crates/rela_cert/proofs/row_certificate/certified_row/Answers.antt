@@ -25,7 +25,7 @@ pub returns-clause-shape : goal.returns-clause-shape
 returns-clause-shape c =
     let words = words_here c.args.row.now c.in_ok-blocks.blocks c.in_ok-letters.letters c.in_ok-words.field-0 c.in-Some.words c.in_ok-letters.ensures c.in-Some.is
     c.in_ok-words.ensures.words in
-    row_shaped c.args.row.now.check.now (locations_of c.args.row.now) (paths_at c.args.row.now) c.in_ok-blocks.blocks c.in_ok-blocks.ensures.letters
+    row_shaped c.args.row.now.check.now (locations_of c.args.row.now) (paths_at c.args.row.now) c.in_ok-blocks.blocks c.in_ok-blocks.ensures.blocks.letters
     c.in-Some.words.complements.items words.noted c.in_ok-complements.complements
     (subst (λ (notes : List (List letter.Step)). AreAllBySymbols c.in_ok-blocks.blocks notes c.in_ok-complements.complements) c.as_slice.ensures.value c.in_ok-complements.ensures)
     words.before words.after words.made_before words.made_after words.over words.holds c.in-Some.words.images words.found c.in_ok-images.images
@@ -36,7 +36,7 @@ pub returns-clause-made : goal.returns-clause-made
 returns-clause-made c =
     let words = words_here c.args.row.now c.in_ok-blocks.blocks c.in_ok-letters.letters c.in_ok-words.field-0 c.in-Some.words c.in_ok-letters.ensures c.in-Some.is
     c.in_ok-words.ensures.words in
-    blocks_made c.args.row.now.check.now (locations_of c.args.row.now) (paths_at c.args.row.now) c.in_ok-blocks.blocks c.in_ok-blocks.ensures.letters
+    blocks_made c.args.row.now.check.now (locations_of c.args.row.now) (paths_at c.args.row.now) c.in_ok-blocks.blocks c.in_ok-blocks.ensures.blocks.letters
     c.in-Some.words.complements.items words.noted c.in_ok-complements.complements
     (subst (λ (notes : List (List letter.Step)). AreAllBySymbols c.in_ok-blocks.blocks notes c.in_ok-complements.complements) c.as_slice.ensures.value c.in_ok-complements.ensures)
     words.before words.after words.made_before words.made_after words.over words.holds c.in-Some.words.images words.found c.in_ok-images.images

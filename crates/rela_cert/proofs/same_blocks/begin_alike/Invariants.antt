@@ -1,6 +1,6 @@
 use Rattle.std.proofs.Common.{◌≡◌, ◌<◌, ℕ}
 use Rattle.rela_certfile.specs.Blocks.{block_at}
-use Rattle.rela_cert.proofs.same_blocks.have_same_blocks.Given as goal
+use Rattle.rela_cert.proofs.same_blocks.begin_alike.Given as goal
 
 -- the blocks so far are equal
 abbrev pub invariant-loop-block : goal.invariant-loop-block

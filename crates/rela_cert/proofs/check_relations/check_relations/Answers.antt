@@ -1,0 +1,75 @@
+use Rattle.std.proofs.Common.{◌≡◌, ◌≤◌, ℕ, length, map, arith}
+use Rattle.std.proofs.lemmas.Result.{IfErr-weaker}
+use Rattle.rela_blocks.specs.Scenes.{lettering_of}
+use Rattle.rela_build.specs.Made.{IsMadeR}
+use Rattle.rela_build.specs.PathSets.{no_paths}
+use Rattle.rela_translate.specs.Terms.{after_of, before_of}
+use Rattle.rela_translate.specs.Zones.{path_symbols}
+use Rattle.rela_cert.specs.RowParts.{paths_at, symbols_at}
+use Rattle.rela_cert.proofs.MappedWords.{all_in_order}
+use Rattle.rela_cert.proofs.Options.{both_ok}
+use Rattle.rela_cert.proofs.RelationStops.{made_of, named_of, refused, stopped_of, too_large}
+use Rattle.rela_cert.proofs.RowJudged.{RefusesBy}
+use Rattle.rela_cert.proofs.check_relations.check_relations.Goals as goal
+
+pub invariant_of-checking : goal.invariant_of-checking
+invariant_of-checking c =
+    let n = length c.args.row.now.alphabet.now in
+    let symbols : length c.args.parts.now.blocks ≡ symbols_at c.args.row.now = c.requires.parts.blocks.letters.symbols in
+    let less : path_symbols n ≤ length c.args.parts.now.blocks = omega (arith, symbols) in
+    record { steps = all_in_order c.args.parts.now.blocks (path_symbols n) (length c.args.parts.now.blocks) c.args.complements.now less c.requires.complements }
+
+pub both_relations-requires-clause-before_alone : goal.both_relations-requires-clause-before_alone
+both_relations-requires-clause-before_alone c =
+    let check = c.args.row.now.check.now in
+    let n = length c.args.row.now.alphabet.now in
+    named_of (Unit {0}) check n c.args.parts.now.blocks c.in_ok-letters.letters c.in_ok-letters.ensures c.args.parts.now.terms.before (before_of n check.body)
+    c.requires.parts.before c.requires.parts.blocks.before
+
+pub both_relations-requires-clause-after_alone : goal.both_relations-requires-clause-after_alone
+both_relations-requires-clause-after_alone c =
+    let check = c.args.row.now.check.now in
+    let n = length c.args.row.now.alphabet.now in
+    named_of (Unit {0}) check n c.args.parts.now.blocks c.in_ok-letters.letters c.in_ok-letters.ensures c.args.parts.now.terms.after (after_of n check.body)
+    c.requires.parts.after c.requires.parts.blocks.after
+
+pub returns-clause-made : goal.returns-clause-made
+returns-clause-made c =
+    let check = c.args.row.now.check.now in
+    let n = length c.args.row.now.alphabet.now in
+    let blocks = c.args.parts.now.blocks in
+    let t = c.args.parts.now.terms in
+    both_ok _ _ _ c.both_relations.result
+    (λ relations before after. record {
+      before = made_of (Unit {0}) check n blocks c.in_ok-letters.letters c.in_ok-letters.ensures t.before (before_of n check.body) relations.before c.requires.parts.before before;
+      after = made_of (Unit {0}) check n blocks c.in_ok-letters.letters c.in_ok-letters.ensures t.after (after_of n check.body) relations.after c.requires.parts.after after;
+    })
+    c.both_relations.ensures.before c.both_relations.ensures.after
+
+pub returns-clause-limit : goal.returns-clause-limit
+returns-clause-limit c =
+    let row = c.args.row.now in
+    let check = row.check.now in
+    let n = length row.alphabet.now in
+    let blocks = c.args.parts.now.blocks in
+    let t = c.args.parts.now.terms in
+    let listed = map (λ block. block.now) c.args.complements.now in
+    IfErr-weaker c.both_relations.result _ _
+    (λ e stopped limit. too_large (Unit {0}) check n (paths_at row) blocks c.requires.parts.blocks.letters 4000000 listed e
+    (stopped_of (Unit {0}) check n blocks c.in_ok-letters.letters c.in_ok-letters.ensures (RefusesBy blocks listed) 4000000 t.before t.after (before_of n check.body) (after_of n check.body) e
+    c.requires.parts.before c.requires.parts.after stopped) limit)
+    c.both_relations.ensures.stopped
+
+pub returns-clause-refused : goal.returns-clause-refused
+returns-clause-refused c =
+    let row = c.args.row.now in
+    let check = row.check.now in
+    let n = length row.alphabet.now in
+    let blocks = c.args.parts.now.blocks in
+    let t = c.args.parts.now.terms in
+    let listed = map (λ block. block.now) c.args.complements.now in
+    IfErr-weaker c.both_relations.result _ _
+    (λ e stopped number is. refused (Unit {0}) check n (paths_at row) blocks c.requires.parts.blocks.letters 4000000 listed e
+    (stopped_of (Unit {0}) check n blocks c.in_ok-letters.letters c.in_ok-letters.ensures (RefusesBy blocks listed) 4000000 t.before t.after (before_of n check.body) (after_of n check.body) e
+    c.requires.parts.before c.requires.parts.after stopped) number is)
+    c.both_relations.ensures.stopped

@@ -1,0 +1,52 @@
+-- What is made of a check once for many of its rows, and its relations over the blocks of one row.
+use Rattle.std.specs.Prelude.{◌≡◌, ℕ, ◌↔◌, List, map}
+use Rattle.rela_blocks.specs.RowBlocks.{AreCheckBlocks}
+use Rattle.rela_blocks.specs.Scenes.{lettering_of}
+use Rattle.rela_build.specs.Made.{IsMadeR, LeadsR}
+use Rattle.rela_build.specs.PathSets.{no_paths}
+use Rattle.rela_build.specs.Reading.{read_by}
+use Rattle.rela_labels.specs.Partition.{block_count}
+use Rattle.rela_nfa.specs.Automaton.{Automaton, IsAutomaton}
+use Rattle.rela_nfa.specs.Runs.{Accepts}
+use Rattle.rela_pairs.specs.declared.pair.Pair.{Pair}
+use Rattle.rela_trans.specs.Composition.{Covers}
+use Rattle.rela_trans.specs.Images.{IsImage}
+use Rattle.rela_trans.specs.Machine.{Machine, IsMachine, machine_states}
+use Rattle.rela_trans.specs.Runs.{Relates}
+use Rattle.rela_translate.specs.Checked.{Checked}
+use Rattle.rela_translate.specs.Terms.{after_of, before_of}
+use Rattle.rela_cert.specs.declared.check_parts.CheckParts.{CheckParts}
+use Rattle.rela_cert.specs.declared.check_relations.CheckRelations.{CheckRelations}
+
+-- the blocks are those of the check's symbols, and the terms are those of its two relations
+pub record AreCheckParts (check : Checked) (locations : ℕ) (parts : CheckParts) : Type 0 where
+  pub blocks : AreCheckBlocks check locations parts.blocks
+  pub before : parts.terms.before ≡ before_of locations check.body
+  pub after : parts.terms.after ≡ after_of locations check.body
+
+-- The transducers are those of the check's two relations over these blocks, and their states tell places apart. The
+-- relations name no path set, so no flow is asked for.
+pub record AreCheckRelations (check : Checked) (locations : ℕ) (blocks : List ℕ)
+    (relations : CheckRelations) : Type 0 where
+  pub before : IsMadeR (Unit {0}) (lettering_of check locations blocks) no_paths
+      (before_of locations check.body) relations.before
+  pub after : IsMadeR (Unit {0}) (lettering_of check locations blocks) no_paths
+      (after_of locations check.body) relations.after
+
+-- Over the fine blocks u has the states that t has over the coarse ones: each is reached by the same pairs of words of
+-- symbols, and the same pairs are related.
+pub record IsRefined (coarse fine : List ℕ) (t u : Machine) : Type 0 where
+  pub machine : IsMachine u
+  pub letters : u.letters ≡ block_count fine
+  pub states : machine_states u ≡ machine_states t
+  pub reached : (q : ℕ) (v w : List ℕ) → LeadsR fine u q v w ↔ LeadsR coarse t q v w
+  pub relation : (v w : List ℕ) → Relates (read_by fine) u v w ↔ Relates (read_by coarse) t v w
+
+-- the automaton is that of the words that t writes for those of the other one, by pairs of their states
+pub record IsWrittenBy (t : Machine) (words image : Automaton) : Type 0 where
+  pub automaton : IsAutomaton image
+  pub letters : image.letters ≡ words.letters
+  pub pairs : (pairs : List Pair) × IsImage words t pairs image
+  pub language : (read : ℕ → ℕ) → Covers read words.letters → (w : List ℕ) →
+      Accepts image (map read w)
+      ↔ ((source : List ℕ) × Accepts words (map read source) × Relates read t source w)

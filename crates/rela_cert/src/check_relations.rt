@@ -1,0 +1,101 @@
+//! The transducers of a check's two relations, by listed complement blocks.
+
+ghost use Rattle.std.specs.Prelude.{◌≡◌, ℕ, ◌<◌, ◌≤◌, IfOk, IfErr, All, length, map};
+ghost use Rattle.rela_build.specs.Lettering.{IsAlone};
+ghost use Rattle.rela_build.specs.Made.{IsMadeR};
+ghost use Rattle.rela_build.specs.Named.{NamesR};
+ghost use Rattle.rela_build.specs.Notes.{StoppedTwoR};
+ghost use Rattle.rela_build.specs.PathSets.{no_paths};
+ghost use Rattle.rela_certfile.specs.Listed.{IsBlock};
+ghost use Rattle.rela_translate.specs.Zones.{path_symbols};
+ghost use Rattle.rela_cert.specs.CheckRelations.{AreCheckParts, AreCheckRelations};
+ghost use Rattle.rela_cert.specs.RowParts.{locations_of, paths_at};
+ghost use Rattle.rela_cert.specs.Rows.{IsOpenAt, MayPass};
+
+use crate::check_parts::CheckParts;
+use crate::checking::Checking;
+use crate::row::Row;
+use crate::row_audit::MAX_STATES;
+use rela_blocks::check_letters;
+use rela_build::{Builder, Complements, NoPaths, Stop};
+use rela_certfile::Step;
+use rela_labels::WideSet;
+use rela_trans::Transducer;
+use rela_translate::Relations;
+use std::alloc::Global;
+
+/// The transducers of a check's relations, whose letters are the blocks of its symbols.
+#[derive(Drop)]
+pub(crate) struct CheckRelations {
+    /// That which the paths before the change are seen through.
+    pub(crate) before: Transducer<WideSet>,
+    /// That which the paths after the change are seen through.
+    pub(crate) after: Transducer<WideSet>,
+}
+
+/// The relations of the row's check, with the complements that the blocks list: those of the
+/// relation before first.
+///
+/// Time and space: each meet, image and composition makes at most [`MAX_STATES`] states, and each
+/// complement as many as its block has words, with a look-up for each word and each letter.
+///
+/// # Errors
+///
+/// - `Limit` only where the row's images have more places than [`MAX_STATES`].
+/// - `Refused` with the number of a complement block that isn't closed.
+/// - `Memory` where there isn't memory.
+pub(crate) fn check_relations(
+    alloc: Global,
+    row: &Row<'_>,
+    parts: &CheckParts,
+    complements: &[&[Step]],
+) -> Result<CheckRelations, Stop>
+    requires classes { All (λ set. All (λ s. s < path_symbols (locations_of row.now)) set.members)
+        row.now.check.now.classes }
+    requires parts { AreCheckParts row.now.check.now (locations_of row.now) parts.now }
+    requires complements { All (λ block. IsBlock (path_symbols (locations_of row.now)) block.now)
+        complements.now }
+    ensures made { IfOk result
+        (AreCheckRelations row.now.check.now (locations_of row.now) parts.now.blocks) }
+    ensures limit { IfErr result (λ e. e ≡ Stop.Limit →
+        MayPass row.now.check.now (locations_of row.now) (paths_at row.now) MAX_STATES) }
+    ensures refused { IfErr result (λ e. (number : ℕ) → e ≡ Stop.Refused number →
+        IsOpenAt row.now.check.now (locations_of row.now) (paths_at row.now)
+        (map (λ block. block.now) complements.now) number) }
+{
+    let letters = check_letters(alloc, row.check, row.alphabet, &parts.blocks)?;
+    let checking = Checking {
+        letters: &parts.blocks,
+        listed: complements,
+    };
+    let builder = Builder {
+        letters: &letters,
+        paths: &NoPaths,
+        complements: &checking,
+        limit: MAX_STATES,
+    };
+    both_relations(alloc, &builder, &parts.terms)
+}
+
+/// The transducers of these terms, of which that before is made first. The errors are those of the
+/// builder.
+fn both_relations<C: Complements>(
+    alloc: Global,
+    builder: &Builder<'_, C, NoPaths>,
+    terms: &Relations,
+) -> Result<CheckRelations, Stop>
+    requires limit { 1 ≤ builder.now.limit }
+    requires before_alone { NamesR (IsAlone builder.now.letters.now.blocks) terms.now.before }
+    requires after_alone { NamesR (IsAlone builder.now.letters.now.blocks) terms.now.after }
+    ensures before { IfOk result (λ relations. IsMadeR C.tells_all builder.now.letters.now no_paths
+        terms.now.before relations.before) }
+    ensures after { IfOk result (λ relations. IsMadeR C.tells_all builder.now.letters.now no_paths
+        terms.now.after relations.after) }
+    ensures stopped { IfErr result (StoppedTwoR (C.refuses builder.now.complements.now) C.tells_all
+        builder.now.letters.now no_paths builder.now.limit 0 terms.now.before terms.now.after) }
+{
+    let mut notes = Vec::new(alloc);
+    let before = builder.transducer(alloc, &terms.before, &mut notes)?;
+    let after = builder.transducer(alloc, &terms.after, &mut notes)?;
+    Ok(CheckRelations { before, after })
+}
