@@ -1,9 +1,8 @@
 -- What is kept of checks, by their numbers.
-use Rattle.std.proofs.Common.{◌≡◌, ◌∙◌, ℕ, cond, Bool, true, Option, None, Some, List, length, inl, inr, sym, ap, subst}
+use Rattle.std.proofs.Common.{◌≡◌, ◌∙◌, ℕ, cond, Option, None, Some, List, length, inl, inr, sym, subst}
 use Rattle.std.specs.Prelude.{IfSome}
-use Rattle.std.specs.HashMap.{HashMap, IsEmpty, get}
+use Rattle.std.specs.HashMap.{HashMap, get}
 use Rattle.std.specs.List.{slice_get}
-use Rattle.std.specs.Map.{lookup}
 use Rattle.std.proofs.lemmas.Bool.{cases_Bool, cond-false, cond-true, eqb-true}
 use Rattle.rela_blocks.specs.RowBlocks.{AreCheckBlocks}
 use Rattle.rela_translate.specs.Checked.{Checked}
@@ -40,11 +39,6 @@ pub kept_found : {S : Type 0} (s : Subject) (count : ℕ) (old : HashMap ℕ Kep
 kept_found s count old number check None is kept at = tt
 kept_found s count old number check (Some one) is kept at = kept number one check (sym is) at
 
--- nothing is kept in an empty map
-pub none_kept : {S : Type 0} (s : Subject) (count : ℕ) (m : HashMap ℕ KeptCheck S) → IsEmpty m → AreKept s count m
-none_kept s count m empty number one check has at =
-    let e : None ≡ Some one = ap (λ (es : List (ℕ × _)). lookup (same_number number) es) (sym empty) ∙ has in absurd (cc)
-
 -- a check's number has one check
 pub of_check : (s : Subject) (count number : ℕ) (check : Checked) (one : KeptCheck) (names : List (List ℕ)) → names ≡ s.names → slice_get s.checks number ≡ Some check
     → IsKept count (length names) check one → (other : Checked) → slice_get s.checks number ≡ Some other → IsKept count (length s.names) other one
@@ -52,5 +46,6 @@ of_check s count number check one names same at is other other_at =
     subst (λ (c : Checked). IsKept count (length s.names) c one) (same_some (slice_get s.checks number) check other at other_at)
     (subst (λ (ns : List (List ℕ)). IsKept count (length ns) check one) same is)
 
+-- the blocks that are kept
 pub kept_blocks : (count locations : ℕ) (check : Checked) (one : KeptCheck) → IsKept count locations check one → AreCheckBlocks check locations one.parts.blocks
 kept_blocks count locations check one is = is.parts.blocks

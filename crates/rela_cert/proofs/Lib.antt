@@ -2,7 +2,6 @@ pub mod Options
 pub mod MappedWords
 pub mod ByStates
 pub mod RowWords
-pub mod RowStops
 pub mod FlagWords
 pub mod ImageNames
 pub mod RowJudged

@@ -1,16 +1,13 @@
 -- The relations of a check over finer blocks, for the paths of a flow, and the images by them.
-use Rattle.std.proofs.Common.{◌≡◌, ℕ, ◌+◌, ◌<◌, List, length, map, inl, refl, sym, subst}
-use Rattle.std.specs.List.{All}
+use Rattle.std.proofs.Common.{◌≡◌, ℕ, ◌+◌, List, length, inl, refl, sym, subst}
 use Rattle.rela_blocks.specs.Scenes.{lettering_of, paths_of, scene}
 use Rattle.rela_build.specs.Lettering.{AreLetterBlocks, Lettering}
 use Rattle.rela_build.specs.Made.{IsBuilt, IsMade, IsMadeR, LeadsR}
 use Rattle.rela_build.specs.PathSets.{Paths, no_paths, scene_of}
-use Rattle.rela_build.specs.Reading.{read_by}
 use Rattle.rela_build.proofs.LimitForms as limits
 use Rattle.rela_build.proofs.MadeTerms as terms
 use Rattle.rela_build.proofs.Readings.{covered}
 use Rattle.rela_graph.specs.Topology.{Topology}
-use Rattle.rela_labels.specs.Partition.{block_count}
 use Rattle.rela_names.specs.declared.level.Level.{Level}
 use Rattle.rela_nfa.specs.Automaton.{Automaton}
 use Rattle.rela_pairs.specs.Reachable.{MoreThan}
@@ -26,7 +23,7 @@ use Rattle.rela_rir.proofs.LicencesCarry as carry
 use Rattle.rela_rir.proofs.ScenesAlike.{Carries, CarriesR, carries, carries_r}
 use Rattle.rela_rir.proofs.Tables.{exact_of_same, table_of_same}
 use Rattle.rela_trans.specs.Images.{AreReachedFrom}
-use Rattle.rela_trans.specs.Machine.{Machine, machine_states}
+use Rattle.rela_trans.specs.Machine.{Machine}
 use Rattle.rela_translate.specs.Checked.{Checked}
 use Rattle.rela_cert.specs.CheckRelations.{IsRefined, IsWrittenBy}
 

@@ -1,9 +1,9 @@
 -- Why the relations of a check aren't made.
 use Rattle.std.proofs.Common.{◌≡◌, ◌∙◌, ℕ, ◌+◌, Bool, List, [], ◌∷◌, ◌++◌, length, get_or, inl, inr, refl, sym, ap, subst, arith}
-use Rattle.std.specs.List.{All, Contains, slice_get}
+use Rattle.std.specs.List.{Contains, slice_get}
 use Rattle.std.specs.Prelude.{Some}
 use Rattle.std.proofs.lemmas.List.Elements.{All-cons, All-head, All-nil, Contains-append_cases, Contains-append_left, Contains-append_right, Contains-push}
-use Rattle.rela_blocks.specs.Scenes.{after_image, before_image, lettering_of, scene}
+use Rattle.rela_blocks.specs.Scenes.{after_image, lettering_of, scene}
 use Rattle.rela_build.specs.Lettering.{Lettering, AreLetterBlocks, IsAlone}
 use Rattle.rela_build.specs.Made.{IsMadeR}
 use Rattle.rela_build.specs.Named.{NamesR}
@@ -13,6 +13,7 @@ use Rattle.rela_build.specs.declared.stop.Stop.{Stop}
 use Rattle.rela_build.specs.declared.stop.Stop.TheVariants.{Limit, Refused}
 use Rattle.rela_certfile.specs.Listed.{words_of}
 use Rattle.rela_certfile.specs.declared.rows.Step.{Step}
+use Rattle.rela_closed.specs.Closed.{IsClosed}
 use Rattle.rela_nfa.specs.Automaton.{Automaton}
 use Rattle.rela_rir.specs.Complements.{complemented_parts, complemented_parts_r}
 use Rattle.rela_rir.specs.Fixed.{IsFixed}
@@ -29,13 +30,20 @@ use Rattle.rela_translate.specs.Checked.{Checked}
 use Rattle.rela_translate.specs.Terms.{after_of, before_of}
 use Rattle.rela_translate.specs.Zones.{path_symbols}
 use Rattle.rela_cert.specs.Closed.{Closed}
+use Rattle.rela_cert.specs.Letters.{letter_words}
 use Rattle.rela_cert.specs.Rows.{IsOpenAt, MayPass, parts_of}
 use Rattle.rela_cert.proofs.ByStates.{closed_one}
 use Rattle.rela_cert.proofs.FixedParts.{part_fixed}
 use Rattle.rela_cert.proofs.FixedTerms.{after_fixed, before_fixed}
 use Rattle.rela_cert.proofs.RefinedRelations.{agree_bare, reached_for_flow}
-use Rattle.rela_cert.proofs.RowJudged.{RefusesBy}
-use Rattle.rela_cert.proofs.RowStops.{at_place}
+
+-- why a complement is refused, by the listed blocks, whose symbols are read by a partition
+abbrev pub RefusesBy : List ℕ → List (List Step) → ℕ → Automaton → List Bool → Type 0
+RefusesBy part complements number a over = ¬ IsClosed over (a ∷ []) (letter_words part (words_of (get_or complements number [])))
+
+at_place : (before : List PathTerm) (part : PathTerm) (later : List PathTerm) → slice_get (before ++ part ∷ later) (length before) ≡ Some part
+at_place [] part later = refl
+at_place (x ∷ before) part later = at_place before part later
 
 -- ---- images by their relations
 

@@ -1,5 +1,5 @@
 -- The judgement of a row, by what its automata were made of.
-use Rattle.std.proofs.Common.{◌≡◌, ℕ, ◌<◌, Bool, true, List, [], ◌∷◌, length, get_or, inl, inr, subst, arith}
+use Rattle.std.proofs.Common.{◌≡◌, ℕ, ◌<◌, Bool, true, List, length, inl, inr, subst, arith}
 use Rattle.rela_blocks.specs.RowBlocks.{symbols_of}
 use Rattle.rela_blocks.specs.Scenes.{after_image, before_image, lettering_of, paths_of}
 use Rattle.rela_build.specs.Lettering.{AreLetterBlocks, Lettering}
@@ -12,7 +12,6 @@ use Rattle.rela_build.specs.declared.stop.Stop.TheVariants.{Memory}
 use Rattle.rela_build.proofs.Readings.{is_symbol_of, read_below}
 use Rattle.rela_certfile.specs.Listed.{words_of}
 use Rattle.rela_certfile.specs.declared.rows.Step.{Step}
-use Rattle.rela_closed.specs.Closed.{IsClosed}
 use Rattle.rela_graph.specs.Topology.{Topology}
 use Rattle.rela_labels.specs.Letters.{has}
 use Rattle.rela_labels.specs.Partition.{block_count}
@@ -83,16 +82,6 @@ pub stopped_memory : (refuses : ℕ → Automaton → List Bool → Type 0) (E :
     → StoppedTwo refuses E l paths limit first x y Memory
 unfolding StoppedTwo
 stopped_memory refuses E l paths limit first x y = tt
-
--- why the images of a row weren't built, where its blocks refuse, read by a partition
-abbrev pub RefusesBy : List ℕ → List (List Step) → ℕ → Automaton → List Bool → Type 0
-RefusesBy part complements number a over = ¬ IsClosed over (a ∷ []) (letter_words part (words_of (get_or complements number [])))
-
-pub stopped_by : (E : Type 0) (l : Lettering) (paths : Paths) (part : List ℕ) (complements : List (List Step)) (limit first : ℕ) (x y : PathTerm) (e : Stop)
-    → part ≡ l.blocks → first ≡ 0 → StoppedTwo (RefusesBy part complements) E l paths limit first x y e → StoppedTwo (RefusesBy l.blocks complements) E l paths limit 0 x y e
-stopped_by E l paths part complements limit first x y e part_is none stopped =
-    subst (λ (k : ℕ). StoppedTwo (RefusesBy l.blocks complements) E l paths limit k x y e) none
-    (subst (λ (p : List ℕ). StoppedTwo (RefusesBy p complements) E l paths limit first x y e) part_is stopped)
 
 module _ (E : Type 0) (check : Checked) (n : ℕ) (paths : Paths) (blocks : List ℕ) (are : AreLetterBlocks (lettering_of check n blocks)) (a b : Automaton)
     (before : IsMade E (lettering_of check n blocks) paths (before_image check n) a) (after : IsMade E (lettering_of check n blocks) paths (after_image check n) b)

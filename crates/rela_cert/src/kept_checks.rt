@@ -70,11 +70,13 @@ pub(crate) fn relations_of_row(
         (map (λ block. block.now) complements.now) number) }
 {
     match kept {
-        Some(KeptCheck {
-            parts,
-            relations,
-            row: made_for,
-        }) => {
+        Some(
+            KeptCheck {
+                parts,
+                relations,
+                row: made_for,
+            },
+        ) => {
             if have_same_complements(certificate, made_for, number) {
                 return Ok(KeptCheck {
                     parts,

@@ -1,4 +1,4 @@
-use Rattle.std.proofs.Common.{◌≡◌, ◌∙◌, ◌<◌, ℕ, List, length, refl, sym, subst}
+use Rattle.std.proofs.Common.{◌∙◌, ◌<◌, ℕ, List, length, refl, sym, subst}
 use Rattle.std.specs.List.{All}
 use Rattle.rela_blocks.proofs.Placed.{placed}
 use Rattle.rela_blocks.proofs.RowPartitions.{finer_result, parts_below, row_result}

@@ -1,15 +1,11 @@
-use Rattle.std.proofs.Common.{◌≡◌, ◌≤◌, ℕ, length, map, arith}
+use Rattle.std.proofs.Common.{◌≡◌, ◌≤◌, length, map, arith}
 use Rattle.std.proofs.lemmas.Result.{IfErr-weaker}
-use Rattle.rela_blocks.specs.Scenes.{lettering_of}
-use Rattle.rela_build.specs.Made.{IsMadeR}
-use Rattle.rela_build.specs.PathSets.{no_paths}
 use Rattle.rela_translate.specs.Terms.{after_of, before_of}
 use Rattle.rela_translate.specs.Zones.{path_symbols}
 use Rattle.rela_cert.specs.RowParts.{paths_at, symbols_at}
 use Rattle.rela_cert.proofs.MappedWords.{all_in_order}
 use Rattle.rela_cert.proofs.Options.{both_ok}
-use Rattle.rela_cert.proofs.RelationStops.{made_of, named_of, refused, stopped_of, too_large}
-use Rattle.rela_cert.proofs.RowJudged.{RefusesBy}
+use Rattle.rela_cert.proofs.RelationStops.{RefusesBy, made_of, named_of, refused, stopped_of, too_large}
 use Rattle.rela_cert.proofs.check_relations.check_relations.Goals as goal
 
 pub invariant_of-checking : goal.invariant_of-checking

@@ -1,4 +1,4 @@
-use Rattle.std.proofs.Common.{length, inl, inr}
+use Rattle.std.proofs.Common.{length, inl}
 use Rattle.std.proofs.lemmas.Result.{IfErr-weaker, IfOk-weaker}
 use Rattle.rela_blocks.specs.Scenes.{lettering_of}
 use Rattle.rela_build.specs.PathSets.{no_paths}

@@ -1,4 +1,4 @@
-use Rattle.std.proofs.Common.{◌≡◌, ◌∙◌, Some, ℕ, ap, arith}
+use Rattle.std.proofs.Common.{◌∙◌, Some, ℕ, ap, arith}
 use Rattle.rela_cert.proofs.SameBlocks.{block_there, each_if_same, same_if_each}
 use Rattle.rela_cert.proofs.same_blocks.have_same_blocks.Goals as goal
 

@@ -1,5 +1,5 @@
-use Rattle.std.proofs.Common.{◌≡◌, ◌∙◌, false, true, Some, ℕ, ap, sym, arith}
-use Rattle.rela_cert.proofs.SameBlocks.{block_there, each_of_complements, same_complements_if_each, same_counts}
+use Rattle.std.proofs.Common.{◌∙◌, Some, ℕ, ap, sym, arith}
+use Rattle.rela_cert.proofs.SameBlocks.{block_there, each_of_complements, same_complements_if_each}
 use Rattle.rela_cert.proofs.same_blocks.have_same_complements.Goals as goal
 
 pub begin_alike-requires-clause-row : goal.begin_alike-requires-clause-row
