@@ -19,7 +19,7 @@ use Rattle.rela_build.specs.PathSets.{Paths}
 use Rattle.rela_build.specs.Reading.{read_by}
 use Rattle.rela_build.specs.declared.stop.Stop.{Stop}
 use Rattle.rela_build.specs.declared.stop.Stop.TheVariants.{Limit, Refused, Memory}
-use Rattle.rela_engine.specs.Telling.{TellsWords}
+use Rattle.rela_complement.specs.Telling.{TellsWords}
 use Rattle.rela_engine.proofs.LimitedParts as parts
 use Rattle.rela_engine.proofs.LimitedParts.{Answers, Refuses, has_part, many_words, none_told, placed, told_words}
 

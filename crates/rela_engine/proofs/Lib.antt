@@ -13,10 +13,7 @@ pub mod NodesApart
 pub mod Placed
 pub mod NamedByChecks
 pub mod SplitBlocks
-pub mod Continued
 pub mod LimitedParts
-pub mod LeastComplements
-pub mod ReducedParts
 pub mod CheckLetters
 pub mod CheckedRelations
 pub mod AlikeBodies
@@ -37,4 +34,3 @@ pub mod RightLeaves
 pub mod ByShortlex
 pub mod OneMinimal
 pub mod MetOn
-mod SameLists

@@ -2,7 +2,7 @@
 use Rattle.std.proofs.Common.{◌≡◌, ◌∙◌, ℕ, zero, suc, ◌+◌, ◌<◌, Bool, true, List, [], ◌∷◌, ◌++◌, length, get_or, map, inl, inr, refl, sym, ap, subst, arith}
 use Rattle.std.specs.List.{All, AllPairs}
 use Rattle.std.specs.Prelude.{Contains}
-use Rattle.std.proofs.lemmas.List.{map-append, get_or-map, length-map}
+use Rattle.std.proofs.lemmas.List.{map-append, length-map}
 use Rattle.std.proofs.lemmas.List.Elements.{All-nil, All-cons, All-head, All-tail, All-weaker, All-map}
 use Rattle.rela_labels.specs.Letters.{has}
 use Rattle.rela_labels.specs.Partition.{block_count}
@@ -29,26 +29,8 @@ use Rattle.rela_build.specs.Reading.{read_by, HoldsJust}
 use Rattle.rela_build.specs.declared.stop.Stop.{Stop}
 use Rattle.rela_build.specs.declared.stop.Stop.TheVariants.{Limit, Refused, Memory}
 use Rattle.rela_build.proofs.ReadWords.{over as over_path}
-use Rattle.rela_engine.specs.Telling.{IsTold, TellsWords}
-
--- pairs of a list that is mapped
-mapped_pairs : {X Y : Type 0} (R : Y → Y → Type 0) (f : X → Y) (xs : List X) → AllPairs R (map f xs) → AllPairs (λ x y. R (f x) (f y)) xs
-mapped_pairs R f xs pairs i j d before inside =
-    let second = get_or-map f xs j d (f d) inside in
-    let first = get_or-map f xs i d (f d) (omega (arith, before, inside)) in
-    subst (λ y. R y (f (get_or xs j d))) first
-    (subst (λ y. R (get_or (map f xs) i (f d)) y) second
-    (pairs i j (f d) before (omega (arith, inside, length-map xs f))))
-
-pairs_mapped : {X : Type 0} (R : List ℕ → List ℕ → Type 0) (f : X → List ℕ) (xs : List X) → X → AllPairs (λ x y. R (f x) (f y)) xs → AllPairs R (map f xs)
-pairs_mapped R f xs x pairs i j d before inside =
-    let j_in : j < length xs = omega (arith, inside, length-map xs f) in
-    let i_in : i < length xs = omega (arith, before, j_in) in
-    subst (λ y. R y (get_or (map f xs) j d)) (sym (get_or-map f xs i x d i_in))
-    (subst (λ y. R (f (get_or xs i x)) y) (sym (get_or-map f xs j x d j_in)) (pairs i j x before j_in))
-
-weaker_pairs : {X : Type 0} (R S : X → X → Type 0) → ((x y : X) → R x y → S x y) → (xs : List X) → AllPairs R xs → AllPairs S xs
-weaker_pairs R S on xs pairs i j d before inside = on _ _ (pairs i j d before inside)
+use Rattle.rela_complement.specs.Telling.{IsTold, TellsWords}
+use Rattle.rela_complement.proofs.Pairs.{mapped_pairs, pairs_mapped, weaker_pairs}
 
 module _ (l : Lettering) (paths : Paths) where
   abbrev pub m : Scene

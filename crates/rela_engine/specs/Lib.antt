@@ -2,9 +2,6 @@ pub mod Reading
 pub mod Scenes
 pub mod Blocks
 pub mod Sides
-pub mod Telling
-pub mod Kept
-pub mod Least
 pub mod Compilation
 pub mod RowOf
 pub mod Seen

@@ -1,8 +1,0 @@
-use Rattle.std.proofs.Common.{◌≡◌, [], take}
-use Rattle.rela_engine.proofs.copied.edges_of.Given as goal
-
-abbrev pub invariant-loop-q : goal.invariant-loop-q
-invariant-loop-q g l = record {
-  edges : l.edges ≡ take l.q l.nfa.edges;
-  none : l.leaving.items ≡ [];
-}

@@ -1,6 +1,0 @@
-use Rattle.std.proofs.Common.{◌≡◌, take}
-use Rattle.rela_engine.proofs.same_automaton.same_finals.Given as goal
-
--- in the states so far
-abbrev pub invariant-loop-q : goal.invariant-loop-q
-invariant-loop-q g l = take l.q l.a.finals ≡ take l.q l.b.finals
