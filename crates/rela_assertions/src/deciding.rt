@@ -9,6 +9,7 @@ ghost use Rattle.rela_assertions.specs.Text.{RowHasTexts};
 
 use crate::row::AssertionRow;
 use rela_claims::{Claim, Tree};
+use rela_complement::LimitedComplements;
 use rela_engine::{Leaf, decide_assertion};
 use rela_names::{Alphabet, Level};
 use rela_rir::{SymbolSet, Value};
@@ -17,8 +18,15 @@ use std::alloc::{AllocError, Global};
 
 /// The rows of the flows under the assertions: flow after flow, one for each assertion, in the order
 /// of both. The alphabet is that of the level, and each construction may have at most `states`
-/// states. Time and space: those of [`decide_assertion`] for each flow and each assertion that a row
-/// is put together of.
+/// states.
+///
+/// All flows and all assertions share the complements that were made: one whose part names neither
+/// the paths before nor those after is the same for each flow, and is made once as long as there is
+/// room for it. What stands for a flow's paths, and the automata of the terms around such complements,
+/// are over the blocks of the flow's own symbols, and are made for each flow.
+///
+/// Time and space: those of [`decide_assertion`] for each flow and each assertion that a row is put
+/// together of.
 ///
 /// # Errors
 ///
@@ -38,9 +46,10 @@ pub fn rows_of(
         rows.items) }
     ensures texts { IfOk result (λ rows. All (RowHasTexts alphabet.now) rows.items) }
 {
+    let complements = LimitedComplements::new(alloc, states);
     let mut rows = Vec::with_capacity(alloc, pairs.len().saturating_mul(claims.len()))?;
     for pair in pairs {
-        push_rows(alloc, &mut rows, pair, claims, level, alphabet, states)?;
+        push_rows(alloc, &mut rows, pair, claims, level, alphabet, &complements)?;
     }
     Ok(rows)
 }
@@ -53,16 +62,15 @@ fn push_rows(
     claims: &[Claim],
     level: Level,
     alphabet: &Alphabet,
-    states: usize,
+    complements: &LimitedComplements,
 ) -> Result<(), AllocError>
-    requires some { 1 ≤ states }
     requires claims { All (IsClaimAt alphabet.now) claims.now }
     requires located { IsPairLocated alphabet.now level pair.now }
-    ensures rows { OnOk result (Appended (IsRowOf alphabet.now level states pair.now)
+    ensures rows { OnOk result (Appended (IsRowOf alphabet.now level complements.now pair.now)
         claims.now rows.old.items rows.new.items) }
 {
     for claim in claims {
-        rows.push(row_of(alloc, pair, claim, level, alphabet, states)?)?;
+        rows.push(row_of(alloc, pair, claim, level, alphabet, complements)?)?;
     }
     Ok(())
 }
@@ -74,19 +82,18 @@ fn row_of(
     claim: &Claim,
     level: Level,
     alphabet: &Alphabet,
-    states: usize,
+    complements: &LimitedComplements,
 ) -> Result<AssertionRow, AllocError>
-    requires some { 1 ≤ states }
     requires claim { IsClaimAt alphabet.now claim.now }
     requires located { IsPairLocated alphabet.now level pair.now }
-    ensures { IfOk result (IsRowOf alphabet.now level states pair.now claim.now) }
+    ensures { IfOk result (IsRowOf alphabet.now level complements.now pair.now claim.now) }
 {
     let flow = Flow {
         pair,
         classes: &claim.classes,
         level,
         alphabet,
-        states,
+        complements,
     };
     let mut leaves = Vec::new(alloc);
     let value = decide_tree(alloc, &claim.tree, &flow, &mut leaves)?;
@@ -109,8 +116,8 @@ struct Flow<'a> {
     level: Level,
     /// The locations of that level.
     alphabet: &'a Alphabet,
-    /// The most states of a construction.
-    states: usize,
+    /// The complements that were made so far, under the limit of states.
+    complements: &'a LimitedComplements,
 }
 
 /// What is known of the tree, with what is told of each of its leaves appended to those before it.
@@ -125,14 +132,13 @@ fn decide_tree(
     flow: &Flow<'_>,
     leaves: &mut Vec<Leaf>,
 ) -> Result<Value, AllocError>
-    requires some { 1 ≤ flow.now.states }
     requires classes { All (λ set. All (λ s. s < path_symbols flow.now.alphabet.now) set.members)
         flow.now.classes.now }
     requires plain { symbols_in_tree tree.now ≡ [] }
     requires located { IsPairLocated flow.now.alphabet.now flow.now.level flow.now.pair.now }
     ensures decided { IfOk result (λ value. IsDecided (scene_for flow.now.alphabet.now
-        flow.now.level flow.now.classes.now flow.now.pair.now) flow.now.states tree.now
-        leaves.old.items leaves.new.items value) }
+        flow.now.level flow.now.classes.now flow.now.pair.now) flow.now.complements.now
+        tree.now leaves.old.items leaves.new.items value) }
 {
     match tree {
         Tree::Leaf(assertion) => {
@@ -143,7 +149,7 @@ fn decide_tree(
                 flow.level,
                 flow.pair,
                 flow.alphabet,
-                flow.states,
+                flow.complements,
             )?;
             let value = leaf.value();
             leaves.push(leaf)?;

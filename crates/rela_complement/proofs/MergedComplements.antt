@@ -10,7 +10,6 @@ use Rattle.rela_nfa.specs.Runs.{Reach, Accepts}
 use Rattle.rela_nfa.proofs.Relabelled.{relabelled_ok}
 use Rattle.rela_build.specs.Complement.{IsComplement}
 use Rattle.rela_build.proofs.LetterWords.{reached_letters}
-
 use Rattle.rela_subset.specs.Subsets.{AreApart, ReachSame, ReachSets}
 use Rattle.rela_complement.specs.Merging.{IsMerged}
 use Rattle.rela_complement.specs.Telling.{IsTold, TellsWords}

@@ -95,10 +95,10 @@ impl KeptComplement {
     }
 }
 
-/// Complements that were made, the last one of those whose parts have one fingerprint.
+/// Complements that were made, the last one of those whose parts and letters have one fingerprint.
 #[derive(Drop)]
 pub(crate) struct KeptComplements {
-    /// Each by the fingerprint of its part.
+    /// Each by the fingerprint of its part and its letters.
     by_fingerprint: HashMap<u64, KeptComplement>,
     /// How many more states may be kept.
     room: usize,
@@ -127,7 +127,7 @@ impl KeptComplements {
         ensures within { IfOk result (λ found. IfSome found (λ _.
             ¬ TellsWords part.now over.now (limit + 1))) }
     {
-        match self.by_fingerprint.get(&fingerprint(part)) {
+        match self.by_fingerprint.get(&fingerprint(part, over)) {
             Some(kept) if kept.is_of(part, over, limit) => {
                 let copy = copied(alloc, &kept.complement)?;
                 Ok(Some(copy))
@@ -152,7 +152,7 @@ impl KeptComplements {
         let states = part.states().saturating_add(complement.states());
         if states <= self.room {
             let kept = KeptComplement::new(alloc, part, over, complement, limit)?;
-            self.by_fingerprint.insert(fingerprint(part), kept)?;
+            self.by_fingerprint.insert(fingerprint(part, over), kept)?;
             self.room -= states;
         }
         Ok(())

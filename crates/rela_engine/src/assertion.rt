@@ -19,12 +19,12 @@ ghost use Rattle.rela_engine.specs.Scenes.{paths_of};
 
 use crate::flow_paths::FlowPaths;
 use crate::leaf::Leaf;
-use crate::limited::Limited;
 use crate::plain_blocks::plain_blocks;
 use crate::terms::{first_term, second_term};
 use crate::witnesses::least_symbols;
 use rela_build::{Builder, Letters, Stop};
 use rela_compare::{Verdict, equal, included};
+use rela_complement::LimitedComplements;
 use rela_labels::{Partition, WideSet};
 use rela_names::{Alphabet, Level};
 use rela_nfa::{BuildError, Nfa};
@@ -32,10 +32,10 @@ use rela_rir::{Assertion, PathTerm, SymbolSet};
 use rela_snapshot::FlowPair;
 use std::alloc::{AllocError, Global};
 
-/// Whether the assertion holds for a flow, where a construction may have at most `states` states: the
-/// terms' words of path symbols are compared, where `Pre` and `Post` are the flow's paths before and
-/// after the change. If it fails, the first word in shortlex order that tells against it, and the
-/// side that has the word. It is undecided only where that is licensed.
+/// Whether the assertion holds for a flow, where a construction may have at most as many states as the
+/// limit of the complements: the terms' words of path symbols are compared, where `Pre` and `Post` are
+/// the flow's paths before and after the change. If it fails, the first word in shortlex order that
+/// tells against it, and the side that has the word. It is undecided only where that is licensed.
 ///
 /// The alphabet is that of the level. The classes list path symbols, and the terms name none but
 /// path symbols by themselves; a class that the table lacks is empty. The nodes of both graphs stand
@@ -43,7 +43,8 @@ use std::alloc::{AllocError, Global};
 /// want of memory.
 ///
 /// Time and space: those of the symbols and the members of the classes, of the constructions in the
-/// terms, and of the comparison of their automata, each of at most `states` states.
+/// terms, and of the comparison of their automata, each of at most as many states as the limit. A
+/// complement that these complements have made already, for whatever flow, costs a copy.
 pub fn decide_assertion(
     alloc: Global,
     assertion: &Assertion,
@@ -51,16 +52,16 @@ pub fn decide_assertion(
     level: Level,
     pair: &FlowPair,
     alphabet: &Alphabet,
-    states: usize,
+    complements: &LimitedComplements,
 ) -> Result<Leaf, AllocError>
     requires classes { All (λ set. All (λ s. s < path_symbols alphabet.now) set.members)
         classes.now }
     requires named { All (λ s. s < path_symbols alphabet.now)
         (symbols_of_terms assertion.now) }
     requires located { IsPairLocated alphabet.now level pair.now }
-    requires some { 1 ≤ states }
     ensures { IfOk result (LeafOf (plain_scene classes.now (length alphabet.now)
-        (paths_of level alphabet.now pair.now.before pair.now.after)) assertion.now states) }
+        (paths_of level alphabet.now pair.now.before pair.now.after)) assertion.now
+        complements.now) }
 {
     let blocks = plain_blocks(alloc, assertion, classes, level, pair, alphabet)?;
     let letters = Letters::new(alloc, classes, alphabet.len(), 0, &blocks)?;
@@ -70,7 +71,7 @@ pub fn decide_assertion(
         level,
         alphabet,
     };
-    match leaf_over(alloc, assertion, &letters, &paths, states) {
+    match leaf_over(alloc, assertion, &letters, &paths, complements) {
         Ok(leaf) => Ok(leaf),
         Err(stop) => left_open(stop),
     }
@@ -98,42 +99,28 @@ fn leaf_over(
     assertion: &Assertion,
     letters: &Letters<'_>,
     paths: &FlowPaths<'_>,
-    states: usize,
+    complements: &LimitedComplements,
 ) -> Result<Leaf, Stop>
     requires letters { AreLetterBlocks letters.now }
     requires no_markers { letters.now.markers ≡ 0 }
     requires alone { TermsName (IsAlone letters.now.blocks) assertion.now }
     requires readable { AreGraphsReadable paths.now.level paths.now.alphabet.now
         paths.now.before.now paths.now.after.now letters.now.blocks }
-    requires some { 1 ≤ states }
     ensures leaf { IfOk result (LeafOf (scene_of letters.now (paths_of paths.now.level
-        paths.now.alphabet.now paths.now.before.now paths.now.after.now)) assertion.now states) }
+        paths.now.alphabet.now paths.now.before.now paths.now.after.now)) assertion.now
+        complements.now) }
     ensures open { IfErr result (λ e. e ≢ Stop.Memory →
         MayBeLeftOpen (scene_of letters.now (paths_of paths.now.level
-        paths.now.alphabet.now paths.now.before.now paths.now.after.now)) assertion.now states) }
+        paths.now.alphabet.now paths.now.before.now paths.now.after.now)) assertion.now
+        complements.now) }
 {
-    let complements = Limited::new(alloc, states);
-    let first = words_of(
-        alloc,
-        first_term(assertion),
-        letters,
-        paths,
-        &complements,
-        states,
-    )?;
-    let second = words_of(
-        alloc,
-        second_term(assertion),
-        letters,
-        paths,
-        &complements,
-        states,
-    )?;
-    let verdict = compare(alloc, assertion, &first, &second, states)?;
+    let first = words_of(alloc, first_term(assertion), letters, paths, complements)?;
+    let second = words_of(alloc, second_term(assertion), letters, paths, complements)?;
+    let verdict = compare(alloc, assertion, &first, &second, complements.limit())?;
     Ok(leaf_of(alloc, verdict, letters.partition())?)
 }
 
-/// The automaton of the term, with these complements under the limit.
+/// The automaton of the term, with these complements under their limit.
 ///
 /// # Errors
 ///
@@ -145,11 +132,8 @@ fn words_of(
     term: &PathTerm,
     letters: &Letters<'_>,
     paths: &FlowPaths<'_>,
-    complements: &Limited,
-    limit: usize,
+    complements: &LimitedComplements,
 ) -> Result<Nfa<WideSet>, Stop>
-    requires limit { 1 ≤ limit }
-    requires same { complements.now.states ≡ limit }
     requires alone { Names (IsAlone letters.now.blocks) term.now }
     requires readable { AreGraphsReadable paths.now.level paths.now.alphabet.now
         paths.now.before.now paths.now.after.now letters.now.blocks }
@@ -157,14 +141,14 @@ fn words_of(
         paths.now.alphabet.now paths.now.before.now paths.now.after.now) term.now) }
     ensures past { IfErr result (λ e. e ≢ Stop.Memory →
         ReachedInside (scene_of letters.now (paths_of paths.now.level paths.now.alphabet.now
-        paths.now.before.now paths.now.after.now)) (limit + 1) term.now) }
+        paths.now.before.now paths.now.after.now)) (complements.now + 1) term.now) }
 {
     letters.are_covered();
     let builder = Builder {
         letters,
         paths,
         complements,
-        limit,
+        limit: complements.limit(),
     };
     let mut notes = Vec::new(alloc);
     builder.automaton(alloc, term, &mut notes)

@@ -14,12 +14,12 @@ ghost use Rattle.rela_engine.specs.Sides.{SamePairs, TreatsSidesAlike};
 
 use crate::blocks::blocks_of;
 use crate::differing::{Differing, compare_relations};
-use crate::limited::Limited;
 use crate::markers::count_markers;
 use crate::relation::relation_of;
 use crate::relations::Relations;
 use crate::sides::treats_sides_alike;
 use rela_build::{Letters, Stop};
+use rela_complement::LimitedComplements;
 use rela_labels::{Partition, WideSet};
 use rela_names::{Alphabet, Level};
 use rela_trans::Transducer;
@@ -257,7 +257,7 @@ fn built(
     // By what each check keeps, its terms name drop and its markers alone, and no location.
     let body = check.body();
     let terms = translate(alloc, check, alphabet)?;
-    let complements = Limited::new(alloc, states);
+    let complements = LimitedComplements::new(alloc, states);
     let before = relation_of(alloc, &terms.before, letters, &complements, states)?;
     if treats_sides_alike(body) {
         return Ok(Relations::new(before, None));

@@ -12,9 +12,9 @@ ghost use Rattle.rela_rir.specs.Meaning.{InR};
 ghost use Rattle.rela_trans.specs.Runs.{Relates};
 ghost use Rattle.rela_engine.specs.Reading.{Realises};
 
-use crate::limited::Limited;
 use crate::relations::Twofold;
 use rela_build::{Builder, Letters, NoPaths, Stop};
+use rela_complement::LimitedComplements;
 use rela_labels::{Partition, WideSet};
 use rela_rir::RelTerm;
 use rela_trans::Transducer;
@@ -32,11 +32,11 @@ pub(crate) fn relation_of(
     alloc: Global,
     term: &RelTerm,
     letters: &Letters<'_>,
-    complements: &Limited,
+    complements: &LimitedComplements,
     limit: usize,
 ) -> Result<Twofold, Stop>
     requires limit { 1 ≤ limit }
-    requires same { complements.now.states ≡ limit }
+    requires same { complements.now ≡ limit }
     requires alone { NamesR (IsAlone letters.now.blocks) term.now }
     ensures plain { IfOk result (λ r. IsMadeR ⊥ letters.now no_paths term.now r.plain) }
     ensures small { IfOk result (λ r. Realises letters.now.blocks
@@ -57,11 +57,11 @@ fn plain_relation(
     alloc: Global,
     term: &RelTerm,
     letters: &Letters<'_>,
-    complements: &Limited,
+    complements: &LimitedComplements,
     limit: usize,
 ) -> Result<Transducer<WideSet>, Stop>
     requires limit { 1 ≤ limit }
-    requires same { complements.now.states ≡ limit }
+    requires same { complements.now ≡ limit }
     requires alone { NamesR (IsAlone letters.now.blocks) term.now }
     ensures made { IfOk result (IsMadeR ⊥ letters.now no_paths term.now) }
     ensures within { IfOk result (λ _.

@@ -14,8 +14,8 @@ ghost use Rattle.rela_engine.specs.Zone.{IsZoneText, ZoneMustPassLimit, ZonePass
 use crate::automaton_lines::automaton_text;
 use crate::blocks::blocks_of;
 use crate::compiled::letters_of;
-use crate::limited::{Limited, least_over};
 use rela_build::{Builder, Letters, NoPaths, Stop};
+use rela_complement::{LimitedComplements, least_over};
 use rela_labels::WideSet;
 use rela_names::Alphabet;
 use rela_nfa::{BuildError, Nfa};
@@ -111,7 +111,7 @@ fn plain_automaton(
         ReachedInside (scene_of letters.now no_paths) (limit + 1) term.now) }
 {
     letters.are_covered();
-    let complements = Limited::new(alloc, limit);
+    let complements = LimitedComplements::new(alloc, limit);
     let builder = Builder {
         letters,
         paths: &NoPaths,

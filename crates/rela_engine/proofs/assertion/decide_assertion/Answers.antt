@@ -13,8 +13,8 @@ returns c =
     let names = c.args.alphabet.now in
     let flow = paths_of c.args.level names c.args.pair.now.before c.args.pair.now.after in
     IfOk-weaker c.left_open.result _ _
-    (λ leaf told. subst (LeafOf (plain_scene c.args.classes.now (length names) flow) c.args.assertion.now c.args.states) (sym told.0)
-    (subst (λ (k : Lettering). MayBeLeftOpen (scene_of k flow) c.args.assertion.now c.args.states)
+    (λ leaf told. subst (LeafOf (plain_scene c.args.classes.now (length names) flow) c.args.assertion.now c.args.complements.now) (sym told.0)
+    (subst (λ (k : Lettering). MayBeLeftOpen (scene_of k flow) c.args.assertion.now c.args.complements.now)
     (lettering_is c.in_ok-letters.letters c.args.classes.now (length names) c.len.result c.in_ok-blocks.blocks c.in_ok-letters.ensures c.len.ensures.len)
     (c.in-Err.ensures.open told.1)))
     c.left_open.ensures

@@ -44,21 +44,21 @@ returns-clause-leaf c =
     let b = c.in_ok-second.second in
     right l c.requires.no_markers c.requires.letters flow a b c.args.assertion.now
     (subst (λ (x : PathTerm). IsMade ⊥ l flow x a) c.first_term.ensures c.in_ok-first.ensures.made, subst (λ (y : PathTerm). IsMade ⊥ l flow y b) c.second_term.ensures c.in_ok-second.ensures.made)
-    c.args.states c.in_ok-verdict.verdict c.in_ok-verdict.ensures.same c.in_ok-verdict.ensures.first c.in_ok-verdict.ensures.side c.in_ok-leaf_of.field-0
+    c.args.complements.now c.in_ok-verdict.verdict c.in_ok-verdict.ensures.same c.in_ok-verdict.ensures.first c.in_ok-verdict.ensures.side c.in_ok-leaf_of.field-0
     (subst (λ (blocks : List ℕ). TellsVerdict blocks c.in_ok-verdict.verdict c.in_ok-leaf_of.field-0) c.partition.ensures c.in_ok-leaf_of.ensures)
 
 pub returns-in_err-first-clause-open : goal.returns-in_err-first-clause-open
 returns-in_err-first-clause-open c =
     let flow = paths_of c.args.paths.now.level c.args.paths.now.alphabet.now c.args.paths.now.before.now c.args.paths.now.after.now in
     exit _ _ c.from_residual.result c.from_residual.ensures.1
-    (λ e is other. open_by_first (scene_of c.args.letters.now flow) c.args.assertion.now c.args.states c.first_term.result.now c.first_term.ensures
+    (λ e is other. open_by_first (scene_of c.args.letters.now flow) c.args.assertion.now c.args.complements.now c.first_term.result.now c.first_term.ensures
     (c.in_err-first.ensures.past (λ memory. other (is ∙ memory))))
 
 pub returns-in_err-second-clause-open : goal.returns-in_err-second-clause-open
 returns-in_err-second-clause-open c =
     let flow = paths_of c.args.paths.now.level c.args.paths.now.alphabet.now c.args.paths.now.before.now c.args.paths.now.after.now in
     exit _ _ c.from_residual-in_err-second.result c.from_residual-in_err-second.ensures.1
-    (λ e is other. open_by_second (scene_of c.args.letters.now flow) c.args.assertion.now c.args.states c.second_term.result.now c.second_term.ensures
+    (λ e is other. open_by_second (scene_of c.args.letters.now flow) c.args.assertion.now c.args.complements.now c.second_term.result.now c.second_term.ensures
     (c.in_err-second.ensures.past (λ memory. other (is ∙ memory))))
 
 pub returns-in_err-verdict-clause-open : goal.returns-in_err-verdict-clause-open
@@ -68,7 +68,7 @@ returns-in_err-verdict-clause-open c =
     let a = c.in_ok-first.first in
     let b = c.in_ok-second.second in
     exit _ _ c.from_residual-in_err-verdict.result c.from_residual-in_err-verdict.ensures.1
-    (λ e is. stopped_by_pairs (MayBeLeftOpen (scene_of l flow) c.args.assertion.now c.args.states) _ e is
+    (λ e is. stopped_by_pairs (MayBeLeftOpen (scene_of l flow) c.args.assertion.now c.args.complements.now) _ e is
     (λ limit. open_by_pairs l c.requires.no_markers c.requires.letters flow a b c.args.assertion.now
     (subst (λ (x : PathTerm). IsMade ⊥ l flow x a) c.first_term.ensures c.in_ok-first.ensures.made, subst (λ (y : PathTerm). IsMade ⊥ l flow y b) c.second_term.ensures c.in_ok-second.ensures.made)
-    c.args.states (c.in_err-verdict.ensures.limit limit)))
+    c.args.complements.now (rw c.limit.ensures.limit at (c.in_err-verdict.ensures.limit limit))))

@@ -1,4 +1,7 @@
+use Rattle.std.proofs.Common.{◌+◌, ℕ, subst, sym}
 use Rattle.std.proofs.lemmas.Result.{IfErr-weaker}
+use Rattle.rela_build.specs.PathSets.{scene_of}
+use Rattle.rela_rir.specs.Limit.{ReachedInside}
 use Rattle.rela_engine.specs.Scenes.{paths_of}
 use Rattle.rela_engine.proofs.ComplementedParts.{stopped_inside}
 use Rattle.rela_engine.proofs.assertion.words_of.Goals as goal
@@ -7,5 +10,7 @@ pub returns-clause-past : goal.returns-clause-past
 returns-clause-past c =
     let flow = paths_of c.args.paths.now.level c.args.paths.now.alphabet.now c.args.paths.now.before.now c.args.paths.now.after.now in
     IfErr-weaker c.automaton.result _ _
-    (λ e stopped. stopped_inside c.args.letters.now flow c.are_covered.ensures.letters ⊥ _ c.args.limit _ c.requires.same c.args.term.now e stopped)
+    (λ e stopped other.
+    subst (λ (n : ℕ). ReachedInside (scene_of c.args.letters.now flow) (n + 1) c.args.term.now) c.limit.ensures.limit
+    (stopped_inside c.args.letters.now flow c.are_covered.ensures.letters ⊥ _ c.limit.result _ (sym c.limit.ensures.limit) c.args.term.now e stopped other))
     c.automaton.ensures.stopped
