@@ -46,10 +46,18 @@ pub fn rows_of(
         rows.items) }
     ensures texts { IfOk result (λ rows. All (RowHasTexts alphabet.now) rows.items) }
 {
-    let complements = LimitedComplements::new(alloc, states);
+    let complements = LimitedComplements::across_letters(alloc, states);
     let mut rows = Vec::with_capacity(alloc, pairs.len().saturating_mul(claims.len()))?;
     for pair in pairs {
-        push_rows(alloc, &mut rows, pair, claims, level, alphabet, &complements)?;
+        push_rows(
+            alloc,
+            &mut rows,
+            pair,
+            claims,
+            level,
+            alphabet,
+            &complements,
+        )?;
     }
     Ok(rows)
 }

@@ -1,5 +1,5 @@
 -- What is known of an automaton with letters merged, and of its complement, read with each letter as its class.
-use Rattle.std.proofs.Common.{◌≡◌, ◌∙◌, ℕ, ◌<◌, ◌↔◌, Bool, true, List, [], ◌++◌, length, map, inl, inr, sym, ap, subst}
+use Rattle.std.proofs.Common.{◌≡◌, ◌∙◌, ℕ, ◌↔◌, Bool, true, List, [], ◌++◌, length, map, inl, inr, sym, subst}
 use Rattle.std.proofs.lemmas.List.{map-append, length-map}
 use Rattle.std.proofs.lemmas.List.Elements.{All-append, All-map, All-weaker}
 use Rattle.rela_labels.specs.Letters.{has}

@@ -8,7 +8,7 @@ use Rattle.rela_labels.specs.Letters.{has}
 use Rattle.rela_labels.specs.Partition.{IsLeastOf, block_of}
 use Rattle.rela_nfa.specs.Automaton.{Automaton, IsAutomaton, Move}
 use Rattle.rela_nfa.specs.Relabelling.{IsRelabelled, relabelled, relabelled_move}
-use Rattle.rela_complement.specs.Merging.{AreUnions, HaveUnions, IsMerged, IsUnion}
+use Rattle.rela_complement.specs.Merging.{AreUnions, IsMerged, IsUnion}
 use Rattle.rela_complement.proofs.OtherLetters.{has_by}
 
 mapped_back : {X : Type 0} (f g : X → X) (xs : List X) → All (λ x. g (f x) ≡ x) xs → map g (map f xs) ≡ xs

@@ -22,14 +22,14 @@ use std::marker::Model;
 /// more such words are each told apart from the others by a continuation (the equivalence of Myhill
 /// and Nerode). Contracts see it as its limit.
 ///
-/// What was made is kept, and given again for a part that is the same automaton once letters that
-/// none of its labels tells apart are merged into classes. So parts of the same words of symbols have
-/// one complement, whatever finer blocks of the symbols are their letters. What is kept has at most
-/// 262,144 states, of parts and of complements.
+/// What was made is kept, and given again for a part that is the same automaton. What is kept has at
+/// most 262,144 states, of parts and of complements.
 #[derive(Drop)]
 pub struct LimitedComplements {
     /// The limit: how many sets of states words may reach.
     states: usize,
+    /// Whether letters are merged that a part doesn't tell apart.
+    merges: bool,
     /// What was made so far.
     kept: RefCell<KeptComplements>,
 }
@@ -45,13 +45,31 @@ impl Model for LimitedComplements {
 }
 
 impl LimitedComplements {
-    /// Complements under this limit, none of which was made yet.
+    /// Complements under this limit of parts over the same letters, none of which was made yet.
     pub fn new(alloc: Global, states: usize) -> LimitedComplements
         requires { 1 ≤ states }
         ensures { result ≡ states }
     {
-        let kept = RefCell::new(KeptComplements::new(alloc));
-        LimitedComplements { states, kept }
+        LimitedComplements {
+            states,
+            merges: false,
+            kept: RefCell::new(KeptComplements::new(alloc)),
+        }
+    }
+
+    /// Complements under this limit of parts whose letters are other blocks of symbols from call to
+    /// call, none of which was made yet. Letters that none of a part's labels tells apart are merged
+    /// into classes before it is looked up; so parts that have the same sets of symbols for labels have
+    /// one complement. It takes a look at each letter for each label of the part and the complement.
+    pub fn across_letters(alloc: Global, states: usize) -> LimitedComplements
+        requires { 1 ≤ states }
+        ensures { result ≡ states }
+    {
+        LimitedComplements {
+            states,
+            merges: true,
+            kept: RefCell::new(KeptComplements::new(alloc)),
+        }
     }
 
     /// The limit, which is at least one.
@@ -60,6 +78,27 @@ impl LimitedComplements {
         ensures some { 1 ≤ self.now }
     {
         self.states
+    }
+
+    /// The part and the letters with letters merged, where that is asked for and saves something. The
+    /// only error is want of memory.
+    fn merged(
+        &self,
+        alloc: Global,
+        part: &Nfa<WideSet>,
+        over: &WideSet,
+    ) -> Result<Option<Merged>, AllocError>
+        requires { length over.now ≡ part.now.letters }
+        ensures letters { IfOk result (λ found. IfSome found (λ merged.
+            length merged.over ≡ merged.part.letters)) }
+        ensures merged { IfOk result (λ found. IfSome found (λ merged.
+            IsMerged part.now over.now merged.classes.items merged.part merged.over)) }
+    {
+        if self.merges {
+            merge(alloc, part, over)
+        } else {
+            Ok(None)
+        }
     }
 
     /// The complement over these letters of the part, by that of the part with letters merged.
@@ -165,7 +204,7 @@ impl Complements for LimitedComplements {
         a: &Nfa<WideSet>,
         over: &WideSet,
     ) -> Result<Answer<()>, BuildError> {
-        let nfa = match merge(alloc, a, over)? {
+        let nfa = match self.merged(alloc, a, over)? {
             Some(merged) => self.by_classes(alloc, &merged)?,
             None => self.once(alloc, a, over)?,
         };

@@ -14,7 +14,7 @@ pub loop-pair-preserved : goal.loop-pair-preserved
 loop-pair-preserved c =
     flow_rows _ _ _ c.args.pairs.now c.args.claims.now c.loop-pair.rows.items c.push_rows.new.rows.items c.loop-pair.pair-index c.pair-item.result _ c.pair-item.is (omega arith) c.loop-pair.invariant
     (subst (λ (n : ℕ). Appended (IsRowOf c.args.alphabet.now c.args.level n c.pair-item.result) c.args.claims.now c.loop-pair.rows.items c.push_rows.new.rows.items)
-    c.new-complements.ensures c.in_ok-push_rows.ensures.rows)
+    c.across_letters-complements.ensures c.in_ok-push_rows.ensures.rows)
 
 pub returns-clause-texts : goal.returns-clause-texts
 returns-clause-texts c =

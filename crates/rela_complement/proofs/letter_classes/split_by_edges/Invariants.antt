@@ -1,4 +1,4 @@
-use Rattle.std.proofs.Common.{◌≡◌, length, map, take}
+use Rattle.std.proofs.Common.{map, take}
 use Rattle.rela_nfa.specs.Relabelling.{Refines}
 use Rattle.rela_nfa.specs.Stored.{move_of}
 use Rattle.rela_complement.specs.Merging.{HaveUnions}

@@ -1,4 +1,4 @@
-use Rattle.std.proofs.Common.{◌≡◌, length, take}
+use Rattle.std.proofs.Common.{take}
 use Rattle.std.specs.List.{All}
 use Rattle.rela_nfa.specs.Relabelling.{Refines}
 use Rattle.rela_complement.specs.Merging.{HaveUnions}

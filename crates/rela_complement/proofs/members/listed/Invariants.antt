@@ -1,4 +1,4 @@
-use Rattle.std.proofs.Common.{◌≡◌, ℕ, ◌<◌, ◌↔◌, true, length}
+use Rattle.std.proofs.Common.{◌≡◌, ℕ, ◌<◌, ◌↔◌, true}
 use Rattle.std.specs.List.{All, Contains}
 use Rattle.rela_labels.specs.Letters.{has}
 use Rattle.rela_complement.proofs.members.listed.Given as goal
