@@ -1,5 +1,5 @@
 //! The letters of a set in blocks, by each of which the same edges may be taken.
-ghost use Rattle.std.specs.Prelude.{◌≡◌, ℕ, ◌&&◌, ◌↔◌, not, true, IfOk, length, map};
+ghost use Rattle.std.specs.Prelude.{◌≡◌, ℕ, ◌&&◌, ◌≤◌, ◌↔◌, not, true, IfOk, length, map};
 ghost use Rattle.std.specs.List.{All};
 ghost use Rattle.rela_labels.specs.Letters.{has};
 ghost use Rattle.rela_closed.specs.Splitting.{AreFewer, AreTogether, IsBlock, remains};
@@ -10,8 +10,7 @@ use rela_labels::LabelSet;
 use std::alloc::{AllocError, Global};
 use std::marker::Model;
 
-/// How many blocks at most are split off by set operations: these cost about as much as a look at
-/// each letter, and where there are more blocks, the letters that remain come by themselves.
+/// How many blocks at most are split off by set operations, whatever the number of letters.
 const MOST_SPLITS: u32 = 64;
 
 /// Letters of a set that are taken in blocks. Those that labels have alone come by themselves, and
@@ -71,7 +70,7 @@ impl<'a, L: LabelSet> Blocks<'a, L> {
             left,
             rest,
             labels: others,
-            splits: MOST_SPLITS,
+            splits: most_splits(over.size()),
         })
     }
 
@@ -110,6 +109,15 @@ impl<'a, L: LabelSet> Blocks<'a, L> {
         self.left = left;
         Ok(block)
     }
+}
+
+/// How many blocks are split off at most from so many letters. The set operations for these cost
+/// about as much as a look at each letter for each label; where there are more blocks, the letters
+/// that remain come by themselves.
+fn most_splits(letters: u32) -> u32
+    ensures { result ≤ MOST_SPLITS }
+{
+    (letters / 4 + 4).min(MOST_SPLITS)
 }
 
 /// The letters of the set that are in the same of the labels as this letter. Time: a set operation

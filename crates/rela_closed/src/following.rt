@@ -27,8 +27,8 @@ pub struct Followed {
 /// Time: for each listed word, and for each different list of sets of states and each block of
 /// letters by which the same edges leave them, a look at each edge out of the states, and a look-up
 /// of the states that follow. To split the letters into blocks costs at most a set operation for
-/// each block and each edge with more letters than one, and no more than a look at each such edge
-/// for each letter. Space: linear in the words and in the different lists of sets that they reach.
+/// each block and each edge with more letters than one, and about a look at each such edge for each
+/// letter. Space: linear in the words and in the different lists of sets that they reach.
 ///
 /// # Errors
 ///
