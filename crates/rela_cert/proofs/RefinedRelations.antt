@@ -1,31 +1,52 @@
 -- The relations of a check over finer blocks, for the paths of a flow, and the images by them.
-use Rattle.std.proofs.Common.{◌≡◌, ℕ, ◌+◌, List, length, inl, refl, sym, subst}
+use Rattle.std.proofs.Common.{◌≡◌, ◌∙◌, ℕ, ◌+◌, ◌↔◌, List, length, map, inl, refl, sym, subst, arith}
+use Rattle.std.proofs.lemmas.List.{length-map}
 use Rattle.rela_blocks.specs.Scenes.{lettering_of, paths_of, scene}
 use Rattle.rela_build.specs.Lettering.{AreLetterBlocks, Lettering}
-use Rattle.rela_build.specs.Made.{IsBuilt, IsMade, IsMadeR, LeadsR}
+use Rattle.rela_build.specs.Made.{IsBuilt, IsMade, IsMadeR, Leads, LeadsR}
 use Rattle.rela_build.specs.PathSets.{Paths, no_paths, scene_of}
-use Rattle.rela_build.proofs.LimitForms as limits
+use Rattle.rela_build.specs.Reading.{read_by}
+use Rattle.rela_build.proofs.Insides.{at_image}
+use Rattle.rela_build.proofs.LetterWords.{Below, reached_letters_r, symbols_of, word_for}
 use Rattle.rela_build.proofs.MadeTerms as terms
+use Rattle.rela_build.proofs.PairStates.{two_of, numbered, many_states}
+use Rattle.rela_build.proofs.PlacedTerms.{by_form, placed, plainly}
 use Rattle.rela_build.proofs.Readings.{covered}
 use Rattle.rela_graph.specs.Topology.{Topology}
+use Rattle.rela_labels.specs.Partition.{block_count}
 use Rattle.rela_names.specs.declared.level.Level.{Level}
-use Rattle.rela_nfa.specs.Automaton.{Automaton}
+use Rattle.rela_nfa.specs.Automaton.{Automaton, states}
+use Rattle.rela_nfa.specs.Runs.{Reach}
+use Rattle.rela_nfa.proofs.Parts.{state_of_reach}
 use Rattle.rela_pairs.specs.Reachable.{MoreThan}
+use Rattle.rela_pairs.specs.declared.pair.Pair.{Pair}
 use Rattle.rela_rir.specs.Agreement.{SameSymbols}
 use Rattle.rela_rir.specs.Fixed.{IsFixed, IsFixedR}
 use Rattle.rela_rir.specs.Limit.{ReachedInside, ReachedInsideR}
-use Rattle.rela_rir.specs.Places.{Agree, At, AtR, NoParts, PartsApart, PathSetPlaces, Scene}
-use Rattle.rela_rir.specs.Tables.{IsExact, OnPairs}
+use Rattle.rela_rir.specs.Meaning.{In, InR}
+use Rattle.rela_rir.specs.Places.{Agree, At, NoParts, PartsApart, PathSetPlaces, Scene}
+use Rattle.rela_rir.specs.Tables.{IsStateReached, ReachFromSource}
+use Rattle.rela_rir.specs.Words.{ImageOf}
 use Rattle.rela_rir.specs.declared.term.PathTerm.{PathTerm}
 use Rattle.rela_rir.specs.declared.term.RelTerm.{RelTerm}
 use Rattle.rela_rir.specs.declared.term.PathTerm.TheVariants as P
+use Rattle.rela_rir.proofs.BuiltTerms as built
+use Rattle.rela_rir.proofs.BuiltTerms.{PlacedIfR}
 use Rattle.rela_rir.proofs.LicencesCarry as carry
+use Rattle.rela_rir.proofs.MeaningForms.{in_image}
+use Rattle.rela_rir.proofs.ReachedPlaces as places
 use Rattle.rela_rir.proofs.ScenesAlike.{Carries, CarriesR, carries, carries_r}
 use Rattle.rela_rir.proofs.Tables.{exact_of_same, table_of_same}
+use Rattle.rela_trans.specs.Composition.{Covers}
 use Rattle.rela_trans.specs.Images.{AreReachedFrom}
-use Rattle.rela_trans.specs.Machine.{Machine}
+use Rattle.rela_trans.specs.Machine.{Machine, machine_states}
+use Rattle.rela_trans.specs.Runs.{ReachR, Relates}
+use Rattle.rela_trans.proofs.SymbolLetters.{letters_reached, symbols_reached}
 use Rattle.rela_translate.specs.Checked.{Checked}
 use Rattle.rela_cert.specs.CheckRelations.{IsRefined, IsWrittenBy}
+
+same : {A : Type 0} → A ↔ A
+same = (λ a. a, λ a. a)
 
 -- ---- the scene with no paths, and that of a flow
 
@@ -55,7 +76,7 @@ module _ (check : Checked) (n : ℕ) (paths : Paths) where
         λ at. c.1.places p v ((agree p).1 (c.0.places p w at)),
       )
 
--- ---- the relation over finer blocks
+-- ---- the image by the relation over finer blocks
 
 module _ (E : Type 0) (check : Checked) (n : ℕ) (paths : Paths) (coarse fine : List ℕ) (r : RelTerm) (fixed : IsFixedR r) (t : Machine)
     (made : IsMadeR E (lettering_of check n coarse) no_paths r t) where
@@ -65,33 +86,79 @@ module _ (E : Type 0) (check : Checked) (n : ℕ) (paths : Paths) (coarse fine :
   abbrev m : Scene
   m = scene_of l paths
 
-  module _ (u : Machine) (refined : IsRefined coarse fine t u) where
-    pub refined_made : IsMadeR E l paths r u
-    unfolding IsMadeR
-    refined_made =
-        let c = both_r check n paths r fixed in record {
-          machine = refined.machine;
-          letters = refined.letters;
-          relation = λ v w. (
-            λ related. c.0.pairs v w ((made.relation v w).0 ((refined.relation v w).0 related)),
-            λ among. (refined.relation v w).1 ((made.relation v w).1 (c.1.pairs v w among)),
-          );
-          table = made.table;
-          placed = table_of_same (λ q x. ((refined.reached q x.0 x.1).1, (refined.reached q x.0 x.1).0)) (λ p x. (c.0.places p x.0 x.1, c.1.places p x.0 x.1)) c.0.apart made.placed;
-          exact = λ e. subst (λ (k : ℕ). IsExact k (OnPairs (LeadsR fine u)) (OnPairs (AtR m r)) made.table) (sym refined.states)
-              (exact_of_same (λ q x. ((refined.reached q x.0 x.1).1, (refined.reached q x.0 x.1).0)) (λ p x. (c.0.places p x.0 x.1, c.1.places p x.0 x.1)) (made.exact e));
-        }
+  abbrev f : ℕ → ℕ
+  f = read_by fine
 
-    -- ---- the image by it
+  -- for the flow too its states stand for places of the term
+  placed_here : PlacedIfR E (machine_states t) m r (LeadsR coarse t)
+  unfolding IsMadeR
+  placed_here =
+      let c = both_r check n paths r fixed in record {
+        table = made.table;
+        tabled = record {
+          is_table = table_of_same (λ q x. same) (λ p x. (c.0.places p x.0 x.1, c.1.places p x.0 x.1)) c.0.apart made.placed;
+          exact = λ e. exact_of_same (λ q x. same) (λ p x. (c.0.places p x.0 x.1, c.1.places p x.0 x.1)) (made.exact e);
+        };
+      }
 
-    module _ (are : AreLetterBlocks l) (x : PathTerm) (words : Automaton) (of : IsMade E l paths x words) where
-      pub image_made : (image : Automaton) → IsWrittenBy u words image → IsMade E l paths (P.Image x r) image
-      image_made image written =
-          terms.image E l paths (P.Image x r) x r words u image image refl (covered fine are.partition) of refined_made refl
-          written.automaton written.letters written.pairs written.language
+  related_here : (v w : List ℕ) → Relates (read_by coarse) t v w ↔ InR m.setting r v w
+  unfolding IsMadeR
+  related_here v w =
+      let c = both_r check n paths r fixed in (
+        λ related. c.0.pairs v w ((made.relation v w).0 related),
+        λ among. (made.relation v w).1 (c.1.pairs v w among),
+      )
 
-      pub image_passes : (limit : ℕ) → MoreThan limit (AreReachedFrom words u) → ReachedInside m (limit + 1) (P.Image x r)
-      image_passes limit more = limits.image E l paths (covered fine are.partition) are.symbols x r words u of refined_made (P.Image x r) limit refl more
+  module _ (are : AreLetterBlocks l) (x : PathTerm) (words : Automaton) (of : IsMade E l paths x words) (u : Machine) (refined : IsRefined coarse fine words t u) where
+    covers : Covers f (block_count fine)
+    covers = covered fine are.partition
+
+    pub image_made : (image : Automaton) → IsWrittenBy u words image → IsMade E l paths (P.Image x r) image
+    unfolding IsMade
+    image_made image written =
+        let pairs = written.pairs.0 in
+        let images = written.pairs.1 in
+        let covers_a : Covers f words.letters = subst (Covers f) (sym of.letters) covers in
+        by_form E l paths (P.Image x r) (P.Image x r) (λ w. ImageOf (In m.setting x) (InR m.setting r) w) image (length (map two_of pairs)) refl (in_image m.setting x r)
+        written.automaton (written.letters ∙ of.letters) (sym (length-map pairs two_of ∙ images.count))
+        (λ v. (
+          λ accepted.
+              let found = (written.language f covers_a v).0 accepted in record {
+                source = found.0;
+                in_set = (of.language found.0).0 found.1;
+                related = (related_here found.0 v).0 ((refined.relation found.0 v found.1).0 found.2);
+              },
+          λ i.
+              let accepted = (of.language i.source).1 i.in_set in
+              (written.language f covers_a v).1 (i.source, accepted, (refined.relation i.source v accepted).1 ((related_here i.source v).1 i.related)),
+        ))
+        (built.image m E x (states words) (Leads fine words) (Leads fine image) (placed E l paths x words of) r (machine_states t) (LeadsR coarse t) (map two_of pairs) placed_here
+        (numbered pairs (ReachFromSource (Leads fine words) (LeadsR coarse t)) (Leads fine image) images.distinct
+        (λ z v (source, first, second). images.all z (map f source, map f v, first, letters_reached f u z.right source v ((refined.reached z.left z.right source v first).1 second)))
+        (λ k v h. let less = state_of_reach image written.automaton k (map f v) h in omega (arith, less, images.count))
+        (λ k z at v. (
+          λ h. let from = (images.reached f covers_a k z at v).0 h in (from.0, from.1, (refined.reached z.left z.right from.0 v from.1).0 from.2),
+          λ from. (images.reached f covers_a k z at v).1 (from.0, from.1, (refined.reached z.left z.right from.0 v from.1).1 from.2),
+        ))))
+
+    -- what one source of letters leads to is led to by a source of symbols
+    from_symbols : (z : Pair) → AreReachedFrom words u z → IsStateReached m (ReachFromSource (Leads fine words) (LeadsR coarse t)) (two_of z)
+    from_symbols z (source, w, left, right) =
+        let below : Below (block_count fine) w = subst (λ (k : ℕ). Below k w) refined.letters (reached_letters_r u refined.machine z.right source w right).1 in
+        let v = word_for fine covers w below in
+        let lifted = symbols_reached f u refined.machine (subst (Covers f) (sym refined.letters) covers) z.right source v.0
+        (subst (λ (o : List ℕ). ReachR (λ k. k) u z.right source o) (sym v.1) right) in
+        let leads : Leads fine words z.left lifted.0 = subst (Reach words z.left) (sym lifted.1) left in (
+          v.0,
+          subst (λ (k : ℕ). Below k v.0) are.symbols (symbols_of fine v.0 w v.1 below),
+          (lifted.0, leads, (refined.reached z.left z.right lifted.0 v.0 leads).0 lifted.2),
+        )
+
+    pub image_passes : (limit : ℕ) → MoreThan limit (AreReachedFrom words u) → ReachedInside m (limit + 1) (P.Image x r)
+    image_passes limit more =
+        at_image m (limit + 1) x r
+        (places.image m x r (Leads fine words) (LeadsR coarse t) (plainly E l paths x words of) (record { table = placed_here.table; is_table = placed_here.tabled.is_table }) (limit + 1)
+        (many_states limit (AreReachedFrom words u) (IsStateReached m (ReachFromSource (Leads fine words) (LeadsR coarse t))) from_symbols more))
 
 -- ---- the paths of a flow
 

@@ -12,6 +12,10 @@ use Rattle.rela_trans.proofs.Accessors.{moves_ok}
 use Rattle.rela_trans.proofs.Reaching.{reach_start, reach_step, reach_each}
 use Rattle.rela_build.specs.Reading.{read_by}
 use Rattle.rela_build.proofs.Readings.{read_symbol, is_symbol}
+use Rattle.rela_nfa.specs.Automaton.{Automaton}
+use Rattle.rela_nfa.specs.Relabelling.{blocks_of}
+use Rattle.rela_nfa.specs.Runs.{Accepts, Reach}
+use Rattle.rela_blocks.proofs.PathLetters.{read_word}
 use Rattle.rela_cert.specs.CheckRelations.{IsRefined}
 
 all_front : (P : ℕ → Type 0) (u v : List ℕ) → All P (u ++ v) → All P u
@@ -97,32 +101,36 @@ module _ (coarse fine : List ℕ) (same_symbols : length fine ≡ length coarse)
   fine_only : (s : ℕ) → read_by fine s < u.letters → s < length fine
   fine_only s letter = is_symbol fine s (omega (arith, letter, u_letters))
 
-  -- it has the same pairs of words of symbols if it has the same of those of symbols that have blocks
-  pub refined_relation : machine_states u ≡ machine_states t
-      → ((q : ℕ) (v w : List ℕ) → AreSymbols fine v → AreSymbols fine w → ReachR (block_of fine) u q v w ↔ ReachR (block_of coarse) t q v w)
-      → ((v w : List ℕ) → AreSymbols fine v → AreSymbols fine w → Relates (block_of fine) u v w ↔ Relates (block_of coarse) t v w) → IsRefined coarse fine t u
-  refined_relation count reaches relates = record {
-    machine = u_ok;
-    letters = u_letters;
-    states = count;
-    reached = λ q v w. (
-      λ reach.
-          let below = reach_below (read_by fine) u u_ok (length fine) fine_only q v w reach in
-          reread_reach (block_of coarse) (read_by coarse) (length fine) (λ s within. sym (by_coarse s within)) t q v w
-          ((reaches q v w below.0 below.1).0 (reread_reach (read_by fine) (block_of fine) (length fine) (read_symbol fine) u q v w reach below.0 below.1)) below.0 below.1,
-      λ reach.
-          let below = reach_below (read_by coarse) t t_ok (length fine) coarse_only q v w reach in
-          reread_reach (block_of fine) (read_by fine) (length fine) (λ s within. sym (read_symbol fine s within)) u q v w
-          ((reaches q v w below.0 below.1).1 (reread_reach (read_by coarse) (block_of coarse) (length fine) by_coarse t q v w reach below.0 below.1)) below.0 below.1,
-    );
-    relation = λ v w. (
-      λ related.
-          let below = related_below (read_by fine) u u_ok (length fine) fine_only v w related in
-          reread (block_of coarse) (read_by coarse) (length fine) (λ s within. sym (by_coarse s within)) t v w below.0 below.1
-          ((relates v w below.0 below.1).0 (reread (read_by fine) (block_of fine) (length fine) (read_symbol fine) u v w below.0 below.1 related)),
-      λ related.
-          let below = related_below (read_by coarse) t t_ok (length fine) coarse_only v w related in
-          reread (block_of fine) (read_by fine) (length fine) (λ s within. sym (read_symbol fine s within)) u v w below.0 below.1
-          ((relates v w below.0 below.1).1 (reread (read_by coarse) (block_of coarse) (length fine) by_coarse t v w below.0 below.1 related)),
-    );
-  }
+  -- what is told of symbols that have blocks
+  module _ (a : Automaton)
+      (reaches : (p q : ℕ) (v w : List ℕ) → AreSymbols fine v → AreSymbols fine w → Reach a p (blocks_of fine v) → ReachR (block_of fine) u q v w ↔ ReachR (block_of coarse) t q v w)
+      (relates : (v w : List ℕ) → AreSymbols fine v → AreSymbols fine w → Accepts a (blocks_of fine v) → Relates (block_of fine) u v w ↔ Relates (block_of coarse) t v w) where
+    pub refined_for : IsRefined coarse fine a t u
+    refined_for = record {
+      machine = u_ok;
+      letters = u_letters;
+      reached = λ p q v w leads. (
+        λ reach.
+            let below = reach_below (read_by fine) u u_ok (length fine) fine_only q v w reach in
+            reread_reach (block_of coarse) (read_by coarse) (length fine) (λ s within. sym (by_coarse s within)) t q v w
+            ((reaches p q v w below.0 below.1 (subst (Reach a p) (read_word fine v below.0) leads)).0
+            (reread_reach (read_by fine) (block_of fine) (length fine) (read_symbol fine) u q v w reach below.0 below.1)) below.0 below.1,
+        λ reach.
+            let below = reach_below (read_by coarse) t t_ok (length fine) coarse_only q v w reach in
+            reread_reach (block_of fine) (read_by fine) (length fine) (λ s within. sym (read_symbol fine s within)) u q v w
+            ((reaches p q v w below.0 below.1 (subst (Reach a p) (read_word fine v below.0) leads)).1
+            (reread_reach (read_by coarse) (block_of coarse) (length fine) by_coarse t q v w reach below.0 below.1)) below.0 below.1,
+      );
+      relation = λ v w accepted. (
+        λ related.
+            let below = related_below (read_by fine) u u_ok (length fine) fine_only v w related in
+            reread (block_of coarse) (read_by coarse) (length fine) (λ s within. sym (by_coarse s within)) t v w below.0 below.1
+            ((relates v w below.0 below.1 (subst (Accepts a) (read_word fine v below.0) accepted)).0
+            (reread (read_by fine) (block_of fine) (length fine) (read_symbol fine) u v w below.0 below.1 related)),
+        λ related.
+            let below = related_below (read_by coarse) t t_ok (length fine) coarse_only v w related in
+            reread (block_of fine) (read_by fine) (length fine) (λ s within. sym (read_symbol fine s within)) u v w below.0 below.1
+            ((relates v w below.0 below.1 (subst (Accepts a) (read_word fine v below.0) accepted)).1
+            (reread (read_by coarse) (block_of coarse) (length fine) by_coarse t v w below.0 below.1 related)),
+      );
+    }

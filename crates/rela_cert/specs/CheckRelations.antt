@@ -2,7 +2,7 @@
 use Rattle.std.specs.Prelude.{◌≡◌, ℕ, ◌↔◌, List, map}
 use Rattle.rela_blocks.specs.RowBlocks.{AreCheckBlocks}
 use Rattle.rela_blocks.specs.Scenes.{lettering_of}
-use Rattle.rela_build.specs.Made.{IsMadeR, LeadsR}
+use Rattle.rela_build.specs.Made.{IsMadeR, Leads, LeadsR}
 use Rattle.rela_build.specs.PathSets.{no_paths}
 use Rattle.rela_build.specs.Reading.{read_by}
 use Rattle.rela_labels.specs.Partition.{block_count}
@@ -11,7 +11,7 @@ use Rattle.rela_nfa.specs.Runs.{Accepts}
 use Rattle.rela_pairs.specs.declared.pair.Pair.{Pair}
 use Rattle.rela_trans.specs.Composition.{Covers}
 use Rattle.rela_trans.specs.Images.{IsImage}
-use Rattle.rela_trans.specs.Machine.{Machine, IsMachine, machine_states}
+use Rattle.rela_trans.specs.Machine.{Machine, IsMachine}
 use Rattle.rela_trans.specs.Runs.{Relates}
 use Rattle.rela_translate.specs.Checked.{Checked}
 use Rattle.rela_translate.specs.Terms.{after_of, before_of}
@@ -33,14 +33,16 @@ pub record AreCheckRelations (check : Checked) (locations : ℕ) (blocks : List 
   pub after : IsMadeR (Unit {0}) (lettering_of check locations blocks) no_paths
       (after_of locations check.body) relations.after
 
--- Over the fine blocks u has the states that t has over the coarse ones: each is reached by the same pairs of words of
--- symbols, and the same pairs are related.
-pub record IsRefined (coarse fine : List ℕ) (t u : Machine) : Type 0 where
+-- Over the fine blocks u has the states that t has over the coarse ones, for words of symbols that lead to a state of the
+-- automaton: with another word they lead to the same states of both, and those that it accepts are related to the same
+-- words.
+pub record IsRefined (coarse fine : List ℕ) (words : Automaton) (t u : Machine) : Type 0 where
   pub machine : IsMachine u
   pub letters : u.letters ≡ block_count fine
-  pub states : machine_states u ≡ machine_states t
-  pub reached : (q : ℕ) (v w : List ℕ) → LeadsR fine u q v w ↔ LeadsR coarse t q v w
-  pub relation : (v w : List ℕ) → Relates (read_by fine) u v w ↔ Relates (read_by coarse) t v w
+  pub reached : (p q : ℕ) (v w : List ℕ) → Leads fine words p v →
+      LeadsR fine u q v w ↔ LeadsR coarse t q v w
+  pub relation : (v w : List ℕ) → Accepts words (map (read_by fine) v) →
+      Relates (read_by fine) u v w ↔ Relates (read_by coarse) t v w
 
 -- the automaton is that of the words that t writes for those of the other one, by pairs of their states
 pub record IsWrittenBy (t : Machine) (words image : Automaton) : Type 0 where

@@ -3,6 +3,7 @@
 ghost use Rattle.std.specs.Prelude.{◌≡◌, IfOk, IfErr};
 ghost use Rattle.rela_blocks.specs.RowBlocks.{AreRowBlocks};
 ghost use Rattle.rela_labels.specs.Partition.{block_count};
+ghost use Rattle.rela_nfa.specs.Automaton.{Automaton};
 ghost use Rattle.rela_nfa.specs.Relabelling.{Refines};
 ghost use Rattle.rela_pairs.specs.Reachable.{MoreThan};
 ghost use Rattle.rela_trans.specs.Images.{AreReachedFrom};
@@ -25,8 +26,9 @@ use std::alloc::{AllocError, Global};
 /// The automata of the row's two images over its blocks, whose states stand for places of the
 /// images' terms. The letters of the relations are the check's blocks.
 ///
-/// Time and space: those of the paths' automata and of the relations, of which each set of letters is
-/// read anew, and at most [`MAX_STATES`] states in each image.
+/// Time and space: those of the paths' automata, and at most [`MAX_STATES`] states in each image. A
+/// relation costs a step for each state and a look at each block of the row for each move that is
+/// relabelled: each one, or where its states are many those that the paths may lead to.
 ///
 /// # Errors
 ///
@@ -128,19 +130,45 @@ fn written(
     requires relation { relation.now.letters ≡ block_count coarse.now }
     requires finer { Refines blocks.now coarse.now }
     ensures written { IfOk result (λ image. (t : Machine)
-        × IsRefined coarse.now blocks.now relation.now t × IsWrittenBy t words image) }
+        × IsRefined coarse.now blocks.now words relation.now t × IsWrittenBy t words image) }
     ensures limit { IfErr result (λ e. e ≡ BuildError.Limit → (t : Machine)
-        × IsRefined coarse.now blocks.now relation.now t
+        × IsRefined coarse.now blocks.now words relation.now t
         × MoreThan MAX_STATES (AreReachedFrom words t)) }
 {
-    let refined = refined(alloc, relation, coarse, blocks)?;
+    let refined = refined(alloc, &words, relation, coarse, blocks)?;
     let image = image(alloc, &words, &refined, MAX_STATES)?;
     prove!(image.start() < image.states());
     Ok(image)
 }
 
-/// The relation over the finer blocks, with all of its states. The only error is want of memory.
+/// A relation is relabelled whole where it has at most this many states for each state of the paths:
+/// that costs a step for each of its states, and to find those that are reached costs a step for each
+/// pair.
+const FEW_FOR_EACH: usize = 32;
+
+/// The relation over the finer blocks, at least as far as it is one of the words. The only error is
+/// want of memory.
 fn refined(
+    alloc: Global,
+    words: &Nfa<WideSet>,
+    relation: &Transducer<WideSet>,
+    coarse: &Partition,
+    blocks: &Partition,
+) -> Result<Transducer<WideSet>, AllocError>
+    requires words { words.now.letters ≡ block_count blocks.now }
+    requires relation { relation.now.letters ≡ block_count coarse.now }
+    requires finer { Refines blocks.now coarse.now }
+    ensures { IfOk result (IsRefined coarse.now blocks.now words.now relation.now) }
+{
+    if relation.states() / FEW_FOR_EACH <= words.states() {
+        refined_whole(alloc, relation, coarse, blocks)
+    } else {
+        refined_for_words(alloc, words, relation, coarse, blocks)
+    }
+}
+
+/// The relation over the finer blocks, with all of its states. The only error is want of memory.
+fn refined_whole(
     alloc: Global,
     relation: &Transducer<WideSet>,
     coarse: &Partition,
@@ -148,9 +176,30 @@ fn refined(
 ) -> Result<Transducer<WideSet>, AllocError>
     requires relation { relation.now.letters ≡ block_count coarse.now }
     requires finer { Refines blocks.now coarse.now }
-    ensures { IfOk result (IsRefined coarse.now blocks.now relation.now) }
+    ensures { IfOk result (λ t. (words : Automaton) →
+        IsRefined coarse.now blocks.now words relation.now t) }
 {
     let refined = relation.relabel(alloc, coarse, blocks)?;
+    prove!(relation.start() < relation.states());
+    prove!(refined.start() < refined.states());
+    Ok(refined)
+}
+
+/// The relation over the finer blocks, of which the states that no word leads to lose their moves. The
+/// only error is want of memory.
+fn refined_for_words(
+    alloc: Global,
+    words: &Nfa<WideSet>,
+    relation: &Transducer<WideSet>,
+    coarse: &Partition,
+    blocks: &Partition,
+) -> Result<Transducer<WideSet>, AllocError>
+    requires words { words.now.letters ≡ block_count blocks.now }
+    requires relation { relation.now.letters ≡ block_count coarse.now }
+    requires finer { Refines blocks.now coarse.now }
+    ensures { IfOk result (IsRefined coarse.now blocks.now words.now relation.now) }
+{
+    let refined = relation.relabel_reached(alloc, words, coarse, blocks)?;
     prove!(relation.start() < relation.states());
     prove!(refined.start() < refined.states());
     Ok(refined)

@@ -28,7 +28,7 @@ returns-clause-made c =
     let of = after_words check names row.pair.now.before row.pair.now.after c.args.blocks.now c.level.result c.level.ensures c.in_ok-paths.paths c.in_ok-paths.ensures in
     IfOk-weaker c.written.result _ _
     (λ image told. image_made (Unit {0}) check n (paths_at row) c.args.coarse.now c.args.blocks.now (after_of n check.body) (after_fixed n check.body) c.args.relations.now.after
-    c.requires.relations.after told.0 told.1 c.requires.blocks.letters P.Post c.in_ok-paths.paths of image told.2)
+    c.requires.relations.after c.requires.blocks.letters P.Post c.in_ok-paths.paths of told.0 told.1 image told.2)
     c.written.ensures.written
 
 pub returns-clause-limit : goal.returns-clause-limit
@@ -42,5 +42,5 @@ returns-clause-limit c =
     (λ e told is last.
     let passed = told is in
     inr (inl (image_passes (Unit {0}) check n (paths_at row) c.args.coarse.now c.args.blocks.now (after_of n check.body) (after_fixed n check.body) c.args.relations.now.after
-    c.requires.relations.after passed.0 passed.1 c.requires.blocks.letters P.Post c.in_ok-paths.paths of 4000000 passed.2)))
+    c.requires.relations.after c.requires.blocks.letters P.Post c.in_ok-paths.paths of passed.0 passed.1 4000000 passed.2)))
     c.written.ensures.limit

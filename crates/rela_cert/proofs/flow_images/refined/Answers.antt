@@ -1,8 +1,5 @@
-use Rattle.rela_cert.proofs.Refinements.{refined_relation}
+use Rattle.std.proofs.lemmas.Result.{IfOk-weaker}
 use Rattle.rela_cert.proofs.flow_images.refined.Goals as goal
 
-pub returns : goal.returns
-returns c =
-    refined_relation c.args.coarse.now c.args.blocks.now c.requires.finer.same_symbols c.args.relation.now c.in_ok-refined.refined
-    c.start.ensures.machine c.start-2.ensures.machine c.requires.relation c.in_ok-refined.ensures.letters c.in_ok-refined.ensures.states
-    c.in_ok-refined.ensures.reached c.in_ok-refined.ensures.relation
+pub returns-then-states : goal.returns-then-states
+returns-then-states c = IfOk-weaker c.refined_whole.result _ _ (λ t told. told c.args.words.now) c.refined_whole.ensures
