@@ -67,9 +67,9 @@ pub(crate) fn audit_row(
     let found = kept.remove(&check);
     match relations_of_row(alloc, certificate, number, row, complements, found) {
         Ok(one) => {
-            let judgement = judge_images(alloc, row, &one, images)?;
+            let judgement = judge_images(alloc, row, &one, images);
             kept.insert(check, one)?;
-            Ok(judgement)
+            judgement
         }
         Err(stop) => stopped(stop),
     }

@@ -18,20 +18,22 @@ relations_of_row-requires-clause-kept c =
     subst (λ (names : List (List ℕ)). IfSome c.remove-found.result (IsKept count (length names) row.check.now)) (sym c.requires.alphabet)
     (kept_found s count c.args.kept.now c.args.check row.check.now c.remove-found.result c.remove-found.ensures.value c.requires.kept c.requires.check)
 
-pub judge_images-requires-clause-kept : goal.judge_images-requires-clause-kept
-judge_images-requires-clause-kept c = (length c.args.certificate.now, c.in-Ok.ensures.kept)
+pub judge_images-judgement-requires-clause-kept : goal.judge_images-judgement-requires-clause-kept
+judge_images-judgement-requires-clause-kept c = (length c.args.certificate.now, c.in-Ok.ensures.kept)
 
 pub returns-in_ok-insert-in-Ok-clause-judged : goal.returns-in_ok-insert-in-Ok-clause-judged
-returns-in_ok-insert-in-Ok-clause-judged c = c.in_ok-judgement-in-Ok.ensures (map (λ block. block.now) c.args.complements.now)
+returns-in_ok-insert-in-Ok-clause-judged c =
+    IfOk-weaker c.judge_images-judgement.result _ _ (λ j told. told (map (λ block. block.now) c.args.complements.now)) c.judge_images-judgement.ensures
 
 pub returns-in_ok-insert-in-Ok-clause-kept : goal.returns-in_ok-insert-in-Ok-clause-kept
 returns-in_ok-insert-in-Ok-clause-kept c =
     let s = subject_of c.args.inputs.now in
     let row = c.args.row.now in
     let count = length c.args.certificate.now in
-    kept_more s count c.remove-found.new.self c.insert.new.self c.args.check c.in-Ok.one c.in_ok-insert-in-Ok.ensures.updates.0
+    always c.judge_images-judgement.result
+    (kept_more s count c.remove-found.new.self c.insert.new.self c.args.check c.in-Ok.one c.in_ok-insert-in-Ok.ensures.updates.0
     (kept_less s count c.args.kept.now c.remove-found.new.self c.args.check c.remove-found.ensures.updates.0 c.requires.kept)
-    (of_check s count c.args.check row.check.now c.in-Ok.one row.alphabet.now c.requires.alphabet c.requires.check c.in-Ok.ensures.kept)
+    (of_check s count c.args.check row.check.now c.in-Ok.one row.alphabet.now c.requires.alphabet c.requires.check c.in-Ok.ensures.kept))
 
 pub returns-in-Err-clause-judged : goal.returns-in-Err-clause-judged
 returns-in-Err-clause-judged c =
