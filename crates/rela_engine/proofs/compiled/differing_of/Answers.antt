@@ -1,4 +1,4 @@
-use Rattle.std.proofs.Common.{◌≡◌, Option, Some, subst}
+use Rattle.std.proofs.Common.{Option, subst}
 use Rattle.rela_engine.specs.Compilation.{AreRelations, Relations}
 use Rattle.rela_engine.proofs.compiled.differing_of.Goals as goal
 

@@ -2,11 +2,10 @@ use Rattle.std.proofs.Common.{◌≡◌, ◌∙◌, ap, sym, subst}
 use Rattle.std.proofs.lemmas.Result.{IfOk-weaker}
 use Rattle.std.specs.Option.{ForSome}
 use Rattle.rela_build.specs.Reading.{read_by}
-use Rattle.rela_labels.specs.Partition.{block_count}
 use Rattle.rela_trans.specs.Machine.{Machine}
 use Rattle.rela_trans.specs.Runs.{Relates}
 use Rattle.rela_translate.specs.Zones.{Before, After}
-use Rattle.rela_engine.specs.Compilation.{Relations, Twofold}
+use Rattle.rela_engine.specs.Compilation.{Twofold}
 use Rattle.rela_engine.specs.Differing.{AreDifferences}
 use Rattle.rela_engine.specs.Reading.{Realises}
 use Rattle.rela_engine.proofs.MetOn.{differences_along}

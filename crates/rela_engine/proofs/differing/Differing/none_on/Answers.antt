@@ -1,8 +1,8 @@
-use Rattle.std.proofs.Common.{◌≡◌, ℕ, Bool, List, subst}
+use Rattle.std.proofs.Common.{ℕ, List, subst}
 use Rattle.std.specs.Prelude.{IsTrue}
 use Rattle.std.proofs.lemmas.Result.{IfOk-weaker}
 use Rattle.rela_restriction.specs.Excess.{IsInExcess, IsReadAs}
-use Rattle.rela_engine.specs.Differing.{Differences, HaveNoneOn}
+use Rattle.rela_engine.specs.Differing.{HaveNoneOn}
 use Rattle.rela_engine.proofs.differing.Differing.none_on.Goals as goal
 
 pub returns : goal.returns
