@@ -1,0 +1,9 @@
+pub mod Fed
+pub mod Numbers
+pub mod OneShape
+pub mod Renaming
+pub mod RenamingImages
+pub mod RenamingPaths
+pub mod RenamingPlaces
+pub mod RenamingWords
+pub mod Told

@@ -1,0 +1,4 @@
+pub mod Recorded
+pub mod Wiring
+pub mod Shape
+pub mod Renamed
