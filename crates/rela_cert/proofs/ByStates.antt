@@ -110,3 +110,15 @@ module _ (l : Lettering) (paths : Paths) where
       All-cons (λ z. Agree (At here z) v w) x (y ∷ [])
       (agree_one x a one v w (All-head (λ c. ReachSame c (map letter v) (map letter w)) a (b ∷ []) same))
       (agree_part y b two v w (All-tail (λ c. ReachSame c (map letter v) (map letter w)) a (b ∷ []) same))
+
+  -- lists that are closed by the letters are so by symbols
+  module _ (n : ℕ) (over : List Bool) (holds : HoldsJust l.blocks (λ s. s < n) over) where
+    pub closed_back : (x : PathTerm) (a : Automaton) → IsMade (Unit {0}) l paths x a → (words : List (List ℕ)) → IsClosed over (a ∷ []) (letter_words l.blocks words)
+        → Closed here n (x ∷ []) words
+    closed_back x a made words closed word s listed below =
+        let found = closed (map letter word) (letter s) (mapped (map letter) words word listed) ((holds.holds s).1 below) in
+        let source = mapped_back (map letter) words found.0 found.1 in
+        let same : SameStates (a ∷ []) (map letter source.0) (map letter (word ++ s ∷ [])) =
+        subst (SameStates (a ∷ []) (map letter source.0)) (sym (pushed letter word s))
+        (subst (λ (v : List ℕ). SameStates (a ∷ []) v (map letter word ++ letter s ∷ [])) (sym source.2) found.2) in
+        (source.0, source.1, agree_part x a made source.0 (word ++ s ∷ []) same)

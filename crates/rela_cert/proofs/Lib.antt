@@ -10,6 +10,9 @@ pub mod FixedTerms
 pub mod FixedParts
 pub mod RefinedRelations
 pub mod RelationStops
+pub mod AlikeTerms
+pub mod AlikeRows
+pub mod Halves
 pub mod KeptRelations
 pub mod ComplementCounts
 pub mod ListedRows

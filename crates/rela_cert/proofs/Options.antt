@@ -20,6 +20,11 @@ pub both_ok : {X E : Type 0} (P Q R : X → Type 0) (r : Result X E) → ((x : X
 both_ok P Q R (Ok x) on p q = on x p q
 both_ok P Q R (Err e) on p q = tt
 
+-- and three facts a fourth
+pub three_ok : {X E : Type 0} (P Q S R : X → Type 0) (r : Result X E) → ((x : X) → P x → Q x → S x → R x) → IfOk r P → IfOk r Q → IfOk r S → IfOk r R
+three_ok P Q S R (Ok x) on p q s = on x p q s
+three_ok P Q S R (Err e) on p q s = tt
+
 pub on_ok : {X E P Q : Type 0} (r : Result X E) → (P → Q) → OnOk r P → OnOk r Q
 on_ok (Ok x) on is = on is
 on_ok (Err e) on is = tt

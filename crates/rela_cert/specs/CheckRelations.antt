@@ -1,10 +1,13 @@
 -- What is made of a check once for many of its rows, and its relations over the blocks of one row.
-use Rattle.std.specs.Prelude.{◌≡◌, ℕ, ◌↔◌, List, map}
+use Rattle.std.specs.Prelude.{◌≡◌, ℕ, ◌↔◌, None, List, ◌++◌, map}
+use Rattle.std.specs.Option.{unwrap_or}
 use Rattle.rela_blocks.specs.RowBlocks.{AreCheckBlocks}
 use Rattle.rela_blocks.specs.Scenes.{lettering_of}
 use Rattle.rela_build.specs.Made.{IsMadeR, Leads, LeadsR}
 use Rattle.rela_build.specs.PathSets.{no_paths}
 use Rattle.rela_build.specs.Reading.{read_by}
+use Rattle.rela_certfile.specs.declared.rows.Step.{Step}
+use Rattle.rela_graph.specs.Outline.{outline_of}
 use Rattle.rela_labels.specs.Partition.{block_count}
 use Rattle.rela_nfa.specs.Automaton.{Automaton, IsAutomaton}
 use Rattle.rela_nfa.specs.Runs.{Accepts}
@@ -17,6 +20,7 @@ use Rattle.rela_translate.specs.Checked.{Checked}
 use Rattle.rela_translate.specs.Terms.{after_of, before_of}
 use Rattle.rela_cert.specs.declared.check_parts.CheckParts.{CheckParts}
 use Rattle.rela_cert.specs.declared.check_relations.CheckRelations.{CheckRelations}
+use Rattle.rela_cert.specs.declared.row.Row.{Row}
 
 -- the blocks are those of the check's symbols, and the terms are those of its two relations
 pub record AreCheckParts (check : Checked) (locations : ℕ) (parts : CheckParts) : Type 0 where
@@ -24,14 +28,27 @@ pub record AreCheckParts (check : Checked) (locations : ℕ) (parts : CheckParts
   pub before : parts.terms.before ≡ before_of locations check.body
   pub after : parts.terms.after ≡ after_of locations check.body
 
--- The transducers are those of the check's two relations over these blocks, and their states tell places apart. The
--- relations name no path set, so no flow is asked for.
+-- The transducers are those of the check's two relations over these blocks, and their states tell places apart. Where
+-- there is one alone, both relations have one term. The relations name no path set, so no flow is asked for.
 pub record AreCheckRelations (check : Checked) (locations : ℕ) (blocks : List ℕ)
     (relations : CheckRelations) : Type 0 where
   pub before : IsMadeR (Unit {0}) (lettering_of check locations blocks) no_paths
       (before_of locations check.body) relations.before
   pub after : IsMadeR (Unit {0}) (lettering_of check locations blocks) no_paths
-      (after_of locations check.body) relations.after
+      (after_of locations check.body) (unwrap_or relations.after relations.before)
+  pub alone : relations.after ≡ None →
+      before_of locations check.body ≡ after_of locations check.body
+
+-- the blocks are some blocks, and then the same again
+abbrev pub AreRepeated : List (List Step) → Type 0
+AreRepeated blocks = (half : List (List Step)) × (blocks ≡ half ++ half)
+
+-- one relation serves both sides of the change, and the flow's graphs look the same on both
+abbrev pub IsAlike : Row → CheckRelations → Type 0
+IsAlike row relations =
+    (relations.after ≡ None)
+    × (outline_of row.check.now.level row.pair.now.before
+    ≡ outline_of row.check.now.level row.pair.now.after)
 
 -- Over the fine blocks u has the states that t has over the coarse ones, for words of symbols that lead to a state of the
 -- automaton: with another word they lead to the same states of both, and those that it accepts are related to the same

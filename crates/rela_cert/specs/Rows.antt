@@ -39,6 +39,12 @@ module _ (check : Checked) (locations : ℕ) (paths : Paths) where
       Closed (scene check locations paths) (symbols_of check locations)
       (images_of check locations) words
 
+  -- the list of words is closed for the image of the paths before the change alone
+  abbrev pub IsImageClosed : List (List ℕ) → Type 0
+  IsImageClosed words =
+      Closed (scene check locations paths) (symbols_of check locations)
+      (before_image check locations ∷ []) words
+
   -- one of the words offends against the check
   abbrev pub SomeOffends : List (List ℕ) → Type 0
   SomeOffends words =

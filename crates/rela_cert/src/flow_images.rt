@@ -59,7 +59,7 @@ pub(crate) fn flow_images(
 }
 
 /// The image of the paths before the change. The errors are those of [`flow_images`].
-fn before_image(
+pub(crate) fn before_image(
     alloc: Global,
     row: &Row<'_>,
     relations: &CheckRelations,
@@ -109,7 +109,8 @@ fn after_image(
         alphabet: row.alphabet,
     };
     let paths = flow.after(alloc, blocks)?;
-    written(alloc, paths, &relations.after, coarse, blocks)
+    let relation = relations.after();
+    written(alloc, paths, relation, coarse, blocks)
 }
 
 /// What the relation, whose letters are the coarse blocks, writes for the words, whose letters are

@@ -2,6 +2,7 @@
 //! their checks are met, how it is written, and its audit, which searches for nothing.
 #![tactic(auto)]
 
+mod alike_rows;
 mod answer;
 mod auditing;
 mod by_symbols;
@@ -21,6 +22,7 @@ mod laws;
 mod lettered;
 mod listed_row;
 mod planning;
+mod repeated;
 mod row;
 mod row_audit;
 mod row_certificate;
@@ -28,6 +30,7 @@ mod row_words;
 mod same_blocks;
 mod shared_judgement;
 mod shared_rows;
+mod sides;
 mod words;
 
 pub use answer::Audit;

@@ -13,6 +13,7 @@ ghost use Rattle.rela_cert.specs.KeptChecks.{AreKept, IsKept};
 ghost use Rattle.rela_cert.specs.RowParts.{IsAfterImage, IsBeforeImage, locations_of, paths_at, symbols_at};
 ghost use Rattle.rela_cert.specs.Rows.{Judges};
 
+use crate::alike_rows::{is_alike, judge_alike};
 use crate::flow_images::flow_images;
 use crate::images::Images;
 use crate::inputs::Inputs;
@@ -89,7 +90,8 @@ fn stopped(stop: Stop) -> Result<Judgement, AllocError>
     }
 }
 
-/// What is found of the images block of a row, by the relations that are kept of its check.
+/// What is found of the images block of a row, by the relations that are kept of its check. One image
+/// is made of a row that is alike on both sides.
 ///
 /// Time and space: those of the row's blocks and of [`flow_images`], and for each listed word a look-up
 /// for each letter. The only error is want of memory.
@@ -108,6 +110,9 @@ fn judge_images(
 {
     let coarse = &kept.parts.blocks;
     let blocks = row_blocks(alloc, row.check, row.pair, row.alphabet, coarse)?;
+    if is_alike(row, &kept.relations) {
+        return judge_alike(alloc, row, kept, &blocks, images);
+    }
     match flow_images(alloc, row, &kept.relations, coarse, &blocks) {
         Ok(both) => judge_over(alloc, row, &blocks, &both, images),
         Err(BuildError::Limit) => Ok(Judgement::TooLarge),

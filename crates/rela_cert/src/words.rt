@@ -1,7 +1,8 @@
 //! What the words of an images block tell of the two images.
 
-ghost use Rattle.std.specs.Prelude.{◌≡◌, ℕ, ◌<◌, true, [], IfOk, IsTrue, IsFalse, length, map};
+ghost use Rattle.std.specs.Prelude.{◌≡◌, ℕ, ◌<◌, ◌↔◌, true, [], ◌∷◌, IfOk, IsTrue, IsFalse, length, map};
 ghost use Rattle.std.specs.List.{slice_index_or};
+ghost use Rattle.rela_closed.specs.Closed.{IsClosed};
 ghost use Rattle.rela_closed.specs.Words.{AreOrdered, words_of};
 ghost use Rattle.rela_labels.specs.Letters.{has};
 ghost use Rattle.rela_nfa.specs.Automaton.{IsAutomaton};
@@ -11,6 +12,7 @@ use crate::images::Images;
 use crate::judgement::Judgement;
 use rela_closed::{Followed, Step, closed_lists_decide, follow, listed_words_are_over};
 use rela_labels::{LabelSet, WideSet};
+use rela_nfa::Nfa;
 use std::alloc::{AllocError, Global};
 
 /// What the words of these steps tell of the two images, where `over` has all of their letters:
@@ -39,6 +41,24 @@ pub(crate) fn judge_words(
             Ok(judge_flags(at_most, before, after))
         }
         None => Ok(Judgement::BadImages),
+    }
+}
+
+/// Whether the words of these steps are closed for the automaton, by the letters of `over`. The only
+/// error is want of memory.
+pub(crate) fn are_closed(
+    alloc: Global,
+    automaton: &Nfa<WideSet>,
+    over: &WideSet,
+    steps: &[Step],
+) -> Result<bool, AllocError>
+    requires { AreOrdered steps.now }
+    ensures { IfOk result (λ closed. IsTrue closed
+        ↔ IsClosed over.now (automaton.now ∷ []) (words_of steps.now)) }
+{
+    match follow(alloc, &[automaton], over, steps)? {
+        Some(_) => Ok(true),
+        None => Ok(false),
     }
 }
 

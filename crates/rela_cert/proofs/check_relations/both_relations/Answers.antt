@@ -1,11 +1,18 @@
 use Rattle.std.proofs.Common.{length, sym, ap, subst}
+use Rattle.rela_build.specs.Made.{IsMadeR}
 use Rattle.rela_build.specs.Notes.{StoppedTwoR}
 use Rattle.rela_build.specs.PathSets.{no_paths}
 use Rattle.rela_build.specs.declared.stop.Stop.{Stop}
 use Rattle.rela_build.proofs.NoteForms.{after_term_r, stop_first_r, stop_second_r}
 use Rattle.rela_build.proofs.NotesInOrder.{exit}
+use Rattle.rela_rir.specs.declared.term.RelTerm.{RelTerm}
 use Rattle.rela_cert.proofs.RelationStops.{from_none}
 use Rattle.rela_cert.proofs.check_relations.both_relations.Goals as goal
+
+-- one serves both sides
+pub returns-then-alone-clause-after : goal.returns-then-alone-clause-after
+returns-then-alone-clause-after g c =
+    subst (λ (r : RelTerm). IsMadeR g.C.Complements.tells_all c.args.builder.now.letters.now no_paths r c.in_ok-before.before) (c.requires.alone c.if-alone.true) c.in_ok-before.ensures.made
 
 pub returns-in_err-before-clause-stopped : goal.returns-in_err-before-clause-stopped
 returns-in_err-before-clause-stopped g c =

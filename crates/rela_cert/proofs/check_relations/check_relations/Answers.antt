@@ -1,10 +1,11 @@
-use Rattle.std.proofs.Common.{◌≡◌, ◌≤◌, length, map, arith}
+use Rattle.std.proofs.Common.{◌≡◌, ◌∙◌, ◌≤◌, length, map, sym, arith}
+use Rattle.std.specs.Option.{unwrap_or}
 use Rattle.std.proofs.lemmas.Result.{IfErr-weaker}
 use Rattle.rela_translate.specs.Terms.{after_of, before_of}
 use Rattle.rela_translate.specs.Zones.{path_symbols}
 use Rattle.rela_cert.specs.RowParts.{paths_at, symbols_at}
 use Rattle.rela_cert.proofs.MappedWords.{all_in_order}
-use Rattle.rela_cert.proofs.Options.{both_ok}
+use Rattle.rela_cert.proofs.Options.{ok_weaker, three_ok}
 use Rattle.rela_cert.proofs.RelationStops.{RefusesBy, made_of, named_of, refused, stopped_of, too_large}
 use Rattle.rela_cert.proofs.check_relations.check_relations.Goals as goal
 
@@ -29,18 +30,29 @@ both_relations-requires-clause-after_alone c =
     named_of (Unit {0}) check n c.args.parts.now.blocks c.in_ok-letters.letters c.in_ok-letters.ensures c.args.parts.now.terms.after (after_of n check.body)
     c.requires.parts.after c.requires.parts.blocks.after
 
+pub both_relations-requires-clause-alone : goal.both_relations-requires-clause-alone
+both_relations-requires-clause-alone c alone =
+    let n = length c.args.row.now.alphabet.now in
+    c.requires.parts.before ∙ (c.one_serves-alone.ensures.terms alone n ∙ sym c.requires.parts.after)
+
 pub returns-clause-made : goal.returns-clause-made
 returns-clause-made c =
     let check = c.args.row.now.check.now in
     let n = length c.args.row.now.alphabet.now in
     let blocks = c.args.parts.now.blocks in
     let t = c.args.parts.now.terms in
-    both_ok _ _ _ c.both_relations.result
-    (λ relations before after. record {
+    three_ok _ _ _ _ c.both_relations.result
+    (λ relations before after alone. record {
       before = made_of (Unit {0}) check n blocks c.in_ok-letters.letters c.in_ok-letters.ensures t.before (before_of n check.body) relations.before c.requires.parts.before before;
-      after = made_of (Unit {0}) check n blocks c.in_ok-letters.letters c.in_ok-letters.ensures t.after (after_of n check.body) relations.after c.requires.parts.after after;
+      after = made_of (Unit {0}) check n blocks c.in_ok-letters.letters c.in_ok-letters.ensures t.after (after_of n check.body) (unwrap_or relations.after relations.before)
+          c.requires.parts.after after;
+      alone = λ none. c.one_serves-alone.ensures.terms (alone.0 none) n;
     })
-    c.both_relations.ensures.before c.both_relations.ensures.after
+    c.both_relations.ensures.before c.both_relations.ensures.after c.both_relations.ensures.alone
+
+pub returns-clause-alone : goal.returns-clause-alone
+returns-clause-alone c =
+    ok_weaker _ _ c.both_relations.result (λ relations alone none. c.one_serves-alone.ensures.blocks (alone.0 none)) c.both_relations.ensures.alone
 
 pub returns-clause-limit : goal.returns-clause-limit
 returns-clause-limit c =

@@ -1,6 +1,7 @@
-use Rattle.std.proofs.Common.{length, inl, inr}
+use Rattle.std.proofs.Common.{length, inl, inr, sym, subst}
 use Rattle.std.proofs.lemmas.Result.{IfErr-weaker, IfOk-weaker}
 use Rattle.rela_blocks.specs.Scenes.{lettering_of}
+use Rattle.rela_build.specs.Made.{IsMadeR}
 use Rattle.rela_build.specs.PathSets.{no_paths}
 use Rattle.rela_build.proofs.MadePairs.{made_letters}
 use Rattle.rela_rir.specs.declared.term.PathTerm.TheVariants as P
@@ -17,7 +18,10 @@ pub written-requires-clause-relation : goal.written-requires-clause-relation
 written-requires-clause-relation c =
     let check = c.args.row.now.check.now in
     let n = length c.args.row.now.alphabet.now in
-    made_letters (Unit {0}) (lettering_of check n c.args.coarse.now) no_paths (after_of n check.body) c.args.relations.now.after c.requires.relations.after
+    let l = lettering_of check n c.args.coarse.now in
+    let made : IsMadeR (Unit {0}) l no_paths (after_of n check.body) c.after-relation.result.now =
+    subst (IsMadeR (Unit {0}) l no_paths (after_of n check.body)) (sym c.after-relation.ensures) c.requires.relations.after in
+    made_letters (Unit {0}) l no_paths (after_of n check.body) c.after-relation.result.now made
 
 pub returns-clause-made : goal.returns-clause-made
 returns-clause-made c =
@@ -26,9 +30,11 @@ returns-clause-made c =
     let names = row.alphabet.now in
     let n = length names in
     let of = after_words check names row.pair.now.before row.pair.now.after c.args.blocks.now c.level.result c.level.ensures c.in_ok-paths.paths c.in_ok-paths.ensures in
+    let made : IsMadeR (Unit {0}) (lettering_of check n c.args.coarse.now) no_paths (after_of n check.body) c.after-relation.result.now =
+    subst (IsMadeR (Unit {0}) (lettering_of check n c.args.coarse.now) no_paths (after_of n check.body)) (sym c.after-relation.ensures) c.requires.relations.after in
     IfOk-weaker c.written.result _ _
-    (λ image told. image_made (Unit {0}) check n (paths_at row) c.args.coarse.now c.args.blocks.now (after_of n check.body) (after_fixed n check.body) c.args.relations.now.after
-    c.requires.relations.after c.requires.blocks.letters P.Post c.in_ok-paths.paths of told.0 told.1 image told.2)
+    (λ image told. image_made (Unit {0}) check n (paths_at row) c.args.coarse.now c.args.blocks.now (after_of n check.body) (after_fixed n check.body) c.after-relation.result.now
+    made c.requires.blocks.letters P.Post c.in_ok-paths.paths of told.0 told.1 image told.2)
     c.written.ensures.written
 
 pub returns-clause-limit : goal.returns-clause-limit
@@ -38,9 +44,11 @@ returns-clause-limit c =
     let names = row.alphabet.now in
     let n = length names in
     let of = after_words check names row.pair.now.before row.pair.now.after c.args.blocks.now c.level.result c.level.ensures c.in_ok-paths.paths c.in_ok-paths.ensures in
+    let made : IsMadeR (Unit {0}) (lettering_of check n c.args.coarse.now) no_paths (after_of n check.body) c.after-relation.result.now =
+    subst (IsMadeR (Unit {0}) (lettering_of check n c.args.coarse.now) no_paths (after_of n check.body)) (sym c.after-relation.ensures) c.requires.relations.after in
     IfErr-weaker c.written.result _ _
     (λ e told is last.
     let passed = told is in
-    inr (inl (image_passes (Unit {0}) check n (paths_at row) c.args.coarse.now c.args.blocks.now (after_of n check.body) (after_fixed n check.body) c.args.relations.now.after
-    c.requires.relations.after c.requires.blocks.letters P.Post c.in_ok-paths.paths of passed.0 passed.1 4000000 passed.2)))
+    inr (inl (image_passes (Unit {0}) check n (paths_at row) c.args.coarse.now c.args.blocks.now (after_of n check.body) (after_fixed n check.body) c.after-relation.result.now
+    made c.requires.blocks.letters P.Post c.in_ok-paths.paths of passed.0 passed.1 4000000 passed.2)))
     c.written.ensures.limit
