@@ -5,3 +5,4 @@ pub mod Shared
 pub mod Shown
 pub mod VerdictLaws
 pub mod AgreeLaws
+pub mod OneShape

@@ -1,5 +1,5 @@
 -- Flows by how they look, and the verdicts that they share.
-use Rattle.std.proofs.Common.{◌≡◌, ℕ, ◌<◌, ◌↔◌, cond, Bool, true, List, [], ◌∷◌, length, get_or, Some, inl, inr, refl, sym, ap, subst, ◌∙◌, arith}
+use Rattle.std.proofs.Common.{◌≡◌, ℕ, ◌<◌, ◌↔◌, cond, Bool, true, List, [], ◌∷◌, length, get_or, Some, Result, Ok, Err, IfOk, inl, inr, refl, sym, ap, subst, ◌∙◌, arith}
 use Rattle.std.specs.Prelude.{slice_get, IsSomeAnd, nat_eq}
 use Rattle.std.specs.HashMap.{HashMap, get}
 use Rattle.std.specs.List.{All}
@@ -15,6 +15,7 @@ use Rattle.rela_graph.specs.Outline.{Outline, outline_of}
 use Rattle.rela_graph.specs.Paths.{Paths, Arrives, Undelivered, locations}
 use Rattle.rela_graph.specs.Topology.{Topology}
 use Rattle.rela_names.specs.declared.level.Level.{Level}
+use Rattle.rela_report.specs.Text.{VerdictHasTexts}
 use Rattle.rela_report.specs.declared.rows.ReportRow.TheVariants.{Checked}
 use Rattle.rela_report.specs.declared.rows.Row.{Row}
 use Rattle.rela_snapshot.specs.declared.pairing.FlowPair.{FlowPair}
@@ -76,6 +77,15 @@ module _ (names : List (List ℕ)) (pairs : List FlowPair) (compiled : List Comp
       (sym (slice_get_read pairs (length pairs) flow pair refl flow_inside pair_is))
       (subst (λ o. IsSomeAnd o (λ (c : Compiled). IsVerdict names c pair row))
       (sym (slice_get_read compiled (length compiled) k by refl check_inside by_is)) verdict)
+
+  -- the same of what a call answers
+  pub decided_result : {E : Type 0} (flow k : ℕ) (pair : FlowPair) (by : Compiled) (answer : Result Row E) → flow < length pairs → k < length compiled
+      → pair ≡ get_or pairs flow pair → by ≡ get_or compiled k by
+      → IfOk answer (RowOf by.check (length names) (paths_of by.check.level names pair.before pair.after) by.states) → IfOk answer (VerdictHasTexts names)
+      → IfOk answer (IsVerdictOf names compiled pairs flow k)
+  decided_result flow k pair by (Ok row) flow_inside check_inside pair_is by_is right texts =
+      decided_of flow k pair by row flow_inside check_inside pair_is by_is (record { right = right; texts = texts })
+  decided_result flow k pair by (Err e) flow_inside check_inside pair_is by_is right texts = tt
 
   -- and back
   pub verdict_at : (flow k : ℕ) (pair : FlowPair) (by : Compiled) (row : Row) → flow < length pairs → k < length compiled

@@ -1,2 +1,4 @@
+pub mod Kept
 pub mod Rows
+pub mod Shapes
 pub mod Sharing

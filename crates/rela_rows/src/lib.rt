@@ -3,6 +3,7 @@
 
 mod laws;
 mod rows;
+mod shapes;
 mod sharing;
 mod verdict;
 

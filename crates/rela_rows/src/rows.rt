@@ -8,9 +8,10 @@ ghost use Rattle.rela_snapshot.specs.PairsLocated.{ArePairsLocated};
 ghost use Rattle.rela_plan.specs.Alike.{AreAlike};
 ghost use Rattle.rela_plan.specs.Within.{IsWithin};
 ghost use Rattle.rela_rows.specs.Rows.{AreChecksAt, AreRowsOf};
-ghost use Rattle.rela_rows.specs.Sharing.{AreVerdicts, IsRowBy};
+ghost use Rattle.rela_rows.specs.Kept.{AreKept};
+ghost use Rattle.rela_rows.specs.Sharing.{IsRowBy};
 
-use crate::sharing::{Verdicts, share_verdicts, verdict_on};
+use crate::sharing::{Kept, share_verdicts, verdict_on};
 use rela_engine::{Compiled, compile};
 use rela_flows::PlannedRow;
 use rela_names::Alphabet;
@@ -19,12 +20,12 @@ use rela_report::{ReportRow, Row};
 use rela_snapshot::FlowPair;
 use rela_translate::Check;
 use std::alloc::{AllocError, Global};
-use std::collections::HashMap;
 
 /// The rows of the flows under the checks, whose locations are those of the alphabet: flow after
 /// flow, one for each check that selects it, in the order of the checks, or one alone where none
 /// does. `states` is the state limit. Each check is compiled once, and decided once for all flows
-/// that look the same at its level, where the checks have one level.
+/// that look the same at its level, where the checks have one level; and flows of one shape are
+/// found compliant once.
 ///
 /// # Errors
 ///
@@ -70,7 +71,7 @@ fn compile_all<'a>(
 }
 
 /// The rows that are planned, in their order. Under a check, flows that look the same are decided
-/// once: for each flow, `others` has the index of one that does.
+/// once: for each flow, `others` has the index of one that does. So are compliant flows of one shape.
 fn decide_all(
     alloc: Global,
     planned: &[PlannedRow],
@@ -88,10 +89,10 @@ fn decide_all(
         planned.now rows.items) }
     ensures texts { IfOk result (λ rows. All (RowHasTexts alphabet.now) rows.items) }
 {
-    let mut verdicts = HashMap::new(alloc);
+    let mut kept = Kept::new(alloc);
     let mut rows = Vec::with_capacity(alloc, planned.len())?;
     for row in planned {
-        rows.push(row_of(alloc, row, pairs, compiled, alphabet, others, &mut verdicts)?)?;
+        rows.push(row_of(alloc, row, pairs, compiled, alphabet, others, &mut kept)?)?;
     }
     Ok(rows)
 }
@@ -105,17 +106,17 @@ fn row_of(
     compiled: &[Compiled<'_>],
     alphabet: &Alphabet,
     others: &[usize],
-    verdicts: &mut Verdicts,
+    kept: &mut Kept,
 ) -> Result<ReportRow, AllocError>
     requires planned { IsWithin (length pairs.now) (length compiled.now) planned.now }
     requires locations { All (λ c. c.locations ≡ length alphabet.now) compiled.now }
     requires located { All (λ c. ArePairsLocated alphabet.now c.check.level
         pairs.now) compiled.now }
     requires alike { All (λ c. AreAlike c.check.level pairs.now others.now) compiled.now }
-    requires verdicts { AreVerdicts alphabet.now compiled.now pairs.now verdicts.old }
+    requires kept { AreKept alphabet.now compiled.now pairs.now kept.old }
     ensures row { IfOk result (IsRowBy alphabet.now compiled.now pairs.now planned.now) }
     ensures texts { IfOk result (RowHasTexts alphabet.now) }
-    ensures verdicts { OnOk result (AreVerdicts alphabet.now compiled.now pairs.now verdicts.new) }
+    ensures kept { OnOk result (AreKept alphabet.now compiled.now pairs.now kept.new) }
 {
     match *planned {
         PlannedRow::Unselected { flow } => Ok(ReportRow::Unselected {
@@ -123,7 +124,7 @@ fn row_of(
         }),
         PlannedRow::Checked { flow, check } => {
             let other = others[flow];
-            let row = verdict_on(alloc, verdicts, other, check, pairs, compiled, alphabet)?;
+            let row = verdict_on(alloc, kept, other, check, pairs, compiled, alphabet)?;
             let (pair, by) = (&pairs[flow], &compiled[check]);
             share_verdicts(by, pair, &pairs[other], alphabet);
             row_under(alloc, pair, by.check(), row)

@@ -1,25 +1,47 @@
 //! Verdicts that flows share: those that look the same at a check's level have the same paths there.
 
-ghost use Rattle.std.specs.Prelude.{◌≡◌, ℕ, ◌<◌, IfOk, OnOk, All, length};
+ghost use Rattle.std.specs.Prelude.{◌≡◌, ℕ, ◌<◌, List, IfOk, OnOk, All, length};
 ghost use Rattle.rela_snapshot.specs.PairsLocated.{ArePairsLocated};
+ghost use Rattle.rela_snapshot.specs.declared.pairing.FlowPair.{FlowPair};
+ghost use Rattle.rela_engine.specs.Compilation.{Compilation};
 ghost use Rattle.rela_engine.specs.RowOf.{RowOf};
 ghost use Rattle.rela_engine.specs.Scenes.{SamePathSets};
 ghost use Rattle.rela_report.specs.declared.rows.Row.{Row};
 ghost use Rattle.rela_translate.specs.Checked.{Checked};
 ghost use Rattle.rela_plan.specs.Alike.{look_of};
-ghost use Rattle.rela_rows.specs.Sharing.{AreVerdicts, IsVerdict, IsVerdictOf};
+ghost use Rattle.rela_rows.specs.Kept.{AreKept};
+ghost use Rattle.rela_rows.specs.Sharing.{IsVerdict, IsVerdictOf};
 
-use crate::verdict::verdict;
+use crate::shapes::{MetShapes, verdict_by_shape};
 use rela_engine::{Compiled, TwoPathSets, rows_carry_over};
 use rela_names::Alphabet;
 use rela_report::Row;
 use rela_snapshot::FlowPair;
 use std::alloc::{AllocError, Global};
-use std::collections::HashMap;
+use std::collections::{HashMap, HashSet};
 use std::marker::Brand;
 
-/// Verdicts by the indexes of their flows and checks, in this order.
-pub(crate) type Verdicts = HashMap<(usize, usize), Row>;
+/// What is known of the flows that have been decided.
+#[derive(Drop)]
+pub(crate) struct Kept {
+    /// Their verdicts, by the indexes of the flow and the check.
+    verdicts: HashMap<(usize, usize), Row>,
+    /// The shapes of those that are compliant.
+    met: MetShapes,
+}
+
+impl Kept {
+    /// Nothing is known.
+    pub(crate) fn new(alloc: Global) -> Kept
+        ensures { (names : List (List ℕ)) (compiled : List Compilation) (pairs : List FlowPair) →
+            AreKept names compiled pairs result }
+    {
+        Kept {
+            verdicts: HashMap::new(alloc),
+            met: HashSet::new(alloc),
+        }
+    }
+}
 
 /// A verdict on one flow is one on each flow that looks the same at the check's level. The call does
 /// nothing, and its contract is this law.
@@ -62,7 +84,7 @@ fn carry_over<P: TwoPathSets, Q: TwoPathSets>(
 /// Only where memory is wanted.
 pub(crate) fn verdict_on(
     alloc: Global,
-    verdicts: &mut Verdicts,
+    kept: &mut Kept,
     flow: usize,
     check: usize,
     pairs: &[FlowPair],
@@ -74,14 +96,14 @@ pub(crate) fn verdict_on(
     requires locations { All (λ c. c.locations ≡ length alphabet.now) compiled.now }
     requires located { All (λ c. ArePairsLocated alphabet.now c.check.level
         pairs.now) compiled.now }
-    requires verdicts { AreVerdicts alphabet.now compiled.now pairs.now verdicts.old }
+    requires kept { AreKept alphabet.now compiled.now pairs.now kept.old }
     ensures verdict { IfOk result (IsVerdictOf alphabet.now compiled.now pairs.now flow check) }
-    ensures verdicts { OnOk result (AreVerdicts alphabet.now compiled.now pairs.now verdicts.new) }
+    ensures kept { OnOk result (AreKept alphabet.now compiled.now pairs.now kept.new) }
 {
-    if let Some(row) = verdicts.get(&(flow, check)) {
+    if let Some(row) = kept.verdicts.get(&(flow, check)) {
         return row.copy(alloc);
     }
-    let row = verdict(alloc, &compiled[check], &pairs[flow], alphabet)?;
-    verdicts.insert((flow, check), row.copy(alloc)?)?;
+    let row = verdict_by_shape(alloc, &mut kept.met, flow, check, pairs, compiled, alphabet)?;
+    kept.verdicts.insert((flow, check), row.copy(alloc)?)?;
     Ok(row)
 }

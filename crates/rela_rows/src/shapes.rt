@@ -1,0 +1,120 @@
+//! Compliance that flows share whose graphs differ in the names of locations alone.
+
+ghost use Rattle.std.specs.Prelude.{◌≡◌, ◌<◌, IfOk, OnOk, IsSome, IsTrue, All, length};
+ghost use Rattle.rela_shape.specs.Shape.{IsShape};
+ghost use Rattle.rela_snapshot.specs.PairsLocated.{ArePairsLocated, IsPairLocated};
+ghost use Rattle.rela_rows.specs.Shapes.{AreMetShapes, IsMetShape};
+ghost use Rattle.rela_rows.specs.Sharing.{IsVerdict, IsVerdictOf};
+
+use crate::verdict::verdict;
+use rela_engine::Compiled;
+use rela_names::Alphabet;
+use rela_report::Row;
+use rela_shape::{Shape, one_shape_renames, renamed_flows_meet_alike};
+use rela_snapshot::FlowPair;
+use std::alloc::{AllocError, Global};
+use std::collections::HashSet;
+
+/// Shapes of compliant flows, each with the index of the check that they meet.
+pub(crate) type MetShapes = HashSet<(usize, Shape)>;
+
+/// How many shapes are kept for a check, on average. Where there are more, hardly two flows have one
+/// shape, and keeping them isn't worth the memory.
+const SHAPES_PER_CHECK: usize = 1_024;
+
+/// The verdict of a check on a flow, by their indexes. Where a flow of the same shape is known to meet
+/// the check, this one does too; else it is decided, and its shape is kept if it is compliant. No
+/// shape is made where it can't help: under a check that isn't complete, which leaves each flow
+/// open, and where both graphs look the same, which mostly needs no automata.
+///
+/// # Errors
+///
+/// Only where memory is wanted.
+pub(crate) fn verdict_by_shape(
+    alloc: Global,
+    met: &mut MetShapes,
+    flow: usize,
+    check: usize,
+    pairs: &[FlowPair],
+    compiled: &[Compiled<'_>],
+    alphabet: &Alphabet,
+) -> Result<Row, AllocError>
+    requires flow { flow < length pairs.now }
+    requires check { check < length compiled.now }
+    requires locations { All (λ c. c.locations ≡ length alphabet.now) compiled.now }
+    requires located { All (λ c. ArePairsLocated alphabet.now c.check.level
+        pairs.now) compiled.now }
+    requires met { AreMetShapes alphabet.now compiled.now met.old }
+    ensures verdict { IfOk result (IsVerdictOf alphabet.now compiled.now pairs.now flow check) }
+    ensures met { OnOk result (AreMetShapes alphabet.now compiled.now met.new) }
+{
+    let (pair, by) = (&pairs[flow], &compiled[check]);
+    if !by.complete() || looks_unchanged(by, pair) {
+        return verdict(alloc, by, pair, alphabet);
+    }
+    let shape = shape_under(alloc, by, pair, alphabet)?;
+    share_compliance(by, pair, &shape, alphabet);
+    let entry = (check, shape);
+    if met.contains(&entry) {
+        return Ok(Row::Compliant);
+    }
+    let row = verdict(alloc, by, pair, alphabet)?;
+    if !is_kept(&row, met, compiled.len()) {
+        return Ok(row);
+    }
+    met.insert(entry)?;
+    Ok(row)
+}
+
+/// Whether the shape of a flow with this verdict is kept: it is if the flow is compliant, as long as
+/// there is room.
+fn is_kept(row: &Row, met: &MetShapes, checks: usize) -> bool
+    ensures { IsTrue result → row.now ≡ Row.Compliant }
+{
+    match row {
+        Row::Compliant => met.len() / SHAPES_PER_CHECK < checks,
+        Row::Violated { .. } | Row::Undecided => false,
+    }
+}
+
+/// Whether the graphs of the flow look the same at the check's level.
+fn looks_unchanged(by: &Compiled<'_>, pair: &FlowPair) -> bool {
+    let level = by.level();
+    pair.before.at(level) == pair.after.at(level)
+}
+
+/// The shape of the flow at the check's level, by the blocks of the check's symbols.
+///
+/// # Errors
+///
+/// Only where memory is wanted.
+fn shape_under(
+    alloc: Global,
+    by: &Compiled<'_>,
+    pair: &FlowPair,
+    alphabet: &Alphabet,
+) -> Result<Shape, AllocError>
+    requires locations { by.now.locations ≡ length alphabet.now }
+    requires located { IsPairLocated alphabet.now by.now.check.level pair.now }
+    ensures { IfOk result (IsShape by.now.blocks by.now.check.level pair.now) }
+{
+    Shape::of(alloc, pair, by.level(), by.blocks())
+}
+
+/// A flow meets a check that some flow of the same shape meets. The call does nothing, and its
+/// contract is this law.
+fn share_compliance(by: &Compiled<'_>, pair: &FlowPair, shape: &Shape, alphabet: &Alphabet)
+    requires complete { IsSome by.now.relations }
+    requires locations { by.now.locations ≡ length alphabet.now }
+    requires located { IsPairLocated alphabet.now by.now.check.level pair.now }
+    requires shape { IsShape by.now.blocks by.now.check.level pair.now shape.now }
+    ensures { IsMetShape alphabet.now by.now shape.now →
+        IsVerdict alphabet.now by.now pair.now Row.Compliant }
+{
+    let _ = by.complete();
+    let _ = by.blocks();
+    let _ = by.before();
+    let _ = by.after();
+    one_shape_renames();
+    renamed_flows_meet_alike();
+}
