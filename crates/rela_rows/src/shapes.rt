@@ -20,7 +20,7 @@ pub(crate) type MetShapes = HashSet<(usize, Shape)>;
 
 /// How many shapes are kept for a check, on average. Where there are more, hardly two flows have one
 /// shape, and keeping them isn't worth the memory.
-const SHAPES_PER_CHECK: usize = 1_024;
+const SHAPES_PER_CHECK: usize = 128;
 
 /// The verdict of a check on a flow, by their indexes. Where a flow of the same shape is known to meet
 /// the check, this one does too; else it is decided, and its shape is kept if it is compliant. No
