@@ -13,6 +13,8 @@ pub mod RelationStops
 pub mod AlikeTerms
 pub mod AlikeRows
 pub mod Halves
+pub mod OneShape
+pub mod FirstPlaces
 pub mod KeptRelations
 pub mod ComplementCounts
 pub mod ListedRows

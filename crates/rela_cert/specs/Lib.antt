@@ -8,6 +8,8 @@ pub mod Planned
 pub mod RowAt
 pub mod RowParts
 pub mod CheckRelations
+pub mod RenamedBlocks
+pub mod RowForms
 pub mod KeptChecks
 pub mod Found
 pub mod Audited

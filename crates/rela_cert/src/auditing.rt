@@ -27,8 +27,9 @@ use std::collections::HashMap;
 /// Time and space: linear in the text and the planned rows, expected linear in the graphs of the
 /// flows, and those of the judgement of each listed row up to the first that isn't met. Rows with
 /// equal blocks, one check, and flows that look the same at its level are judged once as long as no
-/// other of them has other blocks. The relations of a check are made once as long as no other of its
-/// rows has other complement blocks, and are kept for each check.
+/// other of them has other blocks. So are the images blocks of rows of one check whose flows have one
+/// shape, where they differ in no more than the names of locations. The relations of a check are made
+/// once as long as no other of its rows has other complement blocks, and are kept for each check.
 ///
 /// # Errors
 ///

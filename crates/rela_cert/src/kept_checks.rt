@@ -1,11 +1,11 @@
-//! The relations of checks, kept for rows with the same complement blocks.
+//! The relations of checks, kept for rows with the same complement blocks, and what is known by them.
 
 ghost use Rattle.std.specs.Prelude.{◌≡◌, ℕ, ◌<◌, IfOk, IfErr, IfSome, All, length, map};
 ghost use Rattle.std.specs.List.{slice_get};
 ghost use Rattle.rela_certfile.specs.Listed.{IsBlock};
 ghost use Rattle.rela_translate.specs.Zones.{path_symbols};
 ghost use Rattle.rela_cert.specs.CheckRelations.{AreCheckParts};
-ghost use Rattle.rela_cert.specs.KeptChecks.{IsKept, complements_of_row};
+ghost use Rattle.rela_cert.specs.KeptChecks.{IsKeptWithForms, complements_of_row};
 ghost use Rattle.rela_cert.specs.RowParts.{locations_of, paths_at};
 ghost use Rattle.rela_cert.specs.Rows.{IsOpenAt, MayPass};
 
@@ -13,11 +13,12 @@ use crate::check_parts::{CheckParts, check_parts};
 use crate::check_relations::{CheckRelations, check_relations};
 use crate::row::Row;
 use crate::row_audit::MAX_STATES;
+use crate::row_forms::MetForms;
 use crate::same_blocks::have_same_complements;
 use rela_build::Stop;
 use rela_certfile::{Certificate, Step};
 use std::alloc::Global;
-use std::collections::HashMap;
+use std::collections::{HashMap, HashSet};
 
 /// By the index of a check, what is kept of it.
 pub(crate) type KeptChecks = HashMap<usize, KeptCheck>;
@@ -31,6 +32,8 @@ pub(crate) struct KeptCheck {
     pub(crate) relations: CheckRelations,
     /// The number of the listed row by whose complement blocks they were made.
     pub(crate) row: usize,
+    /// The forms of rows that were judged by them to be met.
+    pub(crate) met: MetForms,
 }
 
 /// The relations of the check of the listed row of this number, which has these complement blocks:
@@ -56,10 +59,10 @@ pub(crate) fn relations_of_row(
         row.now.check.now.classes }
     requires complements { All (λ block. IsBlock (path_symbols (locations_of row.now)) block.now)
         complements.now }
-    requires kept { IfSome kept
-        (IsKept (length certificate.now) (locations_of row.now) row.now.check.now) }
-    ensures kept { IfOk result
-        (IsKept (length certificate.now) (locations_of row.now) row.now.check.now) }
+    requires kept { IfSome kept (IsKeptWithForms (length certificate.now) row.now.alphabet.now
+        row.now.check.now) }
+    ensures kept { IfOk result (IsKeptWithForms (length certificate.now) row.now.alphabet.now
+        row.now.check.now) }
     ensures by_same_blocks { IfOk result (λ one.
         complements_of_row (slice_get certificate.now one.row)
         ≡ complements_of_row (slice_get certificate.now number)) }
@@ -75,6 +78,7 @@ pub(crate) fn relations_of_row(
                 parts,
                 relations,
                 row: made_for,
+                met,
             },
         ) => {
             if have_same_complements(certificate, made_for, number) {
@@ -82,6 +86,7 @@ pub(crate) fn relations_of_row(
                     parts,
                     relations,
                     row: made_for,
+                    met,
                 });
             }
             made_anew(alloc, number, row, complements, parts)
@@ -93,8 +98,8 @@ pub(crate) fn relations_of_row(
     }
 }
 
-/// The relations of the check of the listed row of this number, made by its complement blocks. The
-/// errors are those of [`check_relations`].
+/// The relations of the check of the listed row of this number, made by its complement blocks; nothing
+/// is known by them yet. The errors are those of [`check_relations`].
 fn made_anew(
     alloc: Global,
     number: usize,
@@ -108,7 +113,7 @@ fn made_anew(
         complements.now }
     requires parts { AreCheckParts row.now.check.now (locations_of row.now) parts }
     ensures kept { IfOk result (λ one. (count : ℕ) → number < count →
-        IsKept count (locations_of row.now) row.now.check.now one) }
+        IsKeptWithForms count row.now.alphabet.now row.now.check.now one) }
     ensures number { IfOk result (λ one. one.row ≡ number) }
     ensures limit { IfErr result (λ e. e ≡ Stop.Limit →
         MayPass row.now.check.now (locations_of row.now) (paths_at row.now) MAX_STATES) }
@@ -121,5 +126,6 @@ fn made_anew(
         parts,
         relations,
         row: number,
+        met: HashSet::new(alloc),
     })
 }

@@ -21,6 +21,7 @@ use crate::judgement::Judgement;
 use crate::kept_checks::{KeptCheck, KeptChecks, relations_of_row};
 use crate::lettered::lettered;
 use crate::row::Row;
+use crate::row_forms::judge_by_form;
 use crate::words::judge_words;
 use rela_blocks::row_blocks;
 use rela_build::Stop;
@@ -38,7 +39,7 @@ pub const MAX_STATES: usize = 4_000_000;
 /// the rows of a check with the same complement blocks that follow one another.
 ///
 /// Time and space: linear in the complement blocks, and where they aren't those of the check's row
-/// before it those of [`relations_of_row`]; and those of [`judge_images`]. The only error is want of
+/// before it those of [`relations_of_row`]; and those of [`judge_by_form`]. The only error is want of
 /// memory.
 pub(crate) fn audit_row(
     alloc: Global,
@@ -67,8 +68,8 @@ pub(crate) fn audit_row(
 {
     let found = kept.remove(&check);
     match relations_of_row(alloc, certificate, number, row, complements, found) {
-        Ok(one) => {
-            let judgement = judge_images(alloc, row, &one, images);
+        Ok(mut one) => {
+            let judgement = judge_by_form(alloc, row, &mut one, images);
             kept.insert(check, one)?;
             judgement
         }
@@ -95,7 +96,7 @@ fn stopped(stop: Stop) -> Result<Judgement, AllocError>
 ///
 /// Time and space: those of the row's blocks and of [`flow_images`], and for each listed word a look-up
 /// for each letter. The only error is want of memory.
-fn judge_images(
+pub(crate) fn judge_images(
     alloc: Global,
     row: &Row<'_>,
     kept: &KeptCheck,
