@@ -11,3 +11,5 @@ mod long;
 mod network;
 #[cfg(test)]
 mod rejected;
+#[cfg(test)]
+mod renamed;
