@@ -1,5 +1,6 @@
 -- What an assertion file gives, and what `rir` does, from what their steps give.
 use Rattle.std.proofs.Common.{◌≡◌, ◌≢◌, ◌∙◌, ℕ, Bool, true, List, map, Option, Result, Ok, Err, refl, sym, ap, subst}
+use Rattle.std.specs.Prelude.{IfOk, IfErr}
 use Rattle.std.specs.List.{All}
 use Rattle.rela_assertions.specs.Rows.{AreRowsOf, IsClaimAt}
 use Rattle.rela_assertions.specs.Text.{assertions_text, status_of}
@@ -15,19 +16,20 @@ use Rattle.rela_rirfile.specs.declared.written.AssertFile.{AssertFile}
 use Rattle.rela_snapshot.specs.Steps.{After, ◌>>=◌}
 use Rattle.rela_snapshot.specs.declared.pairing.FlowPair.{FlowPair}
 use Rattle.rela_inputs.specs.Answer.{Answer}
-use Rattle.rela_assert.specs.AssertReports.{ReportsAssertions, ReportsClaims, SameAssertReports}
+use Rattle.rela_assert.specs.AssertReports.{ReportsAssertions, ReportsClaims, ReportsOver, SameAssertReports}
 use Rattle.rela_assert.specs.Asserted.{Asserted, Asserts, IsAsserted, ReadsClaims, SameAsserted}
-use Rattle.rela_inputs.specs.Given.{Equals, Agrees, IsGiven, IsRead}
+use Rattle.rela_inputs.specs.Given.{Equals, Agrees, IsGiven, IsRead, seen}
 use Rattle.rela_inputs.specs.Halts.{spec_halt}
 use Rattle.rela_inputs.specs.Inputs.{BytesOf, Gives, ReadsNetwork}
 use Rattle.rela_inputs.specs.Paired.{GivesPairs}
 use Rattle.rela_same_flows.specs.SameFlows.{SamePairs}
 use Rattle.rela_inputs.specs.Specifications.{ReadsAssertions, refused_text}
 use Rattle.rela_inputs.specs.declared.reading.Halt.{Halt}
+use Rattle.rela_inputs.specs.declared.reading.Halt.TheVariants.{Memory}
 use Rattle.rela_inputs.specs.declared.refusal.Input.TheVariants as input
 use Rattle.rela_inputs.specs.declared.refusal.Refusal.{Refusal}
 use Rattle.rela_assert.proofs.ClaimReports.{RightRowsAgree, SameGraphsAreAlike, SameSetsAreEqual, claims_agree}
-use Rattle.rela_inputs.proofs.GivenLaws.{continued, continued_equal, stopped}
+use Rattle.rela_inputs.proofs.GivenLaws.{continued, continued_equal, memory_given, stopped}
 use Rattle.rela_inputs.proofs.TreeLaws.{text_refused}
 
 -- ---- the claims of a text
@@ -108,10 +110,7 @@ claims_reported states network pairs flows asserted names claims rows text statu
     subst (λ (cs : List Claim). AreRowsOf (alphabet_of asserted.level network) asserted.level states pairs cs rows) all by_pairs in
     (rows, by_claims, report_is (alphabet_of asserted.level network) rows text status (subst (λ (ns : List (List ℕ)). text ≡ assertions_text ns rows) named is_text) is_status)
 
-module _ (told steady : Bool) (holds : Option FilesByName) (before after locations assertions : List ℕ) (states : ℕ) where
-  abbrev Places : Result Network Refusal → Type 0
-  Places = Gives (BytesOf holds locations input.Locations) ReadsNetwork
-
+module _ (told steady : Bool) (holds : Option FilesByName) (before after assertions : List ℕ) (states : ℕ) where
   abbrev Pairs : Network → Result (List FlowPair) Refusal → Type 0
   Pairs network = GivesPairs network (BytesOf holds before input.Before) (BytesOf holds after input.After)
 
@@ -121,44 +120,57 @@ module _ (told steady : Bool) (holds : Option FilesByName) (before after locatio
   abbrev Then : Network → List FlowPair → Result Answer Refusal → Type 0
   Then network pairs = Claims network >>= ReportsClaims states network pairs
 
-  abbrev Next : Network → Result Answer Refusal → Type 0
-  Next network = Pairs network >>= Then network
+  abbrev Over : Network → Result Answer Refusal → Type 0
+  Over = ReportsOver holds before after assertions states
 
-  abbrev Reported : Result Answer Refusal → Type 0
-  Reported = ReportsAssertions holds before after locations assertions states
-
-  pub locations_stopped : (halt : Halt) → IsGiven told steady Equals Places (Err halt) → IsGiven told steady SameAssertReports Reported (Err halt)
-  unfolding ReportsAssertions
-  locations_stopped halt given = stopped told steady Equals SameAssertReports Places Next halt given
-
-  over : (network : Network) (r : Result Answer Halt) → IsGiven told steady Equals Places (Ok network) → IsGiven told steady SameAssertReports (Next network) r → IsGiven told steady SameAssertReports Reported r
-  unfolding ReportsAssertions
-  over network r given next = continued_equal told steady SameAssertReports Places Next network r given next
-
-  pub pairs_stopped : (network : Network) (halt : Halt) → IsGiven told steady Equals Places (Ok network) → IsGiven told steady SamePairs (Pairs network) (Err halt)
-      → IsGiven told steady SameAssertReports Reported (Err halt)
-  pairs_stopped network halt given pairs = over network (Err halt) given (stopped told steady SamePairs SameAssertReports (Pairs network) (Then network) halt pairs)
+  pub pairs_stopped : (network : Network) (halt : Halt) → IsGiven told steady SamePairs (Pairs network) (Err halt) → IsGiven told steady SameAssertReports (Over network) (Err halt)
+  unfolding ReportsOver
+  pairs_stopped network halt pairs = stopped told steady SamePairs SameAssertReports (Pairs network) (Then network) halt pairs
 
   claims_alone : (network : Network) (pairs : List FlowPair) (halt : Halt) → IsGiven told steady SameAsserted (Claims network) (Err halt) → IsGiven told steady SameAssertReports (Then network pairs) (Err halt)
   claims_alone network pairs halt claims = stopped told steady SameAsserted SameAssertReports (Claims network) (ReportsClaims states network pairs) halt claims
 
-  pub claims_stopped : (network : Network) (pairs : List FlowPair) (halt : Halt) → IsGiven told steady Equals Places (Ok network) → IsGiven told steady SamePairs (Pairs network) (Ok pairs)
-      → IsGiven told steady SameAsserted (Claims network) (Err halt) → IsGiven told steady SameAssertReports Reported (Err halt)
-  claims_stopped network pairs halt given paired claims = over network (Err halt) given
-      (continued told steady SamePairs SameAssertReports (Pairs network) (Then network) pairs (Err halt) paired (claims_alone network pairs halt claims).told_by
-      (λ t others same x steps. (claims_alone network others halt claims).alone t x steps))
+  pub claims_stopped : (network : Network) (pairs : List FlowPair) (halt : Halt) → IsGiven told steady SamePairs (Pairs network) (Ok pairs)
+      → IsGiven told steady SameAsserted (Claims network) (Err halt) → IsGiven told steady SameAssertReports (Over network) (Err halt)
+  unfolding ReportsOver
+  claims_stopped network pairs halt paired claims =
+      continued told steady SamePairs SameAssertReports (Pairs network) (Then network) pairs (Err halt) paired (claims_alone network pairs halt claims).told_by
+      (λ t others same x steps. (claims_alone network others halt claims).alone t x steps)
 
   last_alone : SameGraphsAreAlike → SameSetsAreEqual → RightRowsAgree → (network : Network) (pairs others : List FlowPair) (asserted : Asserted) (answer : Answer) (x : Result Answer Refusal) (y : Result Asserted Refusal)
       → SamePairs pairs others → ReportsClaims states network pairs asserted (Ok answer) → Agrees steady SameAsserted (Ok asserted) y → After (ReportsClaims states network others) y x → Agrees steady SameAssertReports (Ok answer) x
   last_alone alike equal agree network pairs others asserted answer x (Ok other) same reports agrees is = claims_agree alike equal agree steady states network pairs others asserted other answer x same agrees reports is
   last_alone alike equal agree network pairs others asserted answer x (Err e) same reports agrees is = absurd agrees
 
-  pub reported : SameGraphsAreAlike → SameSetsAreEqual → RightRowsAgree → (network : Network) (pairs : List FlowPair) (asserted : Asserted) (answer : Answer) → IsGiven told steady Equals Places (Ok network)
-      → IsGiven told steady SamePairs (Pairs network) (Ok pairs) → IsGiven told steady SameAsserted (Claims network) (Ok asserted)
-      → ReportsClaims states network pairs asserted (Ok answer) → IsGiven told steady SameAssertReports Reported (Ok answer)
-  reported alike equal agree network pairs asserted answer given paired claims reports = over network (Ok answer) given
-      (continued told steady SamePairs SameAssertReports (Pairs network) (Then network) pairs (Ok answer) paired (Ok asserted, claims.told_by, reports)
-      (λ t others same x steps. last_alone alike equal agree network pairs others asserted answer x steps.0 same reports (claims.alone t steps.0 steps.1) steps.2))
+  reported : SameGraphsAreAlike → SameSetsAreEqual → RightRowsAgree → (network : Network) (pairs : List FlowPair) (asserted : Asserted) (answer : Answer) → IsGiven told steady SamePairs (Pairs network) (Ok pairs)
+      → IsGiven told steady SameAsserted (Claims network) (Ok asserted) → ReportsClaims states network pairs asserted (Ok answer) → IsGiven told steady SameAssertReports (Over network) (Ok answer)
+  unfolding ReportsOver
+  reported alike equal agree network pairs asserted answer paired claims reports =
+      continued told steady SamePairs SameAssertReports (Pairs network) (Then network) pairs (Ok answer) paired (Ok asserted, claims.told_by, reports)
+      (λ t others same x steps. last_alone alike equal agree network pairs others asserted answer x steps.0 same reports (claims.alone t steps.0 steps.1) steps.2)
+
+  -- the report, or want of memory
+  pub reported_or_memory : SameGraphsAreAlike → SameSetsAreEqual → RightRowsAgree → (network : Network) (pairs : List FlowPair) (asserted : Asserted) (A : Type 0) (view : A → Answer) (r : Result A Halt)
+      → IfOk r (λ answer. ReportsClaims states network pairs asserted (Ok (view answer))) → IfErr r (λ halt. halt ≡ Memory) → IsGiven told steady SamePairs (Pairs network) (Ok pairs)
+      → IsGiven told steady SameAsserted (Claims network) (Ok asserted) → IsGiven told steady SameAssertReports (Over network) (seen view r)
+  reported_or_memory alike equal agree network pairs asserted A view (Ok answer) reports memory paired claims = reported alike equal agree network pairs asserted (view answer) paired claims reports
+  reported_or_memory alike equal agree network pairs asserted A view (Err halt) reports memory paired claims = memory_given told steady SameAssertReports (Over network) view (Err halt) memory
+
+module _ (told steady : Bool) (holds : Option FilesByName) (before after locations assertions : List ℕ) (states : ℕ) where
+  abbrev Places : Result Network Refusal → Type 0
+  Places = Gives (BytesOf holds locations input.Locations) ReadsNetwork
+
+  abbrev Reported : Result Answer Refusal → Type 0
+  Reported = ReportsAssertions holds before after locations assertions states
+
+  pub locations_stopped : (halt : Halt) → IsGiven told steady Equals Places (Err halt) → IsGiven told steady SameAssertReports Reported (Err halt)
+  unfolding ReportsAssertions
+  locations_stopped halt given = stopped told steady Equals SameAssertReports Places (ReportsOver holds before after assertions states) halt given
+
+  pub over : (network : Network) (r : Result Answer Halt) → IsGiven told steady Equals Places (Ok network) → IsGiven told steady SameAssertReports (ReportsOver holds before after assertions states network) r
+      → IsGiven told steady SameAssertReports Reported r
+  unfolding ReportsAssertions
+  over network r given next = continued_equal told steady SameAssertReports Places (ReportsOver holds before after assertions states) network r given next
 
 -- the claims are such as can be decided
 pub are_claims : (network : Network) (level : Level) (claims : List Claim) → All (ListsPathSymbols (record { network = network; level = level })) claims → All NamesByClasses claims

@@ -29,13 +29,19 @@ ReportsClaims states network pairs asserted r =
     × AreRowsOf (alphabet_of asserted.level network) asserted.level states pairs asserted.claims rows
     × (r ≡ Ok (assertions_report (alphabet_of asserted.level network) rows))
 
+-- what the other inputs give over the network
+unfoldable pub ReportsOver : Option FilesByName → (before after assertions : List ℕ) → ℕ →
+    Network → Result Answer Refusal → Type 0
+ReportsOver holds before after assertions states network = do
+  pairs ← GivesPairs network (BytesOf holds before Before) (BytesOf holds after After)
+  asserted ← Gives (BytesOf holds assertions Assertions) (ReadsClaims network)
+  ReportsClaims states network pairs asserted
+
 unfoldable pub ReportsAssertions : Option FilesByName →
     (before after locations assertions : List ℕ) → ℕ → Result Answer Refusal → Type 0
 ReportsAssertions holds before after locations assertions states = do
   network ← Gives (BytesOf holds locations Locations) ReadsNetwork
-  pairs ← GivesPairs network (BytesOf holds before Before) (BytesOf holds after After)
-  asserted ← Gives (BytesOf holds assertions Assertions) (ReadsClaims network)
-  ReportsClaims states network pairs asserted
+  ReportsOver holds before after assertions states network
 
 -- two reports whose rows differ at most where one of them leaves something undecided
 pub record SameAssertReports (x y : Answer) : Type 0 where

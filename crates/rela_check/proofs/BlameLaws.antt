@@ -1,6 +1,6 @@
 -- What a check gives whose violated rows say which alternative claimed their source, from what its steps give.
 use Rattle.std.proofs.Common.{◌≡◌, ◌∙◌, ℕ, zero, suc, Bool, true, false, List, [], ◌∷◌, length, map, filter, Option, Some, None, Result, Ok, Err, refl, sym, ap, subst, arith}
-use Rattle.std.specs.Prelude.{slice_get, IsSomeAnd, count_by}
+use Rattle.std.specs.Prelude.{slice_get, IsSomeAnd, IfOk, IfErr, count_by}
 use Rattle.std.specs.List.{All, AllZip, Contains}
 use Rattle.std.proofs.lemmas.List.Elements.{All-cons, All-nil}
 use Rattle.std.proofs.lemmas.List.Sums.{length-filter}
@@ -31,10 +31,10 @@ use Rattle.rela_translate.specs.Checked.{Checked as Check}
 use Rattle.rela_translate.specs.Zones as translate
 use Rattle.rela_translate.specs.declared.body.Core.{Core}
 use Rattle.rela_inputs.specs.Answer.{Answer}
-use Rattle.rela_check.specs.Blames.{AreZonesOf, Blames, ReportsAs, ReportsBlamed, SameAs, SameBlamed, blamed_report}
+use Rattle.rela_check.specs.Blames.{AreZonesOf, Blames, BlamesOver, ReportsAs, ReportsBlamed, SameAs, SameBlamed, blamed_report, change_of}
 use Rattle.rela_change_report.specs.Reports.{SameReports}
 use Rattle.rela_check.specs.Checks.{Checks}
-use Rattle.rela_inputs.specs.Given.{Equals, Agrees, IsGiven, IsRead}
+use Rattle.rela_inputs.specs.Given.{Equals, Agrees, IsGiven, IsRead, seen}
 use Rattle.rela_inputs.specs.Inputs.{BytesOf, Gives, ReadsNetwork}
 use Rattle.rela_inputs.specs.Loaded.{Loaded, SameLoaded, names_of}
 use Rattle.rela_inputs.specs.Paired.{GivesPairs}
@@ -43,9 +43,10 @@ use Rattle.rela_same_flows.specs.SameFlows.{SamePairs}
 use Rattle.rela_inputs.specs.Specifications.{ReadsWritten, Written}
 use Rattle.rela_inputs.specs.Specified.{AsksFor, SameSpecified, Specified}
 use Rattle.rela_inputs.specs.declared.reading.Halt.{Halt}
+use Rattle.rela_inputs.specs.declared.reading.Halt.TheVariants.{Memory}
 use Rattle.rela_inputs.specs.declared.refusal.Input.TheVariants as input
 use Rattle.rela_inputs.specs.declared.refusal.Refusal.{Refusal}
-use Rattle.rela_inputs.proofs.GivenLaws.{continued, continued_equal, read_given, stopped}
+use Rattle.rela_inputs.proofs.GivenLaws.{continued, continued_equal, memory_given, read_given, stopped}
 
 -- ---- violated rows have their sources in zones
 
@@ -177,18 +178,12 @@ module _ (same_names : SameNames) (rows_agree : RowsAgree) (states : ℕ) (chang
 
 -- ---- the steps
 
-module _ (told steady : Bool) (holds : Option FilesByName) (before after locations spec : List ℕ) (states : ℕ) where
-  abbrev Places : Result Network Refusal → Type 0
-  Places = Gives (BytesOf holds locations input.Locations) ReadsNetwork
-
+module _ (told steady : Bool) (holds : Option FilesByName) (before after spec : List ℕ) (states : ℕ) where
   abbrev Pairs : Network → Result (List FlowPair) Refusal → Type 0
   Pairs network = GivesPairs network (BytesOf holds before input.Before) (BytesOf holds after input.After)
 
   abbrev Writes : Result Written Refusal → Type 0
   Writes = Gives (BytesOf holds spec input.Spec) ReadsWritten
-
-  abbrev change_of : Network → List FlowPair → Specified → Loaded
-  change_of network pairs specified = record { network = network; pairs = pairs; specified = specified }
 
   abbrev Last : Network → List FlowPair → Written → Specified → Result Answer Refusal → Type 0
   Last network pairs written specified = ReportsBlamed states written (change_of network pairs specified)
@@ -199,32 +194,22 @@ module _ (told steady : Bool) (holds : Option FilesByName) (before after locatio
   abbrev Later : Network → List FlowPair → Result Answer Refusal → Type 0
   Later network pairs = Writes >>= Then network pairs
 
-  abbrev Next : Network → Result Answer Refusal → Type 0
-  Next network = Pairs network >>= Later network
+  abbrev Over : Network → Result Answer Refusal → Type 0
+  Over = BlamesOver holds before after spec states
 
-  abbrev Blamed : Result Answer Refusal → Type 0
-  Blamed = Blames holds before after locations spec states
-
-  pub locations_stopped : (halt : Halt) → IsGiven told steady Equals Places (Err halt) → IsGiven told steady SameBlamed Blamed (Err halt)
-  unfolding Blames
-  locations_stopped halt given = stopped told steady Equals SameBlamed Places Next halt given
-
-  over : (network : Network) (r : Result Answer Halt) → IsGiven told steady Equals Places (Ok network) → IsGiven told steady SameBlamed (Next network) r → IsGiven told steady SameBlamed Blamed r
-  unfolding Blames
-  over network r given next = continued_equal told steady SameBlamed Places Next network r given next
-
-  pub pairs_stopped : (network : Network) (halt : Halt) → IsGiven told steady Equals Places (Ok network) → IsGiven told steady SamePairs (Pairs network) (Err halt)
-      → IsGiven told steady SameBlamed Blamed (Err halt)
-  pairs_stopped network halt given pairs = over network (Err halt) given (stopped told steady SamePairs SameBlamed (Pairs network) (Later network) halt pairs)
+  pub pairs_stopped : (network : Network) (halt : Halt) → IsGiven told steady SamePairs (Pairs network) (Err halt) → IsGiven told steady SameBlamed (Over network) (Err halt)
+  unfolding BlamesOver
+  pairs_stopped network halt pairs = stopped told steady SamePairs SameBlamed (Pairs network) (Later network) halt pairs
 
   written_alone : (network : Network) (pairs : List FlowPair) (halt : Halt) → IsGiven told steady Equals Writes (Err halt) → IsGiven told steady SameBlamed (Later network pairs) (Err halt)
   written_alone network pairs halt writes = stopped told steady Equals SameBlamed Writes (Then network pairs) halt writes
 
-  pub written_stopped : (network : Network) (pairs : List FlowPair) (halt : Halt) → IsGiven told steady Equals Places (Ok network) → IsGiven told steady SamePairs (Pairs network) (Ok pairs)
-      → IsGiven told steady Equals Writes (Err halt) → IsGiven told steady SameBlamed Blamed (Err halt)
-  written_stopped network pairs halt given paired writes = over network (Err halt) given
-      (continued told steady SamePairs SameBlamed (Pairs network) (Later network) pairs (Err halt) paired (written_alone network pairs halt writes).told_by
-      (λ t others same x steps. (written_alone network others halt writes).alone t x steps))
+  pub written_stopped : (network : Network) (pairs : List FlowPair) (halt : Halt) → IsGiven told steady SamePairs (Pairs network) (Ok pairs)
+      → IsGiven told steady Equals Writes (Err halt) → IsGiven told steady SameBlamed (Over network) (Err halt)
+  unfolding BlamesOver
+  written_stopped network pairs halt paired writes =
+      continued told steady SamePairs SameBlamed (Pairs network) (Later network) pairs (Err halt) paired (written_alone network pairs halt writes).told_by
+      (λ t others same x steps. (written_alone network others halt writes).alone t x steps)
 
   asked_alone : (network : Network) (pairs : List FlowPair) (written : Written) (halt : Halt) → IsGiven told steady Equals Writes (Ok written)
       → IsRead SameSpecified (AsksFor network written.file) (Err halt) → IsGiven told steady SameBlamed (Later network pairs) (Err halt)
@@ -232,12 +217,12 @@ module _ (told steady : Bool) (holds : Option FilesByName) (before after locatio
       continued_equal told steady SameBlamed Writes (Then network pairs) written (Err halt) writes
       (stopped told steady SameSpecified SameBlamed (AsksFor network written.file) (Last network pairs written) halt (read_given told steady SameSpecified (AsksFor network written.file) (Err halt) asks))
 
-  pub asked_stopped : (network : Network) (pairs : List FlowPair) (written : Written) (halt : Halt) → IsGiven told steady Equals Places (Ok network)
-      → IsGiven told steady SamePairs (Pairs network) (Ok pairs) → IsGiven told steady Equals Writes (Ok written) → IsRead SameSpecified (AsksFor network written.file) (Err halt)
-      → IsGiven told steady SameBlamed Blamed (Err halt)
-  asked_stopped network pairs written halt given paired writes asks = over network (Err halt) given
-      (continued told steady SamePairs SameBlamed (Pairs network) (Later network) pairs (Err halt) paired (asked_alone network pairs written halt writes asks).told_by
-      (λ t others same x steps. (asked_alone network others written halt writes asks).alone t x steps))
+  pub asked_stopped : (network : Network) (pairs : List FlowPair) (written : Written) (halt : Halt) → IsGiven told steady SamePairs (Pairs network) (Ok pairs)
+      → IsGiven told steady Equals Writes (Ok written) → IsRead SameSpecified (AsksFor network written.file) (Err halt) → IsGiven told steady SameBlamed (Over network) (Err halt)
+  unfolding BlamesOver
+  asked_stopped network pairs written halt paired writes asks =
+      continued told steady SamePairs SameBlamed (Pairs network) (Later network) pairs (Err halt) paired (asked_alone network pairs written halt writes asks).told_by
+      (λ t others same x steps. (asked_alone network others written halt writes asks).alone t x steps)
 
   module _ (same_names : SameNames) (rows_agree : RowsAgree) (network : Network) (pairs : List FlowPair) (written : Written) (specified : Specified) (answer : Answer) (reports : ReportsBlamed states written (change_of network pairs specified) (Ok answer)) where
     last_alone : (others : List FlowPair) → SamePairs pairs others → (x : Result Answer Refusal) (y : Result Specified Refusal) → Agrees steady SameSpecified (Ok specified) y
@@ -251,14 +236,39 @@ module _ (told steady : Bool) (holds : Option FilesByName) (before after locatio
     on_written others x (Ok other) same after go = go (subst (λ (v : Written). Then network others v x) (sym same) after)
     on_written others x (Err e) same after go = absurd same
 
-    pub reported : IsGiven told steady Equals Places (Ok network) → IsGiven told steady SamePairs (Pairs network) (Ok pairs) → IsGiven told steady Equals Writes (Ok written)
-        → IsRead SameSpecified (AsksFor network written.file) (Ok specified) → IsGiven told steady SameBlamed Blamed (Ok answer)
-    reported given paired writes asks =
+    pub reported : IsGiven told steady SamePairs (Pairs network) (Ok pairs) → IsGiven told steady Equals Writes (Ok written)
+        → IsRead SameSpecified (AsksFor network written.file) (Ok specified) → IsGiven told steady SameBlamed (Over network) (Ok answer)
+    unfolding BlamesOver
+    reported paired writes asks =
         let asked = read_given told steady SameSpecified (AsksFor network written.file) (Ok specified) asks in
-        over network (Ok answer) given
-        (continued told steady SamePairs SameBlamed (Pairs network) (Later network) pairs (Ok answer) paired (Ok written, writes.told_by, (Ok specified, asked.told_by, reports))
+        continued told steady SamePairs SameBlamed (Pairs network) (Later network) pairs (Ok answer) paired (Ok written, writes.told_by, (Ok specified, asked.told_by, reports))
         (λ t others same x steps. on_written others x steps.0 (writes.alone t steps.0 steps.1) steps.2
-        (λ after. last_alone others same x after.0 (asked.alone t after.0 after.1) after.2)))
+        (λ after. last_alone others same x after.0 (asked.alone t after.0 after.1) after.2))
+
+  -- the report, or want of memory
+  pub reported_or_memory : SameNames → RowsAgree → (network : Network) (pairs : List FlowPair) (written : Written) (specified : Specified) (A : Type 0) (view : A → Answer) (r : Result A Halt)
+      → IfOk r (λ answer. ReportsBlamed states written (change_of network pairs specified) (Ok (view answer))) → IfErr r (λ halt. halt ≡ Memory) → IsGiven told steady SamePairs (Pairs network) (Ok pairs)
+      → IsGiven told steady Equals Writes (Ok written) → IsRead SameSpecified (AsksFor network written.file) (Ok specified) → IsGiven told steady SameBlamed (Over network) (seen view r)
+  reported_or_memory same_names rows_agree network pairs written specified A view (Ok answer) reports memory paired writes asks =
+      reported same_names rows_agree network pairs written specified (view answer) reports paired writes asks
+  reported_or_memory same_names rows_agree network pairs written specified A view (Err halt) reports memory paired writes asks =
+      memory_given told steady SameBlamed (Over network) view (Err halt) memory
+
+module _ (told steady : Bool) (holds : Option FilesByName) (before after locations spec : List ℕ) (states : ℕ) where
+  abbrev Places : Result Network Refusal → Type 0
+  Places = Gives (BytesOf holds locations input.Locations) ReadsNetwork
+
+  abbrev Blamed : Result Answer Refusal → Type 0
+  Blamed = Blames holds before after locations spec states
+
+  pub locations_stopped : (halt : Halt) → IsGiven told steady Equals Places (Err halt) → IsGiven told steady SameBlamed Blamed (Err halt)
+  unfolding Blames
+  locations_stopped halt given = stopped told steady Equals SameBlamed Places (BlamesOver holds before after spec states) halt given
+
+  pub over : (network : Network) (r : Result Answer Halt) → IsGiven told steady Equals Places (Ok network) → IsGiven told steady SameBlamed (BlamesOver holds before after spec states network) r
+      → IsGiven told steady SameBlamed Blamed r
+  unfolding Blames
+  over network r given next = continued_equal told steady SameBlamed Places (BlamesOver holds before after spec states) network r given next
 
 -- ---- with the zones or without
 

@@ -4,11 +4,13 @@ use Rattle.std.specs.Prelude.{◌≡◌, ℕ, Bool, false, true, List, Option, R
 use Rattle.std.specs.List.{AllZip}
 use Rattle.rela_blame.specs.Zones.{IsZoneOf}
 use Rattle.rela_io.specs.Held.{FilesByName}
+use Rattle.rela_locations.specs.Network.{Network}
 use Rattle.rela_report.specs.Blamed.{blamed_text}
 use Rattle.rela_report.specs.Status.{is_violated, status_of}
 use Rattle.rela_report.specs.declared.rows.ReportRow.{ReportRow}
 use Rattle.rela_report.specs.declared.zones.Zone.{Zone}
 use Rattle.rela_snapshot.specs.Steps.{◌>>=◌}
+use Rattle.rela_snapshot.specs.declared.pairing.FlowPair.{FlowPair}
 use Rattle.rela_inputs.specs.Answer.{Answer}
 use Rattle.rela_change_report.specs.Reports.{SameReports}
 use Rattle.rela_check.specs.Checks.{Checks}
@@ -17,7 +19,7 @@ use Rattle.rela_inputs.specs.Loaded.{Loaded, names_of}
 use Rattle.rela_inputs.specs.Paired.{GivesPairs}
 use Rattle.rela_rows.specs.Rows.{AgreeInRows, AreRowsOf}
 use Rattle.rela_inputs.specs.Specifications.{ReadsWritten, Written}
-use Rattle.rela_inputs.specs.Specified.{AsksFor}
+use Rattle.rela_inputs.specs.Specified.{AsksFor, Specified}
 use Rattle.rela_inputs.specs.declared.refusal.Input.TheVariants.{After, Before, Locations, Spec}
 use Rattle.rela_inputs.specs.declared.refusal.Refusal.{Refusal}
 
@@ -26,6 +28,10 @@ blamed_report names rows zones = record {
   text = blamed_text names rows zones;
   status = status_of rows;
 }
+
+-- the change of these flows over the network, under what is asked for
+abbrev pub change_of : Network → List FlowPair → Specified → Loaded
+change_of network pairs specified = record { network = network; pairs = pairs; specified = specified }
 
 -- the zones of the violated rows, in their order, by the specification as it is written
 abbrev pub AreZonesOf : Written → Loaded → List ReportRow → List Zone → Type 0
@@ -41,14 +47,20 @@ ReportsBlamed states written loaded r =
     × AreZonesOf written loaded rows zones
     × (r ≡ Ok (blamed_report (names_of loaded) rows zones))
 
+-- what the other inputs give over the network
+unfoldable pub BlamesOver : Option FilesByName → (before after spec : List ℕ) → ℕ → Network →
+    Result Answer Refusal → Type 0
+BlamesOver holds before after spec states network = do
+  pairs ← GivesPairs network (BytesOf holds before Before) (BytesOf holds after After)
+  written ← Gives (BytesOf holds spec Spec) ReadsWritten
+  specified ← AsksFor network written.file
+  ReportsBlamed states written (change_of network pairs specified)
+
 unfoldable pub Blames : Option FilesByName → (before after locations spec : List ℕ) → ℕ →
     Result Answer Refusal → Type 0
 Blames holds before after locations spec states = do
   network ← Gives (BytesOf holds locations Locations) ReadsNetwork
-  pairs ← GivesPairs network (BytesOf holds before Before) (BytesOf holds after After)
-  written ← Gives (BytesOf holds spec Spec) ReadsWritten
-  specified ← AsksFor network written.file
-  ReportsBlamed states written (record { network = network; pairs = pairs; specified = specified })
+  BlamesOver holds before after spec states network
 
 -- two reports whose rows differ at most where one of them leaves the verdict open
 pub record SameBlamed (x y : Answer) : Type 0 where

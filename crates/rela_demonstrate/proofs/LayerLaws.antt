@@ -1,6 +1,7 @@
 -- What the texts of the layered input are loaded as, and the report on it.
 use Rattle.std.proofs.Common.{◌≡◌, ◌∙◌, ◌≤◌, ℕ, inl, true, List, Result, Ok, Err, refl, sym, ap, subst}
 use Rattle.std.specs.List.{All}
+use Rattle.std.specs.Result.{IsErrAnd}
 use Rattle.std.proofs.lemmas.List.Elements.{All-weaker}
 use Rattle.rela_demo.specs.Flows.{flows_after, flows_before}
 use Rattle.rela_demo.specs.Input.{DoNotDiffer}
@@ -25,8 +26,8 @@ use Rattle.rela_translate.specs.Checked.{Checked as Check}
 use Rattle.rela_words.specs.Words.{default_states}
 use Rattle.rela_inputs.specs.Answer.{Answer}
 use Rattle.rela_change_report.specs.Reports.{Reports, SameReports}
-use Rattle.rela_demonstrate.specs.Demos.{AreLayered, Demos, IsLayered, LoadsLayered}
-use Rattle.rela_inputs.specs.Given.{Agrees, Equals, IsRead}
+use Rattle.rela_demonstrate.specs.Demos.{AreLayered, Demos, IsLayered, LoadsLayered, OrMemory}
+use Rattle.rela_inputs.specs.Given.{Agrees, Equals, IsRead, seen}
 use Rattle.rela_inputs.specs.Inputs.{IsListedAs, ReadsNetwork, load_of}
 use Rattle.rela_inputs.specs.Loaded.{Loaded, SameLoaded}
 use Rattle.rela_inputs.specs.Paired.{ArePaired, IsPairedAs}
@@ -45,6 +46,11 @@ pub only_memory : {A : Type 0} (Same : A → A → Type 0) (Steps : Result A Ref
 only_memory Same Steps (Refused refusal) a read has = absurd (read.given.alone refl (Ok a) has)
 only_memory Same Steps ReadFault a read has = absurd read.halts
 only_memory Same Steps Memory a read has = refl
+
+-- a halt that is passed on is want of memory where it was
+pub memory_passed : {A : Type 0} (P : A → Type 0) (r : Result A Halt) (halt : Halt) → IsErrAnd r (λ e. e ≡ halt) → halt ≡ Memory → OrMemory P r
+memory_passed P (Ok a) halt passed memory = absurd passed
+memory_passed P (Err e) halt passed memory = passed ∙ memory
 
 -- what is loaded of the same entries and of the same tree is the same
 pub record LoadsTheSame : Type 0 where
@@ -90,7 +96,7 @@ module _ (n : ℕ) where
     paired_ok pairs (Err (pair.FlowDiffers row first second)) pairing is = absurd (cc)
     paired_ok pairs (Err pair.Memory) pairing is = absurd is
 
-    pub pairs_layered : (pairs : List FlowPair) → IsRead Equals (ArePaired before after) (Ok pairs) → AreLayered n pairs
+    pairs_layered : (pairs : List FlowPair) → IsRead Equals (ArePaired before after) (Ok pairs) → AreLayered n pairs
     unfolding ArePaired
     pairs_layered pairs read = (let told = read.given.told_by in record {
       before = before;
@@ -106,11 +112,15 @@ module _ (n : ℕ) where
     no_pairs none refusal (Err (pair.FlowDiffers row first second)) pairing is = none before after are_before are_after row first second pairing
     no_pairs none refusal (Err pair.Memory) pairing is = is
 
-    pub pairs_memory : DoNotDiffer n → (halt : Halt) → IsRead {A = List FlowPair} Equals (ArePaired before after) (Err halt) → halt ≡ Memory
+    pairs_memory : DoNotDiffer n → (halt : Halt) → IsRead {A = List FlowPair} Equals (ArePaired before after) (Err halt) → halt ≡ Memory
     unfolding ArePaired
     pairs_memory none (Refused refusal) read = (let told = read.given.told_by in absurd (no_pairs none refusal told.0 told.1 told.2))
     pairs_memory none ReadFault read = absurd read.halts
     pairs_memory none Memory read = refl
+
+    pub pairs_read : {A : Type 0} (view : A → List FlowPair) (r : Result A Halt) → DoNotDiffer n → IsRead Equals (ArePaired before after) (seen view r) → OrMemory (λ a. AreLayered n (view a)) r
+    pairs_read view (Ok a) none read = pairs_layered (view a) read
+    pairs_read view (Err halt) none read = pairs_memory none halt read
 
   -- ---- the checks
 
@@ -164,11 +174,15 @@ module _ (n : ℕ) where
   asked_memory some few ReadFault read = absurd read.halts
   asked_memory some few Memory read = refl
 
-  pub layered_refused : 1 ≤ n → n ≤ 200 → (halt : Halt) → IsRead SameSpecified Asks (Err halt) → IsRead SameLoaded (LoadsLayered n) (Err halt)
-  layered_refused some few halt read = memory_read SameLoaded (LoadsLayered n) halt (asked_memory some few halt read)
+  pub asked_read : {A : Type 0} (view : A → Specified) (r : Result A Halt) → 1 ≤ n → n ≤ 200 → IsRead SameSpecified Asks (seen view r)
+      → OrMemory (λ a. IsSpecified (layers.network n) (specification n) (view a)) r
+  asked_read view (Ok a) some few read = read.given.told_by
+  asked_read view (Err halt) some few read = asked_memory some few halt read
 
-  pub layered_memory : (halt : Halt) → halt ≡ Memory → IsRead SameLoaded (LoadsLayered n) (Err halt)
-  layered_memory halt is = memory_read SameLoaded (LoadsLayered n) halt is
+  -- want of memory, passed on, settles nothing
+  pub layered_passed : {A : Type 0} (view : A → Loaded) (r : Result A Halt) (halt : Halt) → IsErrAnd r (λ e. e ≡ halt) → halt ≡ Memory → IsRead SameLoaded (LoadsLayered n) (seen view r)
+  layered_passed view (Ok a) halt passed memory = absurd passed
+  layered_passed view (Err e) halt passed memory = memory_read SameLoaded (LoadsLayered n) e (passed ∙ memory)
 
   -- ---- the report
 

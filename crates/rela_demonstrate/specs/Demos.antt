@@ -1,6 +1,7 @@
 -- What the layered input gives: the report on its change.
-use Rattle.std.specs.Prelude.{◌≡◌, ℕ, List, Result, Ok, Err}
+use Rattle.std.specs.Prelude.{◌≡◌, ℕ, ◌≤◌, List, Result, Ok, Err}
 use Rattle.rela_demo.specs.Flows.{flows_after, flows_before}
+use Rattle.rela_demo.specs.Input.{HasSpecification, LoadsAfter, LoadsBefore, LoadsNetwork, Texts}
 use Rattle.rela_demo.specs.Locations as layers
 use Rattle.rela_demo.specs.Specification.{specification}
 use Rattle.rela_snapshot.specs.Flows.{AreFlowsOf}
@@ -13,7 +14,23 @@ use Rattle.rela_inputs.specs.Answer.{Answer}
 use Rattle.rela_change_report.specs.Reports.{Reports}
 use Rattle.rela_inputs.specs.Loaded.{Loaded}
 use Rattle.rela_inputs.specs.Specified.{IsSpecified}
+use Rattle.rela_inputs.specs.declared.reading.Halt.{Halt}
+use Rattle.rela_inputs.specs.declared.reading.Halt.TheVariants.{Memory}
 use Rattle.rela_inputs.specs.declared.refusal.Refusal.{Refusal}
+
+-- the texts of the input of n layers
+pub record IsInput (n : ℕ) (texts : Texts) : Type 0 where
+  pub from_one : 1 ≤ n
+  pub at_most : n ≤ 200
+  pub locations : LoadsNetwork n texts
+  pub before : LoadsBefore n texts
+  pub after : LoadsAfter n texts
+  pub spec : HasSpecification n texts
+
+-- what holds of the value, unless memory ran out
+abbrev pub OrMemory : {A : Type 0} → (A → Type 0) → Result A Halt → Type 0
+OrMemory P (Ok a) = P a
+OrMemory P (Err halt) = halt ≡ Memory
 
 -- the flows of the input of n layers before and after its change, side by side
 pub record AreLayered (n : ℕ) (pairs : List FlowPair) : Type 0 where

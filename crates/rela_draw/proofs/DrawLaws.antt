@@ -9,7 +9,7 @@ use Rattle.rela_locations.specs.Network.{Network}
 use Rattle.rela_snapshot.specs.Steps.{◌>>=◌}
 use Rattle.rela_tables.specs.Forwarding.{Forwarding}
 use Rattle.rela_inputs.specs.Answer.{Answer}
-use Rattle.rela_draw.specs.Draws.{IsDrawnAs, drawing_of, IsDrawing, Draws, SameDrawings}
+use Rattle.rela_draw.specs.Draws.{IsDrawnAs, drawing_of, IsDrawing, Draws, DrawsOver, SameDrawings}
 use Rattle.rela_inputs.specs.Given.{Equals, Agrees, IsGiven, IsRead}
 use Rattle.rela_inputs.specs.Halts.{fib_halt}
 use Rattle.rela_inputs.specs.Inputs.{BytesOf, Gives, ReadsNetwork, ReadsTables}
@@ -72,17 +72,8 @@ module _ (told steady : Bool) (holds : Option FilesByName) (tables other locatio
   abbrev Places : Result Network Refusal → Type 0
   Places = Gives (BytesOf holds locations Locations) ReadsNetwork
 
-  abbrev First : Network → Result Forwarding Refusal → Type 0
-  First network = Gives (BytesOf holds tables Tables) (ReadsTables Tables network)
-
-  abbrev Second : Network → Result Forwarding Refusal → Type 0
-  Second network = Gives (BytesOf holds other Other) (ReadsTables Other network)
-
-  abbrev Then : Network → Forwarding → Result Answer Refusal → Type 0
-  Then network first = Second network >>= IsDrawing network first
-
   abbrev Next : Network → Result Answer Refusal → Type 0
-  Next network = First network >>= Then network
+  Next network = DrawsOver holds tables other network
 
   abbrev Drawn : Result Answer Refusal → Type 0
   Drawn = Draws holds tables other locations
@@ -91,24 +82,35 @@ module _ (told steady : Bool) (holds : Option FilesByName) (tables other locatio
   unfolding Draws
   locations_stopped halt given = stopped told steady Equals SameDrawings Places Next halt given
 
-  over : (network : Network) (r : Result Answer Halt) → IsGiven told steady Equals Places (Ok network) → IsGiven told steady SameDrawings (Next network) r → IsGiven told steady SameDrawings Drawn r
+  pub over : (network : Network) (r : Result Answer Halt) → IsGiven told steady Equals Places (Ok network) → IsGiven told steady SameDrawings (Next network) r → IsGiven told steady SameDrawings Drawn r
   unfolding Draws
   over network r given next = continued_equal told steady SameDrawings Places Next network r given next
 
-  pub tables_stopped : (network : Network) (halt : Halt) → IsGiven told steady Equals Places (Ok network) → IsGiven told steady Equals (First network) (Err halt) → IsGiven told steady SameDrawings Drawn (Err halt)
-  tables_stopped network halt given first = over network (Err halt) given (stopped told steady Equals SameDrawings (First network) (Then network) halt first)
+module _ (told steady : Bool) (holds : Option FilesByName) (tables other : List ℕ) (network : Network) where
+  abbrev First : Result Forwarding Refusal → Type 0
+  First = Gives (BytesOf holds tables Tables) (ReadsTables Tables network)
 
-  after_first : (network : Network) (first : Forwarding) (r : Result Answer Halt) → IsGiven told steady Equals Places (Ok network) → IsGiven told steady Equals (First network) (Ok first)
-      → IsGiven told steady SameDrawings (Then network first) r → IsGiven told steady SameDrawings Drawn r
-  after_first network first r given one next = over network r given (continued_equal told steady SameDrawings (First network) (Then network) first r one next)
+  abbrev Second : Result Forwarding Refusal → Type 0
+  Second = Gives (BytesOf holds other Other) (ReadsTables Other network)
 
-  pub other_stopped : (network : Network) (first : Forwarding) (halt : Halt) → IsGiven told steady Equals Places (Ok network) → IsGiven told steady Equals (First network) (Ok first)
-      → IsGiven told steady Equals (Second network) (Err halt) → IsGiven told steady SameDrawings Drawn (Err halt)
-  other_stopped network first halt given one two =
-      after_first network first (Err halt) given one (stopped told steady Equals SameDrawings (Second network) (IsDrawing network first) halt two)
+  abbrev Then : Forwarding → Result Answer Refusal → Type 0
+  Then first = Second >>= IsDrawing network first
 
-  pub draws : (network : Network) (first second : Forwarding) (r : Result Answer Halt) → IsGiven told steady Equals Places (Ok network) → IsGiven told steady Equals (First network) (Ok first)
-      → IsGiven told steady Equals (Second network) (Ok second) → IsRead SameDrawings (IsDrawing network first second) r → IsGiven told steady SameDrawings Drawn r
-  draws network first second r given one two reads =
-      after_first network first r given one
-      (continued_equal told steady SameDrawings (Second network) (IsDrawing network first) second r two (read_given told steady SameDrawings (IsDrawing network first second) r reads))
+  abbrev Over : Result Answer Refusal → Type 0
+  Over = DrawsOver holds tables other network
+
+  pub tables_stopped : (halt : Halt) → IsGiven told steady Equals First (Err halt) → IsGiven told steady SameDrawings Over (Err halt)
+  tables_stopped halt first = stopped told steady Equals SameDrawings First Then halt first
+
+  after_first : (first : Forwarding) (r : Result Answer Halt) → IsGiven told steady Equals First (Ok first) → IsGiven told steady SameDrawings (Then first) r
+      → IsGiven told steady SameDrawings Over r
+  after_first first r one next = continued_equal told steady SameDrawings First Then first r one next
+
+  pub other_stopped : (first : Forwarding) (halt : Halt) → IsGiven told steady Equals First (Ok first) → IsGiven told steady Equals Second (Err halt) → IsGiven told steady SameDrawings Over (Err halt)
+  other_stopped first halt one two = after_first first (Err halt) one (stopped told steady Equals SameDrawings Second (IsDrawing network first) halt two)
+
+  pub draws : (first second : Forwarding) (r : Result Answer Halt) → IsGiven told steady Equals First (Ok first) → IsGiven told steady Equals Second (Ok second)
+      → IsRead SameDrawings (IsDrawing network first second) r → IsGiven told steady SameDrawings Over r
+  draws first second r one two reads =
+      after_first first r one
+      (continued_equal told steady SameDrawings Second (IsDrawing network first) second r two (read_given told steady SameDrawings (IsDrawing network first second) r reads))

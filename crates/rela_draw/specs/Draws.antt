@@ -33,13 +33,19 @@ unfoldable pub IsDrawing : Network → Forwarding → Forwarding → Result Answ
 IsDrawing network tables other r = (x : Result (List ℕ) FibError) × IsDrawnAs network tables other x
     × (r ≡ drawing_of x)
 
+-- over a network that is loaded already
+abbrev pub DrawsOver : Option FilesByName → (tables other : List ℕ) → Network →
+    Result Answer Refusal → Type 0
+DrawsOver holds tables other network = do
+  first ← Gives (BytesOf holds tables Tables) (ReadsTables Tables network)
+  second ← Gives (BytesOf holds other Other) (ReadsTables Other network)
+  IsDrawing network first second
+
 unfoldable pub Draws : Option FilesByName → (tables other locations : List ℕ) →
     Result Answer Refusal → Type 0
 Draws holds tables other locations = do
   network ← Gives (BytesOf holds locations Locations) ReadsNetwork
-  first ← Gives (BytesOf holds tables Tables) (ReadsTables Tables network)
-  second ← Gives (BytesOf holds other Other) (ReadsTables Other network)
-  IsDrawing network first second
+  DrawsOver holds tables other network
 
 -- two snapshots of the same tables
 abbrev pub SameDrawings : Answer → Answer → Type 0

@@ -11,7 +11,9 @@ use Rattle.rela_expand.specs.Places.{Place}
 use Rattle.rela_expand.specs.Measures.{weight_of, weight_of_modifier}
 use Rattle.rela_expand.specs.Shapes.{Shape, Empty, Class, Seq, Alt, Meet, Not, Star, BodyShape, Unit as Unit', Then, Else, nodes_of_shape}
 use Rattle.rela_expand.specs.Tables.{entry_of, numbering_of}
+use Rattle.rela_translate.specs.declared.body.Change.{Change}
 use Rattle.rela_translate.specs.declared.body.Core.{Core}
+use Rattle.rela_translate.specs.declared.body.Core.TheVariants as core
 use Rattle.rela_translate.specs.declared.body.Expr.{Expr}
 use Rattle.rela_expand.specs.declared.bodies.BodyJoint.{BodyJoint}
 use Rattle.rela_expand.specs.declared.bodies.BodyJoint.TheVariants as body_joint
@@ -123,5 +125,43 @@ pub body_join_large : (place : Place) (by : BodyJoint) (whole a b : BodyShape) (
 body_join_large place by whole a b n is large =
     let more = symbols_grow (numbered_body place a n).after (numbered_body place b (numbered_body place a n).after).after (body_grows place b (numbered_body place a n).after) in
     subst (λ (step : Step Core). 4000000 < symbols_in step.after.classes) (sym (ap (λ (s : BodyShape). numbered_body place s n) is ∙ body_numbered_joined place by a b n)) (omega arith)
+
+pub same_change_large : (place : Place) (c d : Modifier Shape) (n : Numbering) → c ≡ d → 4000000 < symbols_in (numbered_change place d n).after.classes
+    → 4000000 < symbols_in (numbered_change place c n).after.classes
+same_change_large place c d n is large = subst (λ (x : Modifier Shape). 4000000 < symbols_in (numbered_change place x n).after.classes) (sym is) large
+
+pub replace_behind_large : (place : Place) (p q : Shape) (n mid : Numbering) (v : Expr) → numbered place p n ≡ record { value = v; after = mid }
+    → 4000000 < symbols_in (numbered place q mid).after.classes → 4000000 < symbols_in (numbered_change place (m.Replace p q) n).after.classes
+replace_behind_large place p q n mid v first large = subst (λ (step : Step Expr). 4000000 < symbols_in (numbered place q step.after).after.classes) (sym first) large
+
+pub unit_behind_large : (place : Place) (whole : BodyShape) (z : Shape) (c : Modifier Shape) (n mid : Numbering) (v : Expr) → whole ≡ Unit' z c
+    → numbered place z n ≡ record { value = v; after = mid } → 4000000 < symbols_in (numbered_change place c mid).after.classes
+    → 4000000 < symbols_in (numbered_body place whole n).after.classes
+unit_behind_large place whole z c n mid v is first large =
+    subst (λ (s : BodyShape). 4000000 < symbols_in (numbered_body place s n).after.classes) (sym is)
+    (subst (λ (step : Step Expr). 4000000 < symbols_in (numbered_change place c step.after).after.classes) (sym first) large)
+
+pub body_behind_large : (place : Place) (by : BodyJoint) (whole a b : BodyShape) (n mid : Numbering) (v : Core) → whole ≡ body_joined by a b
+    → numbered_body place a n ≡ record { value = v; after = mid } → 4000000 < symbols_in (numbered_body place b mid).after.classes
+    → 4000000 < symbols_in (numbered_body place whole n).after.classes
+body_behind_large place by whole a b n mid v is first large =
+    subst (λ (step : Step Core). 4000000 < symbols_in step.after.classes) (sym (ap (λ (s : BodyShape). numbered_body place s n) is ∙ body_numbered_joined place by a b n))
+    (subst (λ (step : Step Core). 4000000 < symbols_in (numbered_body place b step.after).after.classes) (sym first) large)
+
+pub unit_numbered : (place : Place) (whole : BodyShape) (z : Shape) (c : Modifier Shape) (n mid end : Numbering) (v : Expr) (w : Change) → whole ≡ Unit' z c
+    → numbered place z n ≡ record { value = v; after = mid } → numbered_change place c mid ≡ record { value = w; after = end }
+    → numbered_body place whole n ≡ record { value = core.Unit v w; after = end }
+unit_numbered place whole z c n mid end v w is first second =
+    ap (λ (s : BodyShape). numbered_body place s n) is ∙ ap (λ (step : Step Expr). two_parts core.Unit step (numbered_change place c)) first
+    ∙ ap (λ (step : Step Change). record { value = core.Unit v step.value; after = step.after }) second
+
+pub body_join_numbered : (place : Place) (by : BodyJoint) (whole a b : BodyShape) (n mid end : Numbering) (v w v′ w′ e : Core) → whole ≡ body_joined by a b
+    → numbered_body place a n ≡ record { value = v; after = mid } → numbered_body place b mid ≡ record { value = w; after = end }
+    → v′ ≡ v → w′ ≡ w → e ≡ core_joined by v′ w′ → numbered_body place whole n ≡ record { value = e; after = end }
+body_join_numbered place by whole a b n mid end v w v′ w′ e is first second one two joined =
+    ap (λ (s : BodyShape). numbered_body place s n) is ∙ body_numbered_joined place by a b n
+    ∙ ap (λ (step : Step Core). two_parts (core_joined by) step (numbered_body place b)) first
+    ∙ ap (λ (step : Step Core). record { value = core_joined by v step.value; after = step.after }) second
+    ∙ ap (λ (u : Core). record { value = u; after = end }) (sym (joined ∙ ap (λ (u : Core). core_joined by u w′) one ∙ ap (core_joined by v) two))
 
 pub ruleset body_steps = (body_numbered_joined, weight_joined, some_nodes)

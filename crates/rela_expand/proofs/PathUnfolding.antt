@@ -62,6 +62,43 @@ join_large place by shape a b n is large =
     let more = symbols_grow (numbered place a n).after (numbered place b (numbered place a n).after).after (numbered_grows place b (numbered place a n).after) in
     subst (λ (step : Step Expr). 4000000 < symbols_in step.after.classes) (sym (ap (λ (s : Shape). numbered place s n) is ∙ numbered_joined place by a b n)) (omega arith)
 
+pub class_large : (place : Place) (shape : Shape) (negated : Bool) (members : List Member) (n : Numbering) → shape ≡ Class negated members
+    → 4000000 < symbols_in (placed (listing place negated members) n).after.classes → 4000000 < symbols_in (numbered place shape n).after.classes
+class_large place shape negated members n is large = subst (λ (s : Shape). 4000000 < symbols_in (numbered place s n).after.classes) (sym is) large
+
+pub not_large : (place : Place) (shape a : Shape) (n : Numbering) → shape ≡ Not a
+    → 4000000 < symbols_in (numbered place a n).after.classes → 4000000 < symbols_in (numbered place shape n).after.classes
+not_large place shape a n is large = subst (λ (s : Shape). 4000000 < symbols_in (numbered place s n).after.classes) (sym is) large
+
+pub star_large : (place : Place) (shape a : Shape) (n : Numbering) → shape ≡ Star a
+    → 4000000 < symbols_in (numbered place a n).after.classes → 4000000 < symbols_in (numbered place shape n).after.classes
+star_large place shape a n is large = subst (λ (s : Shape). 4000000 < symbols_in (numbered place s n).after.classes) (sym is) large
+
+pub behind_large : (place : Place) (by : Joint) (shape a b : Shape) (n m : Numbering) (v : Expr) → shape ≡ joined by a b
+    → numbered place a n ≡ record { value = v; after = m } → 4000000 < symbols_in (numbered place b m).after.classes
+    → 4000000 < symbols_in (numbered place shape n).after.classes
+behind_large place by shape a b n m v is first large =
+    subst (λ (step : Step Expr). 4000000 < symbols_in step.after.classes) (sym (ap (λ (s : Shape). numbered place s n) is ∙ numbered_joined place by a b n))
+    (subst (λ (step : Step Expr). 4000000 < symbols_in (numbered place b step.after).after.classes) (sym first) large)
+
+pub not_numbered : (place : Place) (shape a : Shape) (n m : Numbering) (v w : Expr) → shape ≡ Not a → w ≡ v
+    → numbered place a n ≡ record { value = v; after = m } → numbered place shape n ≡ record { value = x.Not w; after = m }
+not_numbered place shape a n m v w is same step =
+    ap (λ (s : Shape). numbered place s n) is ∙ ap (one_part x.Not) step ∙ ap (λ (e : Expr). record { value = x.Not e; after = m }) (sym same)
+
+pub star_numbered : (place : Place) (shape a : Shape) (n m : Numbering) (v w : Expr) → shape ≡ Star a → w ≡ v
+    → numbered place a n ≡ record { value = v; after = m } → numbered place shape n ≡ record { value = x.Star w; after = m }
+star_numbered place shape a n m v w is same step =
+    ap (λ (s : Shape). numbered place s n) is ∙ ap (one_part x.Star) step ∙ ap (λ (e : Expr). record { value = x.Star e; after = m }) (sym same)
+
+pub join_numbered : (place : Place) (by : Joint) (shape a b : Shape) (n m k : Numbering) (v w v′ w′ e : Expr) → shape ≡ joined by a b
+    → numbered place a n ≡ record { value = v; after = m } → numbered place b m ≡ record { value = w; after = k }
+    → v′ ≡ v → w′ ≡ w → e ≡ expr_joined by v′ w′ → numbered place shape n ≡ record { value = e; after = k }
+join_numbered place by shape a b n m k v w v′ w′ e is first second one two whole =
+    ap (λ (s : Shape). numbered place s n) is ∙ numbered_joined place by a b n ∙ ap (λ (step : Step Expr). two_parts (expr_joined by) step (numbered place b)) first
+    ∙ ap (λ (step : Step Expr). record { value = expr_joined by v step.value; after = step.after }) second
+    ∙ ap (λ (u : Expr). record { value = u; after = k }) (sym (whole ∙ ap (λ (u : Expr). expr_joined by u w′) one ∙ ap (expr_joined by v) two))
+
 table_adds : (cs : List Listing) (c : Listing) → length (with_class cs c) ≤ length cs + 1
 table_adds cs c = by_test (list_any (same_listing c) cs)
   where

@@ -1,7 +1,7 @@
 -- A loop that numbers keys in the order in which they first come, step by step.
 use Rattle.std.proofs.Common.{◌≡◌, ◌≢◌, ℕ, ◌+◌, ◌^◌, ◌<◌, ◌≤◌, ◌↔◌, List, [], ◌∷◌, ◌++◌, length, get_or, set, take, Option, None, Some, inl, inr, arith, refl, sym, ap, subst, ◌∙◌}
 use Rattle.std.proofs.lemmas.Bool.{cases_lt, cases_eq}
-use Rattle.std.proofs.lemmas.List.{get_or_append_left, get_or_push, length_push, get_or_default, get_or-set_other, get_or-set_same, take_all}
+use Rattle.std.proofs.lemmas.List.{get_or_append_left, get_or_push, length_push, take_more, get_or_default, get_or-set_other, get_or-set_same, take_all}
 use Rattle.std.proofs.lemmas.Option.{same_Some}
 use Rattle.rela_labels.specs.Numbering.{IsNumbering}
 use Rattle.rela_labels.specs.Partition.{IsLeastOf, IsNumbered, Together}
@@ -207,3 +207,19 @@ read_of numbers key read value below at e = get_or_default numbers key None read
 pub every_key : (keys : List ℕ) (i : ℕ) (numbers : List (Option ℕ)) (blocks firsts : List ℕ) → length keys ≤ i
     → IsNumbering (take i keys) numbers blocks firsts → IsNumbering keys numbers blocks firsts
 every_key keys i numbers blocks firsts all is = subst (λ ks. IsNumbering ks numbers blocks firsts) (take_all i keys all) is
+
+-- what holds of the elements of a list and of the one that is pushed holds of all
+pub each_pushed : (P : ℕ → ℕ → Type 0) (xs ys : List ℕ) (x n : ℕ) → length xs ≡ n → ((k : ℕ) → k < n → P k (get_or xs k 0)) → P n x
+    → ys ≡ xs ++ x ∷ [] → (k : ℕ) → k < n + 1 → P k (get_or ys k 0)
+each_pushed P xs ys x n len before last is k within =
+    subst (λ (zs : List ℕ). P k (get_or zs k 0)) (sym is)
+    (elim (cases_lt k n) [
+      | inl below ↦ subst (P k) (sym (get_or_append_left xs (x ∷ []) 0 k (omega arith))) (before k below)
+      | inr above ↦
+          let here : k ≡ n = omega arith in
+          subst (P k) (sym (get_or_push xs x 0 k (len ∙ sym here))) (subst (λ (j : ℕ). P j x) (sym here) last)
+    ])
+
+pub keys_pushed : (keys : List ℕ) (i : ℕ) (numbers : List (Option ℕ)) (blocks firsts : List ℕ) → i < length keys
+    → IsNumbering (take i keys ++ get_or keys i 0 ∷ []) numbers blocks firsts → IsNumbering (take (i + 1) keys) numbers blocks firsts
+keys_pushed keys i numbers blocks firsts within is = subst (λ (ks : List ℕ). IsNumbering ks numbers blocks firsts) (sym (take_more keys i 0 within)) is

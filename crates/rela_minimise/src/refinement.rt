@@ -31,9 +31,9 @@ pub(crate) struct Refinement {
 /// The classes that a refinement ends with.
 #[derive(Drop)]
 pub(crate) struct Classes {
-    // the number of each state's class
+    /// The number of each state's class.
     pub(crate) numbers: Vec<usize>,
-    // how many classes there are
+    /// How many classes there are.
     pub(crate) count: usize,
 }
 

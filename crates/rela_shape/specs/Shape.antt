@@ -9,7 +9,7 @@ use Rattle.rela_snapshot.specs.declared.pairing.FlowPair.{FlowPair}
 use Rattle.rela_shape.specs.declared.shape.Shape.{Shape}
 use Rattle.rela_shape.specs.Wiring.{wiring_of}
 
--- the locations of the nodes of both graphs at the level, those of the graph before the change first
+-- the locations of the nodes of both graphs at the level, the graph before the change first
 abbrev pub places_of : Level → FlowPair → List ℕ
 places_of level pair = locations pair.before level ++ locations pair.after level
 
