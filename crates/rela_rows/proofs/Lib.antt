@@ -6,3 +6,4 @@ pub mod Shown
 pub mod VerdictLaws
 pub mod AgreeLaws
 pub mod OneShape
+pub mod SameAsked

@@ -1,7 +1,7 @@
 -- A loop that has a result for each element.
-use Rattle.std.proofs.Common.{◌≡◌, ℕ, suc, ◌+◌, ◌<◌, List, [], ◌∷◌, ◌++◌, length, map, take, get_or, Result, Ok, Err, IfOk, ap, sym, ◌∙◌, arith}
+use Rattle.std.proofs.Common.{◌≡◌, ℕ, zero, suc, ◌+◌, ◌<◌, List, [], ◌∷◌, ◌++◌, length, map, take, get_or, Result, Ok, Err, IfOk, ap, subst, sym, ◌∙◌, arith}
 use Rattle.std.specs.List.{All, AllZip}
-use Rattle.std.proofs.lemmas.List.{take_more, map_push}
+use Rattle.std.proofs.lemmas.List.{length-map, take_more, map_push}
 use Rattle.std.proofs.lemmas.List.Elements.{All-cons, All-nil, All-push}
 
 -- one more of each
@@ -34,6 +34,21 @@ map_taken f xs more x ys i d within same e is =
 pub All-unmap : {X Y : Type 0} (P : Y → Type 0) (f : X → Y) (xs : List X) → All P (map f xs) → All (λ x. P (f x)) xs
 All-unmap P f [] each = All-nil (λ x. P (f x))
 All-unmap P f (x ∷ xs) each = All-cons (λ x. P (f x)) x xs (each 0 (f x) (omega arith)) (All-unmap P f xs (λ i d inside. each (suc i) d (omega (arith, inside))))
+
+-- what each element of a mapped list has, one of them has by way of what it is mapped to
+pub All-mapped_at : {X Y : Type 0} (P : Y → Type 0) (f : X → Y) (xs : List X) (i : ℕ) (x : X) → All P (map f xs) → i < length xs → x ≡ get_or xs i x → P (f x)
+All-mapped_at P f xs i x each within is = subst (λ z. P (f z)) (sym is) (All-unmap P f xs each i x within)
+
+map_read : {X Y : Type 0} (f : X → Y) (xs : List X) (i : ℕ) (x : X) → i < length xs → x ≡ get_or xs i x → f x ≡ get_or (map f xs) i (f x)
+map_read f [] i x within is = absurd (omega (arith, within))
+map_read f (y ∷ xs) zero x within is = ap f is
+map_read f (y ∷ xs) (suc i) x within is = map_read f xs i x (omega (arith, within)) is
+
+-- what each of a list is made of, one more, where that is of another list
+pub map_taken_from : {X Y Z : Type 0} (f : X → Y) (g : Z → Y) (xs more : List X) (x : X) (zs : List Z) (i : ℕ) (z : Z)
+    → i < length zs → z ≡ get_or zs i z → map f xs ≡ take i (map g zs) → more ≡ xs ++ x ∷ [] → f x ≡ g z → map f more ≡ take (i + 1) (map g zs)
+map_taken_from f g xs more x zs i z within is same e made =
+    map_taken f xs more x (map g zs) i (g z) (omega (arith, within, length-map zs g)) same e (made ∙ map_read g zs i z within is)
 
 -- what holds of a value holds of what follows from it
 pub if_ok : {A E : Type 0} (P Q : A → Type 0) (r : Result A E) → ((a : A) → P a → Q a) → IfOk r P → IfOk r Q

@@ -1,5 +1,5 @@
 -- Flows by how they look, and the verdicts that they share.
-use Rattle.std.proofs.Common.{◌≡◌, ℕ, ◌<◌, ◌↔◌, cond, Bool, true, List, [], ◌∷◌, length, get_or, Some, Result, Ok, Err, IfOk, inl, inr, refl, sym, ap, subst, ◌∙◌, arith}
+use Rattle.std.proofs.Common.{◌≡◌, ℕ, ◌<◌, ◌↔◌, cond, Bool, true, List, [], ◌∷◌, length, map, get_or, Some, Result, Ok, Err, IfOk, inl, inr, refl, sym, ap, subst, ◌∙◌, arith}
 use Rattle.std.specs.Prelude.{slice_get, IsSomeAnd, nat_eq}
 use Rattle.std.specs.HashMap.{HashMap, get}
 use Rattle.std.specs.List.{All}
@@ -20,6 +20,8 @@ use Rattle.rela_report.specs.declared.rows.ReportRow.TheVariants.{Checked}
 use Rattle.rela_report.specs.declared.rows.Row.{Row}
 use Rattle.rela_snapshot.specs.declared.pairing.FlowPair.{FlowPair}
 use Rattle.rela_rows.proofs.RowLaws.{under_row}
+use Rattle.rela_rows.proofs.SameAsked.{asks_there, check_of, row_of_same}
+use Rattle.rela_same_checks.specs.SameChecks.{AreAskedAt, AskTheSame}
 use Rattle.rela_translate.specs.Checked.{Checked as Check}
 use Rattle.rela_plan.specs.Alike.{look_of, LooksAs, AreAlike}
 use Rattle.rela_rows.specs.Sharing.{IsVerdict, IsVerdictOf, IsRowBy, same_numbers, AreVerdicts}
@@ -96,13 +98,18 @@ module _ (names : List (List ℕ)) (pairs : List FlowPair) (compiled : List Comp
       (subst (λ o. IsSomeAnd o (λ (p : FlowPair). IsSomeAnd (slice_get compiled k) (λ (c : Compiled). IsVerdict names c p row)))
       (slice_get_read pairs (length pairs) flow pair refl flow_inside pair_is) verdict)
 
-  -- the row of a flow, from its verdict
-  pub shown_row : (flow k : ℕ) (pair : FlowPair) (by : Compiled) (planned_row : PlannedRow) (row : Row) → flow < length pairs → k < length compiled
-      → pair ≡ get_or pairs flow pair → by ≡ get_or compiled k by → planned_row ≡ planned.Checked flow k → IsVerdict names by pair row
-      → IsRowBy names compiled pairs planned_row (Checked pair.class.name by.check.name row)
-  shown_row flow k pair by planned_row row flow_inside check_inside pair_is by_is is verdict =
-      under_row names pairs compiled flow k pair by planned_row (Checked pair.class.name by.check.name row) is flow_inside check_inside pair_is by_is
-      (record { flow_name = refl; check_name = refl; verdict = verdict.right })
+-- the row of a flow under a check, from its verdict by a compiled check that asks for the same
+pub shown_row : (names : List (List ℕ)) (pairs : List FlowPair) (checks : List Check) (compiled : List Compiled) (places : List ℕ) (flow k : ℕ) (pair : FlowPair) (check : Check)
+    (by : Compiled) (planned_row : PlannedRow) (row : Row) → flow < length pairs → k < length checks → AreAskedAt (map check_of compiled) checks places
+    → pair ≡ get_or pairs flow pair → check ≡ get_or checks k check → by ≡ get_or compiled (get_or places k 0) by → planned_row ≡ planned.Checked flow k → IsVerdict names by pair row
+    → IsRowBy names checks compiled pairs planned_row (Checked pair.class.name check.name row)
+shown_row names pairs checks compiled places flow k pair check by planned_row row flow_inside check_inside asked pair_is check_is by_is is verdict = λ states limits.
+    let there = asks_there compiled checks places k check asked check_inside in
+    let same : AskTheSame check by.check =
+    subst (λ (c : Check). AskTheSame c by.check) (sym check_is) (subst (λ (b : Compiled). AskTheSame (get_or checks k check) b.check) (sym by_is) (there.1 by)) in
+    let limit : by.states ≡ states = ap (λ (b : Compiled). b.states) by_is ∙ limits (get_or places k 0) by there.0 in
+    under_row names states pairs checks flow k pair check planned_row (Checked pair.class.name check.name row) is flow_inside check_inside pair_is check_is
+    (record { flow_name = refl; check_name = refl; verdict = row_of_same check by.check (length names) by.states states names pair row same limit verdict.right })
 
 -- two flows that look the same, by their numbers
 pub same_looks : (level : Level) (pairs : List FlowPair) (flow other : ℕ) (pair another : FlowPair) → pair ≡ get_or pairs flow pair

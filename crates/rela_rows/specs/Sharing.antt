@@ -1,16 +1,16 @@
 -- Verdicts that flows which look the same share.
-use Rattle.std.specs.Prelude.{◌≡◌, ℕ, ◌==◌, ◌&&◌, Bool, List, length, slice_get, IsSomeAnd, Some}
+use Rattle.std.specs.Prelude.{◌≡◌, ℕ, ◌==◌, ◌&&◌, All, Bool, List, length, slice_get, IsSomeAnd, Some}
 use Rattle.std.specs.HashMap.{HashMap, get}
 use Rattle.rela_engine.specs.Compilation.{Compilation}
 use Rattle.rela_engine.specs.RowOf.{RowOf}
 use Rattle.rela_engine.specs.Scenes.{paths_of}
 use Rattle.rela_flows.specs.declared.planning.PlannedRow.{PlannedRow}
-use Rattle.rela_flows.specs.declared.planning.PlannedRow.TheVariants as planned
 use Rattle.rela_report.specs.Text.{VerdictHasTexts}
 use Rattle.rela_report.specs.declared.rows.ReportRow.{ReportRow}
 use Rattle.rela_report.specs.declared.rows.Row.{Row}
 use Rattle.rela_snapshot.specs.declared.pairing.FlowPair.{FlowPair}
-use Rattle.rela_rows.specs.Rows.{IsAlone, IsUnder}
+use Rattle.rela_translate.specs.Checked.{Checked}
+use Rattle.rela_rows.specs.Rows.{IsRowOf}
 
 -- the verdict of a compiled check on a flow, each symbol of which has a text; `names` are the locations of the check's
 -- level
@@ -26,14 +26,12 @@ IsVerdictOf names compiled pairs flow check row =
     IsSomeAnd (slice_get pairs flow) (λ pair. IsSomeAnd (slice_get compiled check) (λ by.
     IsVerdict names by pair row))
 
--- the row of the report that a planned row becomes under the compiled checks
-abbrev pub IsRowBy : List (List ℕ) → List Compilation → List FlowPair → PlannedRow →
-    ReportRow → Type 0
-IsRowBy names compiled pairs (planned.Unselected flow) row =
-    IsSomeAnd (slice_get pairs flow) (λ pair. IsAlone pair row)
-IsRowBy names compiled pairs (planned.Checked flow check) row =
-    IsSomeAnd (slice_get pairs flow) (λ pair. IsSomeAnd (slice_get compiled check) (λ by.
-    IsUnder names by.states pair by.check row))
+-- the row of the report that a planned row becomes, under the state limit that the compiled checks have
+abbrev pub IsRowBy : List (List ℕ) → List Checked → List Compilation → List FlowPair →
+    PlannedRow → ReportRow → Type 0
+IsRowBy names checks compiled pairs planned row =
+    (states : ℕ) → All (λ by. by.states ≡ states) compiled →
+    IsRowOf names states checks pairs planned row
 
 -- whether two pairs of numbers are equal
 abbrev pub same_numbers : ℕ × ℕ → ℕ × ℕ → Bool

@@ -24,7 +24,7 @@ use std::marker::Brand;
 /// What is known of the flows that have been decided.
 #[derive(Drop)]
 pub(crate) struct Kept {
-    /// Their verdicts, by the indexes of the flow and the check.
+    /// Their verdicts, by the indexes of the flow and the compiled check.
     verdicts: HashMap<(usize, usize), Row>,
     /// The shapes of those that are compliant.
     met: MetShapes,
@@ -77,7 +77,8 @@ fn carry_over<P: TwoPathSets, Q: TwoPathSets>(
     rows_carry_over::<P, Q>();
 }
 
-/// The verdict of a check on a flow, by their indexes: a kept one, or else it is decided and kept.
+/// The verdict of a compiled check on a flow, by their indexes: a kept one, or else it is decided and
+/// kept.
 ///
 /// # Errors
 ///

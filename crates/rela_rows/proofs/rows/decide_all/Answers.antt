@@ -10,18 +10,18 @@ use Rattle.rela_rows.proofs.rows.decide_all.Goals as goal
 pub loop-row-init : goal.loop-row-init
 loop-row-init c = record {
   rows =
-      subst (λ (rows : List ReportRow). AllZip (IsRowBy c.args.alphabet.now c.args.compiled.now c.args.pairs.now) [] rows)
+      subst (λ (rows : List ReportRow). AllZip (IsRowBy c.args.alphabet.now c.args.judges.now.checks.now c.args.judges.now.compiled.now c.args.pairs.now) [] rows)
       (sym c.in_ok-rows.ensures.items) tt;
   texts =
       subst (λ (rows : List ReportRow). All (RowHasTexts c.args.alphabet.now) rows) (sym c.in_ok-rows.ensures.items)
       (All-nil (RowHasTexts c.args.alphabet.now));
-  kept = c.new-kept.ensures c.args.alphabet.now c.args.compiled.now c.args.pairs.now;
+  kept = c.new-kept.ensures c.args.alphabet.now c.args.judges.now.compiled.now c.args.pairs.now;
 }
 
 pub loop-row-preserved : goal.loop-row-preserved
 loop-row-preserved c = record {
   rows =
-      zip_more (IsRowBy c.args.alphabet.now c.args.compiled.now c.args.pairs.now) c.args.planned.now
+      zip_more (IsRowBy c.args.alphabet.now c.args.judges.now.checks.now c.args.judges.now.compiled.now c.args.pairs.now) c.args.planned.now
       c.loop-row.rows.items c.push.new.self.items c.loop-row.row-index _ c.in_ok-row_of.field-0 (omega arith)
       c.loop-row.invariant.rows c.in_ok-push.ensures.items c.in_ok-row_of.ensures.row;
   texts =

@@ -8,7 +8,7 @@ use Rattle.rela_rows.proofs.rows.decide_all.Given as goal
 -- the rows so far, each symbol that they show has a text, and what is kept of the flows
 abbrev pub invariant-loop-row : goal.invariant-loop-row
 invariant-loop-row l = record {
-  rows : AllZip (IsRowBy l.alphabet l.compiled l.pairs) (take l.row-index l.planned) l.rows.items;
+  rows : AllZip (IsRowBy l.alphabet l.judges.checks.now l.judges.compiled.now l.pairs) (take l.row-index l.planned) l.rows.items;
   texts : All (RowHasTexts l.alphabet) l.rows.items;
-  kept : AreKept l.alphabet l.compiled l.pairs l.kept;
+  kept : AreKept l.alphabet l.judges.compiled.now l.pairs l.kept;
 }
