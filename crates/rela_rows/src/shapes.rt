@@ -18,14 +18,14 @@ use std::collections::HashSet;
 /// Shapes of compliant flows, each with the index of the compiled check that they meet.
 pub(crate) type MetShapes = HashSet<(usize, Shape)>;
 
-/// How many shapes are kept for a compiled check, on average. Where there are more, hardly two flows have one
-/// shape, and keeping them isn't worth the memory.
+/// How many shapes are kept for a compiled check, on average. Where there are more, hardly two flows
+/// have one shape, and keeping them isn't worth the memory.
 const SHAPES_PER_CHECK: usize = 128;
 
-/// The verdict of a compiled check on a flow, by their indexes. Where a flow of the same shape is known to meet
-/// the check, this one does too; else it is decided, and its shape is kept if it is compliant. No
-/// shape is made where it can't help: under a check that isn't complete, which leaves each flow
-/// open, and where both graphs look the same, which mostly needs no automata.
+/// The verdict of a compiled check on a flow, by their indexes. Where a flow of the same shape is
+/// known to meet the check, this one does too; else it is decided, and its shape is kept if it is
+/// compliant. No shape is made where it can't help: under a check that isn't complete, which leaves
+/// each flow open, and where both graphs look the same, which mostly needs no automata.
 ///
 /// # Errors
 ///
