@@ -8,6 +8,8 @@ mod comparison;
 #[cfg(test)]
 mod far_letters;
 #[cfg(test)]
+mod letter_images;
+#[cfg(test)]
 mod minimal;
 #[cfg(test)]
 mod subsets;

@@ -1,0 +1,18 @@
+use Rattle.std.proofs.Common.{ℕ, ◌↔◌, List, subst}
+use Rattle.std.proofs.lemmas.Option.{same_Some}
+use Rattle.rela_letter_nfa.specs.LetterAutomaton.{LetterAutomaton}
+use Rattle.rela_letter_nfa.specs.Runs.{Accepts as AcceptsLetters}
+use Rattle.rela_nfa.specs.Runs.{Accepts}
+use Rattle.rela_trans.specs.Runs.{Relates}
+use Rattle.rela_letter_image.specs.Coarse.{coarse_of}
+use Rattle.rela_letter_image.proofs.imaging.letter_image.Goals as goal
+
+pub returns-in-Ok : goal.returns-in-Ok
+returns-in-Ok g c =
+    let a = c.args.paths.now in
+    let t = c.args.relation.now in
+    record {
+      language = λ image is.
+          subst (λ (r : LetterAutomaton). (v : List ℕ) → AcceptsLetters r v ↔ ((u : List ℕ) × Accepts a u × Relates (coarse_of t.letters c.args.coarse.now) t u v))
+          (same_Some c.in-Ok.image image is) c.in-Ok.ensures;
+    }

@@ -1,0 +1,5 @@
+pub mod ByLetters
+pub mod Coarse
+pub mod Growth
+pub mod Product
+pub mod Steps

@@ -1,0 +1,150 @@
+//! A product as it grows: pairs of states are found while the edges that lead to them are made.
+ghost use Rattle.std.specs.Prelude.{◌≡◌, ◌<◌, ◌≤◌, ◌^◌, [], ◌∷◌, None, Some, IfOk, OnOk, length, slice_get};
+ghost use Rattle.std.specs.List.{All};
+ghost use Rattle.rela_letter_nfa.specs.LetterAutomaton.{IsLetterAutomaton, from_parts, no_parts, with_edge, with_silent, with_state};
+ghost use Rattle.rela_pairs.specs.Places.{Fits};
+ghost use Rattle.rela_letter_image.specs.Growth.{Grows, IsFoundIn, edge_to, with_parts};
+ghost use Rattle.rela_letter_image.specs.Steps.{step_to};
+
+use crate::counted::CountedBuilder;
+use crate::found::Found;
+use rela_letter_nfa::LetterNfa;
+use rela_pairs::{BuildError, Pair, Shape};
+use std::alloc::{AllocError, Global};
+use std::marker::Model;
+
+/// A product of two machines as it grows. Its states are pairs of theirs, in the order in which
+/// they were found; each is built once it is reached in this order, and what it leads to is found
+/// then. Contracts see the pairs, and the states that were built.
+#[derive(Drop)]
+pub(crate) struct Growing {
+    /// How many states the two machines have.
+    shape: Shape,
+    /// The pairs that were found. The number of a pair is that of its state.
+    found: Found,
+    /// The states that were built.
+    built: CountedBuilder,
+    /// How many states there may be.
+    most: usize,
+}
+
+impl Model for Growing {
+    ghost use Rattle.std.specs.List.{All};
+    ghost use Rattle.rela_pairs.specs.Places.{Fits};
+    ghost use Rattle.rela_letter_image.specs.Growth.{Growth};
+
+    ghost Value = { Growth };
+
+    ghost view = { λ g. record { shape = g.shape; pairs = g.found; parts = g.built } };
+
+    ghost invariant = { λ g. All (Fits g.shape) g.found };
+}
+
+impl Growing {
+    /// No pair and no state, where there may be at most `most` states and as many edges.
+    pub(crate) fn new(alloc: Global, shape: Shape, most: usize) -> Result<Growing, AllocError>
+        ensures shape { IfOk result (λ growing. growing.shape ≡ shape) }
+        ensures pairs { IfOk result (λ growing. growing.pairs ≡ []) }
+        ensures parts { IfOk result (λ growing. growing.parts ≡ no_parts) }
+    {
+        let found = Found::new(alloc)?;
+        let built = CountedBuilder::new(alloc, most)?;
+        Ok(Growing {
+            shape,
+            found,
+            built,
+            most,
+        })
+    }
+
+    /// The pairs that were found, by their numbers.
+    pub(crate) fn pairs(&self) -> &[Pair]
+        ensures pairs { result.now ≡ self.now.pairs }
+        ensures fit { All (Fits self.now.shape) self.now.pairs }
+        ensures few { length self.now.pairs ≤ 2 ^ 31 }
+    {
+        self.found.pairs()
+    }
+
+    /// How many states were built.
+    pub(crate) fn states(&self) -> usize
+        ensures { result ≡ length self.now.parts.finals }
+    {
+        self.built.states()
+    }
+
+    /// The number of the pair, which is found now if it wasn't before.
+    ///
+    /// # Errors
+    ///
+    /// - `Limit` where there would be more states than there may be.
+    /// - `Memory` where there isn't memory for it.
+    pub(crate) fn number(&mut self, pair: Pair) -> Result<u32, BuildError>
+        requires { Fits self.old.shape pair }
+        ensures numbered { IfOk result (λ number. slice_get self.new.pairs number ≡ Some pair) }
+        ensures found { IsFoundIn self.old.pairs self.new.pairs pair }
+        ensures shape { self.new.shape ≡ self.old.shape }
+        ensures parts { self.new.parts ≡ self.old.parts }
+    {
+        self.found.number(pair, self.most)
+    }
+
+    /// The next state has an edge by the letter to the state of this number.
+    ///
+    /// # Errors
+    ///
+    /// - `Limit` where there would be more edges than there may be.
+    /// - `Memory` where there isn't memory for it.
+    pub(crate) fn add_edge_to(&mut self, letter: u32, number: u32) -> Result<(), BuildError>
+        ensures { OnOk result (self.new
+            ≡ with_parts self.old (with_edge self.old.parts (edge_to letter number))) }
+    {
+        self.built.push_edge(letter, number)
+    }
+
+    /// The next state has an edge by the letter to the pair. It fails as
+    /// [`number`](Growing::number) and [`add_edge_to`](Growing::add_edge_to) do.
+    pub(crate) fn add_edge(&mut self, letter: u32, to: Pair) -> Result<(), BuildError>
+        requires { Fits self.old.shape to }
+        ensures { OnOk result (Grows (step_to (Some letter) to ∷ []) self.old self.new) }
+    {
+        let number = self.number(to)?;
+        self.add_edge_to(letter, number)
+    }
+
+    /// The next state goes silently to the state of this number. It fails as
+    /// [`add_edge_to`](Growing::add_edge_to) does.
+    fn add_silent_to(&mut self, number: u32) -> Result<(), BuildError>
+        ensures { OnOk result (self.new
+            ≡ with_parts self.old (with_silent self.old.parts number)) }
+    {
+        self.built.push_silent(number)
+    }
+
+    /// The next state goes silently to the pair. It fails as [`number`](Growing::number) and
+    /// [`add_edge_to`](Growing::add_edge_to) do.
+    pub(crate) fn add_silent(&mut self, to: Pair) -> Result<(), BuildError>
+        requires { Fits self.old.shape to }
+        ensures { OnOk result (Grows (step_to None to ∷ []) self.old self.new) }
+    {
+        let number = self.number(to)?;
+        self.add_silent_to(number)
+    }
+
+    /// Ends the next state, and says whether it is final.
+    pub(crate) fn end_state(&mut self, is_final: bool) -> Result<(), AllocError>
+        ensures { OnOk result (self.new
+            ≡ with_parts self.old (with_state self.old.parts is_final)) }
+    {
+        self.built.end_state(is_final)
+    }
+
+    /// The automaton of the states that were built, from the first one.
+    pub(crate) fn finish(self) -> LetterNfa
+        requires few { length self.parts.finals ≤ 2 ^ 31 }
+        requires automaton { IsLetterAutomaton (from_parts self.parts 0) }
+        ensures { result ≡ from_parts self.parts 0 }
+    {
+        self.built.finish(0)
+    }
+}

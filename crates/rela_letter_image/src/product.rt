@@ -1,0 +1,314 @@
+//! What an automaton and a transducer that reads its words do together, as one automaton.
+ghost use Rattle.std.specs.Prelude.{◌≡◌, ◌<◌, ◌≤◌, ◌↔◌, ◌^◌, ◌∷◌, List, None, Some, IsTrue, IfOk, OnOk, length, map, if◌then◌else◌};
+ghost use Rattle.std.specs.List.{All};
+ghost use Rattle.rela_letter_nfa.specs.LetterAutomaton.{IsFinal, states, with_edge};
+ghost use Rattle.rela_nfa.specs.Meeting.{pair_of};
+ghost use Rattle.rela_pairs.specs.Places.{Fits};
+ghost use Rattle.rela_pairs.specs.declared.pair.Pair.{Pair};
+ghost use Rattle.rela_trans.specs.Machine.{machine_states, IsFinal as IsFinalMachine};
+ghost use Rattle.rela_trans.specs.Stored.{kind_of, move_of};
+ghost use Rattle.rela_letter_image.specs.Coarse.{coarse_of, fine_letters};
+ghost use Rattle.rela_letter_image.specs.Growth.{AddsState, Grows, edge_to, with_parts};
+ghost use Rattle.rela_letter_image.specs.Product.{IsProduct};
+ghost use Rattle.rela_letter_image.specs.Steps.{step_to, step_if, silent_steps, alone_by, alone_steps, read_by, read_steps, edge_steps, steps_from};
+
+use crate::growing::Growing;
+use rela_labels::LabelSet;
+use rela_letter_nfa::{LetterEdge, LetterNfa};
+use rela_pairs::{BuildError, Pair, Shape};
+use rela_trans::{Move, MoveKind, Transducer};
+use std::alloc::Global;
+
+/// The coarse letter of a fine one; that of a letter past the list is `letters`, their number.
+fn coarse_letter(coarse: &[u32], letters: u32, letter: u32) -> u32
+    ensures { result ≡ coarse_of letters coarse.now letter }
+{
+    match coarse.get(letter as usize) {
+        Some(letter) => *letter,
+        None => letters,
+    }
+}
+
+/// Adds an edge by the letter to the state of this number, if it is to be added.
+fn add_edge_if(
+    growing: &mut Growing,
+    is_added: bool,
+    letter: u32,
+    number: u32,
+) -> Result<(), BuildError>
+    ensures { OnOk result (growing.new ≡ if is_added then
+        with_parts growing.old (with_edge growing.old.parts (edge_to letter number))
+        else growing.old) }
+{
+    if is_added {
+        growing.add_edge_to(letter, number)?;
+    }
+    Ok(())
+}
+
+/// Adds an edge by the letter to the pair, if it is to be added.
+fn add_read_letter(
+    growing: &mut Growing,
+    is_added: bool,
+    letter: u32,
+    to: Pair,
+) -> Result<(), BuildError>
+    requires { Fits growing.old.shape to }
+    ensures { OnOk result (Grows (step_if is_added (step_to (Some letter) to))
+        growing.old growing.new) }
+{
+    if is_added {
+        return growing.add_edge(letter, to);
+    }
+    Ok(())
+}
+
+/// Adds a silent step to the pair, if it is to be added.
+fn add_silent_if(growing: &mut Growing, is_added: bool, to: Pair) -> Result<(), BuildError>
+    requires { Fits growing.old.shape to }
+    ensures { OnOk result (Grows (step_if is_added (step_to None to)) growing.old growing.new) }
+{
+    if is_added {
+        return growing.add_silent(to);
+    }
+    Ok(())
+}
+
+/// Adds an edge to the pair by each fine letter whose coarse letter is in the set. Time: a step for
+/// each fine letter.
+fn add_written<M: LabelSet>(
+    growing: &mut Growing,
+    set: &M,
+    coarse: &[u32],
+    to: Pair,
+) -> Result<(), BuildError>
+    requires few { length coarse.now ≤ 2 ^ 32 }
+    requires fits { Fits growing.old.shape to }
+    ensures { OnOk result (Grows (map (λ k. step_to (Some k) to)
+        (fine_letters coarse.now (M.letters set.now))) growing.old growing.new) }
+{
+    let number = growing.number(to)?;
+    for (letter, coarse_letter) in coarse.iter().enumerate() {
+        add_edge_if(growing, set.contains(*coarse_letter), letter as u32, number)?;
+    }
+    Ok(())
+}
+
+/// Adds what the transducer does alone by the move: it reads nothing.
+fn add_alone<M: LabelSet>(
+    growing: &mut Growing,
+    step: &Move<M>,
+    left: usize,
+    coarse: &[u32],
+) -> Result<(), BuildError>
+    requires few { length coarse.now ≤ 2 ^ 32 }
+    requires fits { Fits growing.old.shape (pair_of left step.now.to) }
+    ensures { OnOk result (Grows (alone_by coarse.now (kind_of M.letters step.now.kind)
+        (pair_of left step.now.to)) growing.old growing.new) }
+{
+    let to = Pair {
+        left,
+        right: step.to,
+    };
+    match &step.kind {
+        MoveKind::Silent => growing.add_silent(to),
+        MoveKind::Out(set) => add_written(growing, set, coarse, to),
+        MoveKind::In(_) | MoveKind::Same(_) => Ok(()),
+    }
+}
+
+/// Adds what the transducer does alone by the moves.
+fn add_moves<M: LabelSet>(
+    growing: &mut Growing,
+    moves: &[Move<M>],
+    left: usize,
+    coarse: &[u32],
+) -> Result<(), BuildError>
+    requires few { length coarse.now ≤ 2 ^ 32 }
+    requires left { left < growing.old.shape.lefts }
+    requires rights { All (λ step. step.to < growing.old.shape.rights) moves.now }
+    ensures { OnOk result (Grows (alone_steps coarse.now left (map (move_of M.letters) moves.now))
+        growing.old growing.new) }
+{
+    for step in moves {
+        add_alone(growing, step, left, coarse)?;
+    }
+    Ok(())
+}
+
+/// Adds what both do by the edge and the move, where the move reads the edge's letter, whose coarse
+/// letter is `coarse`.
+fn add_read<M: LabelSet>(
+    growing: &mut Growing,
+    edge: LetterEdge,
+    coarse: u32,
+    step: &Move<M>,
+) -> Result<(), BuildError>
+    requires { Fits growing.old.shape (pair_of edge.to step.now.to) }
+    ensures { OnOk result (Grows (read_by coarse edge.letter (kind_of M.letters step.now.kind)
+        (pair_of edge.to step.now.to)) growing.old growing.new) }
+{
+    let to = Pair {
+        left: edge.to as usize,
+        right: step.to,
+    };
+    match &step.kind {
+        MoveKind::In(set) => add_silent_if(growing, set.contains(coarse), to),
+        MoveKind::Same(set) => { add_read_letter(growing, set.contains(coarse), edge.letter, to) }
+        MoveKind::Silent | MoveKind::Out(_) => Ok(()),
+    }
+}
+
+/// Adds what both do by the edge, whose letter's coarse letter is `coarse`, and one of the moves.
+fn add_edge_moves<M: LabelSet>(
+    growing: &mut Growing,
+    edge: LetterEdge,
+    coarse: u32,
+    moves: &[Move<M>],
+) -> Result<(), BuildError>
+    requires left { edge.to < growing.old.shape.lefts }
+    requires rights { All (λ step. step.to < growing.old.shape.rights) moves.now }
+    ensures { OnOk result (Grows (read_steps coarse edge (map (move_of M.letters) moves.now))
+        growing.old growing.new) }
+{
+    for step in moves {
+        add_read(growing, edge, coarse, step)?;
+    }
+    Ok(())
+}
+
+/// Adds what both do by one of the edges and one of the moves, of a transducer with this number of
+/// letters.
+fn add_edges<M: LabelSet>(
+    growing: &mut Growing,
+    edges: &[LetterEdge],
+    letters: u32,
+    coarse: &[u32],
+    moves: &[Move<M>],
+) -> Result<(), BuildError>
+    requires lefts { All (λ edge. edge.to < growing.old.shape.lefts) edges.now }
+    requires rights { All (λ step. step.to < growing.old.shape.rights) moves.now }
+    ensures { OnOk result (Grows (edge_steps letters coarse.now (map (move_of M.letters) moves.now)
+        edges.now) growing.old growing.new) }
+{
+    for edge in edges {
+        let letter = coarse_letter(coarse, letters, edge.letter);
+        add_edge_moves(growing, *edge, letter, moves)?;
+    }
+    Ok(())
+}
+
+/// Adds the states to which the automaton goes silently, while the transducer stays.
+fn add_silents(growing: &mut Growing, ends: &[u32], right: usize) -> Result<(), BuildError>
+    requires lefts { All (λ q. q < growing.old.shape.lefts) ends.now }
+    requires right { right < growing.old.shape.rights }
+    ensures { OnOk result (Grows (silent_steps right ends.now) growing.old growing.new) }
+{
+    for end in ends {
+        let left = *end as usize;
+        growing.add_silent(Pair { left, right })?;
+    }
+    Ok(())
+}
+
+/// Adds what the two do from the pair. Time: the product of the numbers of edges and moves that
+/// leave its two states, and a step for each fine letter for each move that writes alone.
+fn add_steps<M: LabelSet>(
+    growing: &mut Growing,
+    paths: &LetterNfa,
+    relation: &Transducer<M>,
+    coarse: &[u32],
+    pair: Pair,
+) -> Result<(), BuildError>
+    requires few { length coarse.now ≤ 2 ^ 32 }
+    requires lefts { growing.old.shape.lefts ≡ states paths.now }
+    requires rights { growing.old.shape.rights ≡ machine_states relation.now }
+    requires left { pair.left < states paths.now }
+    requires right { pair.right < machine_states relation.now }
+    requires small { pair.left < 2 ^ 32 }
+    ensures { OnOk result (Grows (steps_from coarse.now paths.now relation.now pair)
+        growing.old growing.new) }
+{
+    let left = pair.left as u32;
+    let moves = relation.moves(pair.right);
+    add_silents(growing, paths.silent(left), pair.right)?;
+    add_moves(growing, moves, pair.left, coarse)?;
+    add_edges(
+        growing,
+        paths.edges(left),
+        relation.letters(),
+        coarse,
+        moves,
+    )
+}
+
+/// Whether both states of the pair are final.
+fn is_final_pair<M: LabelSet>(paths: &LetterNfa, relation: &Transducer<M>, pair: Pair) -> bool
+    requires left { pair.left < states paths.now }
+    requires right { pair.right < machine_states relation.now }
+    requires small { pair.left < 2 ^ 32 }
+    ensures { IsTrue result ↔ (IsFinal paths.now pair.left
+        × IsFinalMachine relation.now pair.right) }
+{
+    paths.is_final(pair.left as u32) && relation.is_final(pair.right)
+}
+
+/// Builds the state of the pair: what the two do from it, and whether it is final.
+fn add_state<M: LabelSet>(
+    growing: &mut Growing,
+    paths: &LetterNfa,
+    relation: &Transducer<M>,
+    coarse: &[u32],
+    pair: Pair,
+) -> Result<(), BuildError>
+    requires few { length coarse.now ≤ 2 ^ 32 }
+    requires lefts { growing.old.shape.lefts ≡ states paths.now }
+    requires rights { growing.old.shape.rights ≡ machine_states relation.now }
+    requires left { pair.left < states paths.now }
+    requires right { pair.right < machine_states relation.now }
+    requires small { pair.left < 2 ^ 32 }
+    ensures { OnOk result (AddsState coarse.now paths.now relation.now pair
+        growing.old growing.new) }
+{
+    add_steps(growing, paths, relation, coarse, pair)?;
+    let is_final = is_final_pair(paths, relation, pair);
+    growing.end_state(is_final)?;
+    Ok(())
+}
+
+/// The automaton of what the two do together: its states are the pairs of states that are found
+/// from the two starts on, its final ones those of two final states, and it goes by what the
+/// transducer writes. Time: that of [`add_steps`] for each pair; space: linear in the result.
+///
+/// # Errors
+///
+/// - `Limit` where it would have more than `most` states or more than `most` edges and silent
+///   steps.
+/// - `Memory` where there isn't memory for it.
+pub(crate) fn product<M: LabelSet>(
+    alloc: Global,
+    paths: &LetterNfa,
+    relation: &Transducer<M>,
+    coarse: &[u32],
+    most: usize,
+) -> Result<LetterNfa, BuildError>
+    requires { length coarse.now ≤ 2 ^ 32 }
+    ensures { IfOk result (λ image. (pairs : List Pair)
+        × IsProduct (coarse_of relation.now.letters coarse.now) paths.now relation.now pairs image) }
+{
+    let shape = Shape {
+        lefts: paths.states(),
+        rights: relation.states(),
+    };
+    let mut growing = Growing::new(alloc, shape, most)?;
+    growing.number(Pair {
+        left: paths.start() as usize,
+        right: relation.start(),
+    })?;
+    // The pairs that were found stand in a queue: those whose states were built come first.
+    'queue: while growing.states() < growing.pairs().len() {
+        let pair = growing.pairs()[growing.states()];
+        add_state(&mut growing, paths, relation, coarse, pair)?;
+    }
+    Ok(growing.finish())
+}

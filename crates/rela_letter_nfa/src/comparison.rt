@@ -1,0 +1,84 @@
+//! The first word by which two automata differ.
+ghost use Rattle.std.specs.Prelude.{◌≡◌, ℕ, ◌+◌, ◌^◌, ◌<◌, List, [], IfOk, IfErr, IfNone, IfSome};
+ghost use Rattle.rela_names.specs.Shortlex.{First};
+ghost use Rattle.rela_letter_nfa.specs.Differences.{Differs, IsAgreed, IsOnSide, ReachPairsBefore};
+ghost use Rattle.rela_letter_nfa.specs.Pair.{ArePaired};
+ghost use Rattle.rela_letter_nfa.specs.Runs.{Accepts};
+
+use crate::arrival::Arrival;
+use crate::both::Both;
+use crate::difference::{Difference, Sought};
+use crate::nfa::LetterNfa;
+use crate::search::{search, word_of};
+use crate::state_sets::StateSets;
+use rela_pairs::BuildError;
+use std::alloc::Global;
+
+/// The first of the sought words in shortlex order and the automaton that accepts it, and `None`
+/// where there is no such word. Pairs of sets of states are found as words first reach them, up to
+/// the one of the first sought word; neither automaton is made deterministic first. Time: for each
+/// pair of sets that is found a sort of the edges that leave its states, and for each letter on
+/// these a sort of the states that follow; space: linear in the pairs of sets. There may be
+/// exponentially many.
+///
+/// # Errors
+///
+/// - `Limit` only where words that do not come after the first sought one reach more than `limit`
+///   pairs of sets of states; never for the greatest limit.
+/// - `Memory` where there isn't memory for them.
+pub fn first_difference(
+    alloc: Global,
+    a: &LetterNfa,
+    b: &LetterNfa,
+    sought: Sought,
+    limit: usize,
+) -> Result<Option<Difference>, BuildError>
+    ensures none { IfOk result (λ found. IfNone found ((word : List ℕ) →
+        IsAgreed sought (Accepts a.now word) (Accepts b.now word))) }
+    ensures first { IfOk result (λ found. IfSome found (λ difference.
+        First (Differs sought a.now b.now) difference.word)) }
+    ensures side { IfOk result (λ found. IfSome found (λ difference.
+        IsOnSide a.now b.now difference.word difference.side)) }
+    ensures limit { IfErr result (λ e. e ≡ BuildError.Limit →
+        ReachPairsBefore a.now b.now (Differs sought a.now b.now) (limit + 1)) }
+    ensures bounded { IfErr result (λ e. e ≡ BuildError.Limit → limit < 2 ^ 63) }
+{
+    let both = Both::new(a, b);
+    let mut sets = StateSets::new(alloc);
+    let mut arrivals = Vec::new(alloc);
+    difference_of(alloc, &both, sought, &mut sets, &mut arrivals, limit)
+}
+
+/// The first of the sought words and the automaton that accepts it, as by [`first_difference`] and
+/// with its errors. The sets that are found are put into `sets`, and how they were found into
+/// `arrivals`, which are empty before.
+fn difference_of(
+    alloc: Global,
+    both: &Both,
+    sought: Sought,
+    sets: &mut StateSets,
+    arrivals: &mut Vec<Arrival>,
+    limit: usize,
+) -> Result<Option<Difference>, BuildError>
+    requires paired { ArePaired both.now }
+    requires no_sets { sets.old ≡ [] }
+    requires no_arrivals { arrivals.old.items ≡ [] }
+    ensures none { IfOk result (λ found. IfNone found ((word : List ℕ) →
+        IsAgreed sought (Accepts both.now.first word) (Accepts both.now.second word))) }
+    ensures first { IfOk result (λ found. IfSome found (λ difference.
+        First (Differs sought both.now.first both.now.second) difference.word)) }
+    ensures side { IfOk result (λ found. IfSome found (λ difference.
+        IsOnSide both.now.first both.now.second difference.word difference.side)) }
+    ensures limit { IfErr result (λ e. e ≡ BuildError.Limit → ReachPairsBefore both.now.first
+        both.now.second (Differs sought both.now.first both.now.second) (limit + 1)) }
+    ensures bounded { IfErr result (λ e. e ≡ BuildError.Limit → limit < 2 ^ 63) }
+{
+    let found = search(alloc, both, sought, sets, arrivals, limit)?;
+    if !found {
+        return Ok(None);
+    }
+    let last = arrivals.len();
+    let word = word_of(alloc, arrivals, last)?;
+    let side = both.side_of(sets.get(last));
+    Ok(Some(Difference { word, side }))
+}

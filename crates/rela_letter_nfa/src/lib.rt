@@ -1,0 +1,26 @@
+//! Finite automata with one letter on each edge, and the first word by which two of them differ. A
+//! want of memory is told as `AllocError` or as `BuildError::Memory`.
+#![tactic(auto)]
+
+mod arrival;
+mod both;
+mod builder;
+mod closure;
+mod comparison;
+mod difference;
+mod edge;
+mod lists;
+mod marks;
+mod nfa;
+mod outgoing;
+mod search;
+mod spreading;
+mod state_sets;
+mod visited;
+
+pub use builder::LetterNfaBuilder;
+pub use comparison::first_difference;
+pub use difference::{Difference, Sought, Which};
+pub use edge::LetterEdge;
+pub use nfa::{LetterNfa, MAX_STATES};
+pub use rela_pairs::BuildError;
