@@ -34,3 +34,4 @@ pub mod RightLeaves
 pub mod ByShortlex
 pub mod OneMinimal
 pub mod MetOn
+pub mod LetterImages

@@ -114,8 +114,9 @@ module _ (c : Compilation) (relations : Relations) (are : AreRelations c relatio
         inr (inr (comparison_passes c.check c.locations blocks is symbols flow (before_image c.check c.locations) (after_image c.check c.locations)
         pre_image post_image sides.pre_seen.of_image.letters (before_placed before) (after_placed after)
         (Offending c.check c.locations flow.pre flow.post) (Offends c.check.at_most (Accepts pre_image) (Accepts post_image))
-        (λ w. (offends blocks (ImageOf flow.pre (relation_of side.Before c.check c.locations)) (ImageOf flow.post (relation_of side.After c.check c.locations))
-        pre_image post_image sides.pre_seen.of_image sides.post_seen.of_image c.check.at_most w).1)
+        (λ w. (offends blocks (Accepts pre_image) (Accepts post_image)
+        (ImageOf flow.pre (relation_of side.Before c.check c.locations)) (ImageOf flow.post (relation_of side.After c.check c.locations))
+        sides.pre_seen.of_image.language sides.post_seen.of_image.language c.check.at_most w).1)
         c.states many last (last_offends c c.locations flow last ends)))
 
     pub both_pass : (before after : Twofold) → before ≡ relations.before → after ≡ relations.after

@@ -13,12 +13,12 @@ use Rattle.rela_report.specs.declared.rows.Side.TheVariants as side
 use Rattle.rela_rir.specs.Meaning.{InR}
 use Rattle.rela_rir.specs.Words.{WordSet, Relation, ImageOf}
 use Rattle.rela_rir.specs.declared.term.RelTerm.{RelTerm}
-use Rattle.rela_trans.specs.Machine.{Machine}
+use Rattle.rela_trans.specs.Machine.{Machine, IsMachine}
 use Rattle.rela_trans.specs.Runs.{Relates}
 use Rattle.rela_trans.proofs.SymbolLetters.{letters_related, symbols_related}
 use Rattle.rela_translate.specs.Checked.{Checked}
 use Rattle.rela_translate.specs.Terms.{before_of, after_of}
-use Rattle.rela_translate.specs.Verdict.{AreMet, Offends}
+use Rattle.rela_translate.specs.Verdict.{AreMet, Offending, Offends}
 use Rattle.rela_translate.proofs.Meanings.{before_in, after_in}
 use Rattle.rela_build.specs.PathSets.{scene_of}
 use Rattle.rela_compare.proofs.AcceptedLetters.{accepted_letters}
@@ -28,9 +28,10 @@ use Rattle.rela_build.specs.Made.{IsMadeR}
 use Rattle.rela_build.specs.PathSets.{Paths, no_paths}
 use Rattle.rela_engine.specs.Compilation.{Compilation, Relations, Twofold, AreRelations}
 use Rattle.rela_engine.specs.Reading.{Recognises, Realises, RealisesFrom}
-use Rattle.rela_engine.specs.RowOf.{RowOf, Says, IsOffence, relation_of}
+use Rattle.rela_engine.specs.LetterImages.{IsFirstOffence, TellsFirst}
+use Rattle.rela_engine.specs.RowOf.{RowOf, Says, IsOffence, relation_of, words_of}
 use Rattle.rela_engine.specs.Scenes.{lettering_of}
-use Rattle.rela_engine.specs.Seen.{AreSeen, AreLeast, IsSource, IsFirstSource, TellsOf, machine_of}
+use Rattle.rela_engine.specs.Seen.{AreSeen, AreLeastSymbols, IsSource, IsFirstSource, TellsOf, machine_of}
 use Rattle.rela_engine.specs.declared.seen.Form.{Form}
 use Rattle.rela_engine.specs.declared.seen.Form.TheVariants as form
 use Rattle.rela_engine.proofs.LeastWords.{before_letters, first_symbols, same_words}
@@ -92,34 +93,35 @@ seen_by_same blocks coarse words pairs t paths relation image is seen = record {
 
 -- ---- the verdict
 
-module _ (blocks : List ℕ) (X Y : WordSet) (x y : Automaton) (in_x : Recognises blocks X x) (in_y : Recognises blocks Y y) where
-  pub met : (at_most : Bool) → AreMet at_most (Accepts x) (Accepts y) → AreMet at_most X Y
+-- two sets of words of letters, of each of which the words of symbols are known
+module _ (blocks : List ℕ) (A B X Y : WordSet) (in_x : (w : List ℕ) → A (map (read_by blocks) w) ↔ X w) (in_y : (w : List ℕ) → B (map (read_by blocks) w) ↔ Y w) where
+  pub met : (at_most : Bool) → AreMet at_most A B → AreMet at_most X Y
   met false same =
       λ w. (
-        λ is. (in_y.language w).0 ((same (map (read_by blocks) w)).0 ((in_x.language w).1 is)),
-        λ is. (in_x.language w).0 ((same (map (read_by blocks) w)).1 ((in_y.language w).1 is)),
+        λ is. (in_y w).0 ((same (map (read_by blocks) w)).0 ((in_x w).1 is)),
+        λ is. (in_x w).0 ((same (map (read_by blocks) w)).1 ((in_y w).1 is)),
       )
-  met true within = λ w is. (in_x.language w).0 (within (map (read_by blocks) w) ((in_y.language w).1 is))
+  met true within = λ w is. (in_x w).0 (within (map (read_by blocks) w) ((in_y w).1 is))
 
-  pub offends : (at_most : Bool) (w : List ℕ) → Offends at_most (Accepts x) (Accepts y) (map (read_by blocks) w) ↔ Offends at_most X Y w
+  pub offends : (at_most : Bool) (w : List ℕ) → Offends at_most A B (map (read_by blocks) w) ↔ Offends at_most X Y w
   offends false w = (
     λ o. elim o [
-      | inl first ↦ inl ((in_x.language w).0 first.0, λ is. first.1 ((in_y.language w).1 is))
-      | inr second ↦ inr (λ is. second.0 ((in_x.language w).1 is), (in_y.language w).0 second.1)
+      | inl first ↦ inl ((in_x w).0 first.0, λ is. first.1 ((in_y w).1 is))
+      | inr second ↦ inr (λ is. second.0 ((in_x w).1 is), (in_y w).0 second.1)
     ],
     λ o. elim o [
-      | inl first ↦ inl ((in_x.language w).1 first.0, λ is. first.1 ((in_y.language w).0 is))
-      | inr second ↦ inr (λ is. second.0 ((in_x.language w).0 is), (in_y.language w).1 second.1)
+      | inl first ↦ inl ((in_x w).1 first.0, λ is. first.1 ((in_y w).0 is))
+      | inr second ↦ inr (λ is. second.0 ((in_x w).0 is), (in_y w).1 second.1)
     ],
   )
   offends true w = (
-    λ o. ((in_y.language w).0 o.0, λ is. o.1 ((in_x.language w).1 is)),
-    λ o. ((in_y.language w).1 o.0, λ is. o.1 ((in_x.language w).0 is)),
+    λ o. ((in_y w).0 o.0, λ is. o.1 ((in_x w).1 is)),
+    λ o. ((in_y w).1 o.0, λ is. o.1 ((in_x w).0 is)),
   )
 
 -- ---- the source
 
-word_for : (blocks : List ℕ) → IsPartition blocks → (letters : List ℕ) → All (λ k. k < block_count blocks) letters → (w : List ℕ) × (map (read_by blocks) w ≡ letters)
+pub word_for : (blocks : List ℕ) → IsPartition blocks → (letters : List ℕ) → All (λ k. k < block_count blocks) letters → (w : List ℕ) × (map (read_by blocks) w ≡ letters)
 word_for blocks is [] below = ([], refl)
 word_for blocks is (k ∷ letters) below =
     let first = covered blocks is k (All-head (λ j. j < block_count blocks) k letters below) in
@@ -130,43 +132,57 @@ word_for blocks is (k ∷ letters) below =
 pub letters_below : (blocks : List ℕ) (a : Automaton) → IsAutomaton a → a.letters ≡ block_count blocks → (letters : List ℕ) → Accepts a letters → All (λ k. k < block_count blocks) letters
 letters_below blocks a ok count letters accepted = subst (λ n. All (λ k. k < n) letters) count (accepted_letters a ok letters accepted)
 
-module _ (blocks : List ℕ) (is : IsPartition blocks) (words : WordSet) (pairs : Relation) (paths : Automaton) (relation : Machine) (image : Automaton)
-    (seen : AreSeen blocks words pairs paths relation image) where
+module _ (blocks : List ℕ) (is : IsPartition blocks) (words : WordSet) (pairs : Relation) (paths : Automaton) (relation : Machine)
+    (of_paths : Recognises blocks words paths) (of_relation : RealisesFrom blocks words pairs relation) (relation_ok : IsMachine relation) where
   -- a source by letters stands for a path
   path_of : (letters word : List ℕ) → IsSource paths relation (map (read_by blocks) word) letters
       → (u : List ℕ) × (map (read_by blocks) u ≡ letters) × words u × pairs u word
   path_of letters word source =
-      let u = symbols_related (read_by blocks) relation seen.relation_ok
-      (subst (λ n. (k : ℕ) → k < n → (s : ℕ) × (read_by blocks s ≡ k)) (sym seen.of_relation.letters) (covered blocks is)) letters word source.1 in
-      let in_words = (seen.of_paths.language u.0).0 (subst (Accepts paths) (sym u.1) source.0) in
-      (u.0, u.1, in_words, (seen.of_relation.relation u.0 word in_words).0 u.2)
+      let u = symbols_related (read_by blocks) relation relation_ok
+      (subst (λ n. (k : ℕ) → k < n → (s : ℕ) × (read_by blocks s ≡ k)) (sym of_relation.letters) (covered blocks is)) letters word source.1 in
+      let in_words = (of_paths.language u.0).0 (subst (Accepts paths) (sym u.1) source.0) in
+      (u.0, u.1, in_words, (of_relation.relation u.0 word in_words).0 u.2)
 
   -- and each path that is related to the word has letters that are a source
   source_of : (u word : List ℕ) → words u → pairs u word → IsSource paths relation (map (read_by blocks) word) (map (read_by blocks) u)
   source_of u word in_words related = (
-    (seen.of_paths.language u).1 in_words,
-    letters_related (read_by blocks) relation u word ((seen.of_relation.relation u word in_words).1 related),
+    (of_paths.language u).1 in_words,
+    letters_related (read_by blocks) relation u word ((of_relation.relation u word in_words).1 related),
   )
 
-  -- each word of the image has a source
-  pub some_source : (letters : List ℕ) → Accepts image letters → (source : List ℕ) × IsSource paths relation letters source
-  some_source letters accepted =
-      let word = word_for blocks is letters (letters_below blocks image seen.image_ok seen.of_image.letters letters accepted) in
-      let found = (seen.of_image.language word.0).0 (subst (Accepts image) (sym word.1) accepted) in (
-        map (read_by blocks) found.source,
-        subst (λ l. IsSource paths relation l (map (read_by blocks) found.source)) word.1 (source_of found.source word.0 found.in_set found.related),
-      )
+  -- the letters of each word of the image have a source
+  pub source_from : (letters word : List ℕ) → map (read_by blocks) word ≡ letters → ImageOf words pairs word → (source : List ℕ) × IsSource paths relation letters source
+  source_from letters word are found = (
+    map (read_by blocks) found.source,
+    subst (λ l. IsSource paths relation l (map (read_by blocks) found.source)) are (source_of found.source word found.in_set found.related),
+  )
 
-  pub first_path : (word source : List ℕ) → IsFirstSource blocks paths relation (map (read_by blocks) word) source → First (λ u. words u × pairs u word) source
-  first_path word source found =
-      let path = path_of found.letters word found.first.member in
-      let same : path.0 ≡ source = same_words blocks path.0 source (seen.least path.0 path.2) found.symbols_are.least (path.1 ∙ sym found.symbols_are.read) in
-      record {
-        member = subst (λ u. words u × pairs u word) same (path.2, path.3);
-        least = λ v is_source before.
-            found.first.least (map (read_by blocks) v) (source_of v word is_source.0 is_source.1)
-            (subst (IsBefore (map (read_by blocks) v)) found.symbols_are.read (before_letters blocks is v source found.symbols_are.least before));
-      }
+  module _ (least : (w : List ℕ) → words w → AreLeastSymbols blocks w) where
+    first_path : (word source : List ℕ) → IsFirstSource blocks paths relation (map (read_by blocks) word) source → First (λ u. words u × pairs u word) source
+    first_path word source found =
+        let path = path_of found.letters word found.first.member in
+        let same : path.0 ≡ source = same_words blocks path.0 source (least path.0 path.2) found.symbols_are.least (path.1 ∙ sym found.symbols_are.read) in
+        record {
+          member = subst (λ u. words u × pairs u word) same (path.2, path.3);
+          least = λ v is_source before.
+              found.first.least (map (read_by blocks) v) (source_of v word is_source.0 is_source.1)
+              (subst (IsBefore (map (read_by blocks) v)) found.symbols_are.read (before_letters blocks is v source found.symbols_are.least before));
+        }
+
+    -- a row that tells of sources by letters tells of the words
+    pub tells_first : (letters : List ℕ) (of : Side) (row : Row) → TellsOf blocks paths relation letters of row → TellsFirst blocks words pairs letters of row
+    tells_first letters of Compliant tells = absurd tells
+    tells_first letters of Undecided tells = absurd tells
+    tells_first letters of (Violated word on source) tells =
+        (tells.0, tells.1, first_path word source (subst (λ l. IsFirstSource blocks paths relation l source) (sym tells.0.read) tells.2))
+
+-- each word of an image has a source
+pub some_source : (blocks : List ℕ) → IsPartition blocks → (words : WordSet) (pairs : Relation) (paths : Automaton) (relation : Machine) (image : Automaton)
+    → AreSeen blocks words pairs paths relation image → (letters : List ℕ) → Accepts image letters → (source : List ℕ) × IsSource paths relation letters source
+some_source blocks is words pairs paths relation image seen letters accepted =
+    let word = word_for blocks is letters (letters_below blocks image seen.image_ok seen.of_image.letters letters accepted) in
+    source_from blocks is words pairs paths relation seen.of_paths seen.of_relation seen.relation_ok letters word.0 word.1
+    ((seen.of_image.language word.0).0 (subst (Accepts image) (sym word.1) accepted))
 
 -- ---- the row
 
@@ -241,6 +257,39 @@ module _ (c : Compilation) (relations : Relations) (are : AreRelations c relatio
   pub right_row : (paths : Paths) (row : Row) → Says c.check c.locations paths c.states row → RowOf c.check c.locations paths c.states row
   right_row paths row says = record { says = says; forced = λ must. absurd (not_forced c paths are.within must) }
 
+-- two sets of words of letters, which are those of the two images
+module _ (blocks : List ℕ) (is : IsPartition blocks) (check : Checked) (locations : ℕ) (pre post A B : WordSet)
+    (in_x : (w : List ℕ) → A (map (read_by blocks) w) ↔ ImageOf pre (relation_of side.Before check locations) w)
+    (in_y : (w : List ℕ) → B (map (read_by blocks) w) ↔ ImageOf post (relation_of side.After check locations) w) where
+  on_side : (of : Side) (letters : List ℕ) → words_of of A B letters → (word : List ℕ) → map (read_by blocks) word ≡ letters
+      → ImageOf (words_of of pre post) (relation_of of check locations) word
+  on_side side.Before letters one word are = (in_x word).0 (subst A (sym are) one)
+  on_side side.After letters one word are = (in_y word).0 (subst B (sym are) one)
+
+  -- the first word of letters that offends stands for the first word that does
+  pub offence_of : (letters : List ℕ) (of : Side) → All (λ k. k < block_count blocks) letters → First (Offends check.at_most A B) letters → words_of of A B letters
+      → IsFirstOffence check locations pre post blocks letters of
+  offence_of letters of below first one = record {
+    below = below;
+    first = λ word are.
+        first_symbols blocks is (Offends check.at_most A B) (Offending check locations pre post)
+        (offends blocks A B (ImageOf pre (relation_of side.Before check locations)) (ImageOf post (relation_of side.After check locations)) in_x in_y check.at_most) letters word are first;
+    in_image = on_side of letters one;
+  }
+
+-- a row that tells of the first offence is right
+pub offence_row : (blocks : List ℕ) (check : Checked) (locations : ℕ) (paths : Paths) (limit : ℕ) (letters : List ℕ) (of : Side)
+    → IsFirstOffence check locations paths.pre paths.post blocks letters of
+    → (row : Row) → TellsFirst blocks (words_of of paths.pre paths.post) (relation_of of check locations) letters of row → Says check locations paths limit row
+offence_row blocks check locations paths limit letters of is Compliant tells = absurd tells
+offence_row blocks check locations paths limit letters of is Undecided tells = absurd tells
+offence_row blocks check locations paths limit letters of is (Violated word on source) tells =
+    subst (λ (s : Side). IsOffence check locations paths.pre paths.post word s source) (sym tells.1) (record {
+      first = is.first word tells.0;
+      in_image = is.in_image word tells.0.read;
+      first_source = tells.2;
+    })
+
 module _ (blocks : List ℕ) (check : Checked) (locations : ℕ) (paths : Paths) (limit : ℕ)
     (pre_paths : Automaton) (pre_relation : Machine) (pre_image : Automaton) (post_paths : Automaton) (post_relation : Machine) (post_image : Automaton)
     (sides : AreSides blocks check locations paths.pre paths.post pre_paths pre_relation pre_image post_paths post_relation post_image) where
@@ -251,34 +300,22 @@ module _ (blocks : List ℕ) (check : Checked) (locations : ℕ) (paths : Paths)
   Y = ImageOf paths.post (relation_of side.After check locations)
 
   pub compliant_row : AreMet check.at_most (Accepts pre_image) (Accepts post_image) → Says check locations paths limit Compliant
-  compliant_row = met blocks X Y pre_image post_image sides.pre_seen.of_image sides.post_seen.of_image check.at_most
-
-  first_word : (letters word : List ℕ) → First (Offends check.at_most (Accepts pre_image) (Accepts post_image)) letters → AreLeast blocks letters word
-      → First (Offends check.at_most X Y) word
-  first_word letters word first are =
-      first_symbols blocks sides.partition (Offends check.at_most (Accepts pre_image) (Accepts post_image)) (Offends check.at_most X Y)
-      (offends blocks X Y pre_image post_image sides.pre_seen.of_image sides.post_seen.of_image check.at_most) letters word are first
+  compliant_row = met blocks (Accepts pre_image) (Accepts post_image) X Y sides.pre_seen.of_image.language sides.post_seen.of_image.language check.at_most
 
   pub before_row : (letters : List ℕ) → First (Offends check.at_most (Accepts pre_image) (Accepts post_image)) letters → Accepts pre_image letters
       → (row : Row) → TellsOf blocks pre_paths pre_relation letters side.Before row → Says check locations paths limit row
-  before_row letters first accepted Compliant tells = absurd tells
-  before_row letters first accepted Undecided tells = absurd tells
-  before_row letters first accepted (Violated word of source) tells =
-      subst (λ (s : Side). IsOffence check locations paths.pre paths.post word s source) (sym tells.1) (record {
-        first = first_word letters word first tells.0;
-        in_image = (sides.pre_seen.of_image.language word).0 (subst (Accepts pre_image) (sym tells.0.read) accepted);
-        first_source = first_path blocks sides.partition paths.pre (relation_of side.Before check locations) pre_paths pre_relation pre_image sides.pre_seen word source
-            (subst (λ l. IsFirstSource blocks pre_paths pre_relation l source) (sym tells.0.read) tells.2);
-      })
+  before_row letters first accepted row tells =
+      let seen = sides.pre_seen in
+      offence_row blocks check locations paths limit letters side.Before
+      (offence_of blocks sides.partition check locations paths.pre paths.post (Accepts pre_image) (Accepts post_image) sides.pre_seen.of_image.language sides.post_seen.of_image.language
+      letters side.Before (letters_below blocks pre_image seen.image_ok seen.of_image.letters letters accepted) first accepted) row
+      (tells_first blocks sides.partition paths.pre (relation_of side.Before check locations) pre_paths pre_relation seen.of_paths seen.of_relation seen.relation_ok seen.least letters side.Before row tells)
 
   pub after_row : (letters : List ℕ) → First (Offends check.at_most (Accepts pre_image) (Accepts post_image)) letters → Accepts post_image letters
       → (row : Row) → TellsOf blocks post_paths post_relation letters side.After row → Says check locations paths limit row
-  after_row letters first accepted Compliant tells = absurd tells
-  after_row letters first accepted Undecided tells = absurd tells
-  after_row letters first accepted (Violated word of source) tells =
-      subst (λ (s : Side). IsOffence check locations paths.pre paths.post word s source) (sym tells.1) (record {
-        first = first_word letters word first tells.0;
-        in_image = (sides.post_seen.of_image.language word).0 (subst (Accepts post_image) (sym tells.0.read) accepted);
-        first_source = first_path blocks sides.partition paths.post (relation_of side.After check locations) post_paths post_relation post_image sides.post_seen word source
-            (subst (λ l. IsFirstSource blocks post_paths post_relation l source) (sym tells.0.read) tells.2);
-      })
+  after_row letters first accepted row tells =
+      let seen = sides.post_seen in
+      offence_row blocks check locations paths limit letters side.After
+      (offence_of blocks sides.partition check locations paths.pre paths.post (Accepts pre_image) (Accepts post_image) sides.pre_seen.of_image.language sides.post_seen.of_image.language
+      letters side.After (letters_below blocks post_image seen.image_ok seen.of_image.letters letters accepted) first accepted) row
+      (tells_first blocks sides.partition paths.post (relation_of side.After check locations) post_paths post_relation seen.of_paths seen.of_relation seen.relation_ok seen.least letters side.After row tells)

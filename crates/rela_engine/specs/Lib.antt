@@ -13,3 +13,4 @@ pub mod Leaves
 pub mod PlainBlocks
 pub mod Compared
 pub mod Differing
+pub mod LetterImages

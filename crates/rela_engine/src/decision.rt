@@ -14,6 +14,7 @@ ghost use Rattle.rela_engine.specs.RowOf.{MayBeOpen, RowOf};
 ghost use Rattle.rela_engine.specs.Scenes.{paths_of};
 ghost use Rattle.rela_engine.specs.Seen.{AreFiner};
 
+use crate::by_letters::row_by_letters;
 use crate::compiled::{Compiled, compile};
 use crate::finer_blocks::{finer_blocks, push_locations};
 use crate::offence::first_offence;
@@ -215,9 +216,36 @@ fn row_by_automata(
     )
 }
 
-/// The row, by automata whose letters are these blocks. Small ones decide nearly every row; only where
-/// they pass the limit plain ones are made, and a row is left open only where these pass it too.
+/// The row, by automata whose letters are these blocks. Those with one letter on each edge are the
+/// fastest, and decide nearly every row; only where they don't, automata do whose edges are labelled
+/// by sets.
 fn row_over<L: LabelSet>(
+    alloc: Global,
+    compiled: &Compiled<'_>,
+    relations: &Relations,
+    pair: &FlowPair,
+    alphabet: &Alphabet,
+    blocks: &Partition,
+) -> Result<Row, AllocError>
+    requires alphabet { length alphabet.now ≡ compiled.now.locations }
+    requires located { IsPairLocated alphabet.now compiled.now.check.level pair.now }
+    requires relations { AreRelations compiled.now relations.now }
+    requires blocks { AreFiner compiled.now.blocks (length alphabet.now) compiled.now.check.level
+        pair.now.before pair.now.after blocks.now }
+    requires fits { L.fits (block_count blocks.now) }
+    ensures { IfOk result (RowOf compiled.now.check (length alphabet.now)
+        (paths_of compiled.now.check.level alphabet.now pair.now.before pair.now.after)
+        compiled.now.states) }
+{
+    match row_by_letters::<L>(alloc, compiled, relations, pair, alphabet, blocks)? {
+        Some(row) => Ok(row),
+        None => row_by_sets::<L>(alloc, compiled, relations, pair, alphabet, blocks),
+    }
+}
+
+/// The row, by automata whose edges are labelled by sets of these blocks. Only where small ones pass
+/// the limit plain ones are made, and a row is left open only where these pass it too.
+fn row_by_sets<L: LabelSet>(
     alloc: Global,
     compiled: &Compiled<'_>,
     relations: &Relations,

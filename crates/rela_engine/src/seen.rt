@@ -157,7 +157,7 @@ fn plain_paths<L: LabelSet>(
 
 /// The automaton of the graph's paths at the level, without silent detours: each of its states is
 /// met once for each state of the relation. The only error is want of memory.
-fn short_paths<L: LabelSet>(
+pub(crate) fn short_paths<L: LabelSet>(
     alloc: Global,
     graph: &Graph,
     level: Level,
@@ -215,7 +215,7 @@ const FEW_FOR_EACH: usize = 32;
 
 /// The relation over the finer blocks, as far as it is one of the paths. The only error is want of
 /// memory.
-fn small_relation<L: LabelSet>(
+pub(crate) fn small_relation<L: LabelSet>(
     alloc: Global,
     relation: &Transducer<WideSet>,
     paths: &Nfa<L>,

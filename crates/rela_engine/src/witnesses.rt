@@ -8,7 +8,9 @@ use crate::offence::Offence;
 use crate::seen::Seen;
 use rela_labels::{LabelSet, Partition};
 use rela_names::Word;
+use rela_nfa::Nfa;
 use rela_report::Row;
+use rela_trans::Transducer;
 use rela_witness::least_source;
 use std::alloc::{AllocError, Global};
 
@@ -29,11 +31,31 @@ pub(crate) fn violated_row<L: LabelSet>(
     ensures { IfOk result (TellsOf blocks.now seen.now.paths seen.now.relation offence.now.letters
         offence.now.side) }
 {
+    row_of_source(alloc, offence, &seen.paths, &seen.relation, blocks)
+}
+
+/// The row of an offence, where these are the paths of its side and the relation that they are seen
+/// through. The only error is want of memory.
+pub(crate) fn row_of_source<L: LabelSet>(
+    alloc: Global,
+    offence: &Offence,
+    paths: &Nfa<L>,
+    relation: &Transducer<L>,
+    blocks: &Partition,
+) -> Result<Row, AllocError>
+    requires below { All (λ k. k < block_count blocks.now) offence.now.letters }
+    requires letters { paths.now.letters ≡ block_count blocks.now }
+    requires same_letters { relation.now.letters ≡ block_count blocks.now }
+    requires automaton { IsAutomaton paths.now }
+    requires some { (source : List ℕ) × IsSource paths.now relation.now offence.now.letters source }
+    ensures { IfOk result (TellsOf blocks.now paths.now relation.now offence.now.letters
+        offence.now.side) }
+{
     let letters = offence.letters.as_slice();
     Ok(Row::Violated {
         word: least_symbols(alloc, blocks, letters)?,
         side: offence.side,
-        source: first_source(alloc, seen, letters, blocks)?,
+        source: first_source(alloc, paths, relation, letters, blocks)?,
     })
 }
 
@@ -58,17 +80,18 @@ pub(crate) fn least_symbols(
 /// only error is want of memory.
 fn first_source<L: LabelSet>(
     alloc: Global,
-    seen: &Seen<L>,
+    paths: &Nfa<L>,
+    relation: &Transducer<L>,
     word: &[u32],
     blocks: &Partition,
 ) -> Result<Word, AllocError>
-    requires letters { seen.now.paths.letters ≡ block_count blocks.now }
-    requires same_letters { seen.now.relation.letters ≡ block_count blocks.now }
-    requires automaton { IsAutomaton seen.now.paths }
-    requires some { (source : List ℕ) × IsSource seen.now.paths seen.now.relation word.now source }
-    ensures { IfOk result (IsFirstSource blocks.now seen.now.paths seen.now.relation word.now) }
+    requires letters { paths.now.letters ≡ block_count blocks.now }
+    requires same_letters { relation.now.letters ≡ block_count blocks.now }
+    requires automaton { IsAutomaton paths.now }
+    requires some { (source : List ℕ) × IsSource paths.now relation.now word.now source }
+    ensures { IfOk result (IsFirstSource blocks.now paths.now relation.now word.now) }
 {
-    match least_source(alloc, &seen.paths, &seen.relation, word)? {
+    match least_source(alloc, paths, relation, word)? {
         Some(source) => least_symbols(alloc, blocks, source.as_slice()),
         None => unreachable!(),
     }

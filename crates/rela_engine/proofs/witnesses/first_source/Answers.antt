@@ -9,7 +9,7 @@ use Rattle.rela_engine.proofs.witnesses.first_source.Goals as goal
 pub least_symbols-requires : goal.least_symbols-requires
 least_symbols-requires g c =
     let first = rw c.in-Some.is at c.in_ok-source.ensures.found in
-    let below = accepted_letters c.args.seen.now.paths c.requires.automaton c.in-Some.source first.member.0 in
+    let below = accepted_letters c.args.paths.now c.requires.automaton c.in-Some.source first.member.0 in
     subst (λ (w : List ℕ). All (λ k. k < block_count c.args.blocks.now) w) (sym c.as_slice.ensures)
     (subst (λ n. All (λ k. k < n) c.in-Some.source) c.requires.letters below)
 
@@ -19,7 +19,7 @@ unreachable-requires g c = (rw c.in-None.is at c.in_ok-source.ensures.none) c.re
 pub returns : goal.returns
 returns g c =
     let blocks = c.args.blocks.now in
-    IfOk-weaker c.least_symbols.result (AreLeast blocks c.as_slice.result.now) (IsFirstSource blocks c.args.seen.now.paths c.args.seen.now.relation c.args.word.now)
+    IfOk-weaker c.least_symbols.result (AreLeast blocks c.as_slice.result.now) (IsFirstSource blocks c.args.paths.now c.args.relation.now c.args.word.now)
     (λ symbols are. record {
       letters = c.in-Some.source;
       first = rw c.in-Some.is at c.in_ok-source.ensures.found;
