@@ -35,3 +35,4 @@ pub mod ByShortlex
 pub mod OneMinimal
 pub mod MetOn
 pub mod LetterImages
+pub mod ToldSides

@@ -14,3 +14,4 @@ pub mod PlainBlocks
 pub mod Compared
 pub mod Differing
 pub mod LetterImages
+pub mod ToldSides

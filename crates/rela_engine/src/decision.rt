@@ -1,25 +1,28 @@
 //! The row of a check for a flow.
-ghost use Rattle.std.specs.Prelude.{◌≡◌, ℕ, ◌<◌, ◌≤◌, List, IfOk, IfErr, IsTrue, All, length, map};
+ghost use Rattle.std.specs.Prelude.{◌≡◌, ℕ, ◌+◌, ◌<◌, ◌≤◌, List, IfOk, IfErr, IsTrue, All, length, map};
 ghost use Rattle.rela_build.specs.Reading.{read_by};
+ghost use Rattle.rela_compare.specs.Comparison.{ReachPairsBefore};
 ghost use Rattle.rela_graph.specs.Paths.{Paths};
 ghost use Rattle.rela_graph.specs.Topology.{symbol_at};
 ghost use Rattle.rela_labels.specs.Partition.{block_count, block_of};
 ghost use Rattle.rela_names.specs.Alphabet.{path_symbols};
+ghost use Rattle.rela_nfa.specs.Runs.{Accepts};
 ghost use Rattle.rela_restriction.specs.Excess.{IsReadAs};
 ghost use Rattle.rela_snapshot.specs.PairsLocated.{IsPairLocated};
-ghost use Rattle.rela_translate.specs.Verdict.{Meets};
+ghost use Rattle.rela_translate.specs.Verdict.{Meets, Offends};
 ghost use Rattle.rela_engine.specs.Compilation.{AreRelations};
 ghost use Rattle.rela_engine.specs.Differing.{path_symbols_of};
-ghost use Rattle.rela_engine.specs.RowOf.{MayBeOpen, RowOf};
+ghost use Rattle.rela_engine.specs.RowOf.{MayBeOpen, RowOf, words_of};
 ghost use Rattle.rela_engine.specs.Scenes.{paths_of};
 ghost use Rattle.rela_engine.specs.Seen.{AreFiner};
+ghost use Rattle.rela_engine.specs.ToldSides.{HasSources, TellsOfSides, TellsOnSide};
 
 use crate::by_letters::row_by_letters;
 use crate::compiled::{Compiled, compile};
 use crate::finer_blocks::{finer_blocks, push_locations};
-use crate::offence::first_offence;
+use crate::offence::{Offence, first_offence};
 use crate::relations::Relations;
-use crate::seen::{Form, see};
+use crate::seen::{Form, Seen, see};
 use crate::witnesses::violated_row;
 use rela_graph::{Graph, Node};
 use rela_labels::{BlockSet, LabelSet, Partition, WideSet};
@@ -364,13 +367,57 @@ fn row_by<L: LabelSet>(
         blocks,
         form,
     )?;
+    row_of_sides(alloc, compiled, &before, &after, blocks)
+}
+
+/// The row, where both sides are seen so: compliant, or that of the first word that offends.
+///
+/// # Errors
+///
+/// - `Limit` where the comparison of the two images passes the check's limit.
+/// - `Memory` where there isn't memory.
+fn row_of_sides<L: LabelSet>(
+    alloc: Global,
+    compiled: &Compiled<'_>,
+    before: &Seen<L>,
+    after: &Seen<L>,
+    blocks: &Partition,
+) -> Result<Row, BuildError>
+    requires before { HasSources blocks.now before.now.paths before.now.relation before.now.image }
+    requires after { HasSources blocks.now after.now.paths after.now.relation after.now.image }
+    ensures row { IfOk result (TellsOfSides compiled.now.check.at_most blocks.now
+        before.now.paths before.now.relation before.now.image
+        after.now.paths after.now.relation after.now.image) }
+    ensures limit { IfErr result (λ e. e ≡ BuildError.Limit →
+        ReachPairsBefore before.now.image after.now.image
+        (Offends compiled.now.check.at_most (Accepts before.now.image) (Accepts after.now.image))
+        (compiled.now.states + 1)) }
+{
     let at_most = compiled.at_most();
     let states = compiled.states();
     match first_offence(alloc, at_most, &before.image, &after.image, states)? {
         None => Ok(Row::Compliant),
-        Some(offence) => match offence.side {
-            Side::Before => Ok(violated_row(alloc, &offence, &before, blocks)?),
-            Side::After => Ok(violated_row(alloc, &offence, &after, blocks)?),
-        },
+        Some(offence) => Ok(row_of_offence(alloc, &offence, before, after, blocks)?),
+    }
+}
+
+/// The row of an offence, by what is seen of its side. The only error is want of memory.
+fn row_of_offence<L: LabelSet>(
+    alloc: Global,
+    offence: &Offence,
+    before: &Seen<L>,
+    after: &Seen<L>,
+    blocks: &Partition,
+) -> Result<Row, AllocError>
+    requires before { HasSources blocks.now before.now.paths before.now.relation before.now.image }
+    requires after { HasSources blocks.now after.now.paths after.now.relation after.now.image }
+    requires offends { words_of offence.now.side (Accepts before.now.image)
+        (Accepts after.now.image) offence.now.letters }
+    ensures { IfOk result (TellsOnSide offence.now.side blocks.now before.now.paths
+        before.now.relation after.now.paths after.now.relation offence.now.letters) }
+{
+    match offence.side {
+        Side::Before => violated_row(alloc, offence, before, blocks),
+        Side::After => violated_row(alloc, offence, after, blocks),
     }
 }

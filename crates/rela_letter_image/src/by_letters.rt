@@ -2,7 +2,7 @@
 ghost use Rattle.std.specs.Prelude.{◌≡◌, ℕ, ◌<◌, ◌≤◌, ◌^◌, ◌↔◌, [], ◌∷◌, true, None, Some, IsTrue, IfOk, OnOk, length, map, if◌then◌else◌};
 ghost use Rattle.std.specs.List.{All};
 ghost use Rattle.rela_labels.specs.Letters.{has};
-ghost use Rattle.rela_letter_nfa.specs.LetterAutomaton.{with_edge};
+ghost use Rattle.rela_letter_nfa.specs.LetterAutomaton.{no_parts, with_edge};
 ghost use Rattle.rela_nfa.specs.Automaton.{states};
 ghost use Rattle.rela_nfa.specs.Stored.{move_of};
 ghost use Rattle.rela_letter_image.specs.ByLetters.{AddsCopy, AddsMoves, IsByLetters};
@@ -122,6 +122,28 @@ fn add_copy<L: LabelSet>(
     Ok(())
 }
 
+/// How many edges the automaton has. Time: linear in its states.
+fn edge_count<L: LabelSet>(nfa: &Nfa<L>) -> usize {
+    let mut count = 0usize;
+    for q in 0..nfa.states() {
+        count = count.saturating_add(nfa.edges(q).len());
+    }
+    count
+}
+
+/// A builder without any state, with room for the states of the automaton, and for as many edges as
+/// it has, but not for more than `most`.
+fn builder_for<L: LabelSet>(
+    alloc: Global,
+    nfa: &Nfa<L>,
+    most: usize,
+) -> Result<CountedBuilder, AllocError>
+    ensures { IfOk result (λ counted. counted ≡ no_parts) }
+{
+    let edges = edge_count(nfa).min(most);
+    CountedBuilder::with_capacity(alloc, most, nfa.states(), 0, edges)
+}
+
 /// The automaton that has for each edge of the other one an edge by each letter of its label. Time
 /// and space: linear in the states and the edges, where each edge has one letter or none; one of
 /// several letters costs a step for each letter of the automaton, and an edge for each of its own.
@@ -141,7 +163,7 @@ pub(crate) fn by_letters<L: LabelSet>(
     if nfa.states() > most || nfa.states() > MAX_STATES {
         return Err(BuildError::Limit);
     }
-    let mut builder = CountedBuilder::new(alloc, most)?;
+    let mut builder = builder_for(alloc, nfa, most)?;
     for q in 0..nfa.states() {
         add_copy(alloc, &mut builder, nfa, q)?;
     }

@@ -27,11 +27,18 @@ impl Model for CountedBuilder {
 }
 
 impl CountedBuilder {
-    /// No state, and at most this many edges and silent steps.
-    pub(crate) fn new(alloc: Global, most: usize) -> Result<CountedBuilder, AllocError>
+    /// No state, and at most `most` edges and silent steps, with room for so many states, silent
+    /// steps and edges.
+    pub(crate) fn with_capacity(
+        alloc: Global,
+        most: usize,
+        states: usize,
+        silents: usize,
+        edges: usize,
+    ) -> Result<CountedBuilder, AllocError>
         ensures { IfOk result (λ counted. counted ≡ no_parts) }
     {
-        let builder = LetterNfaBuilder::new(alloc)?;
+        let builder = LetterNfaBuilder::with_capacity(alloc, states, silents, edges)?;
         Ok(CountedBuilder {
             builder,
             room: most,

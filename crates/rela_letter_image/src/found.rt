@@ -10,8 +10,11 @@ use std::marker::Model;
 /// What stands at a place where there is no number: that of no pair.
 const FREE: u32 = u32::MAX;
 
-/// How many places there are at first.
-const FIRST_PLACES: usize = 64;
+/// The fewest pairs for which there is room at first.
+const LEAST_ROOM: usize = 32;
+
+/// The most pairs for which there is room at first.
+pub(crate) const MOST_ROOM: usize = 4096;
 
 /// The pairs of states that were found, numbered from 0 in the order in which they came, and looked
 /// up by their hash. Contracts see them as a list.
@@ -38,14 +41,15 @@ impl Model for Found {
 }
 
 impl Found {
-    /// No pair.
-    pub(crate) fn new(alloc: Global) -> Result<Found, AllocError>
+    /// No pair, with room for so many, but at least for `LEAST_ROOM` and at most for `MOST_ROOM`.
+    /// Time: linear in the room.
+    pub(crate) fn with_capacity(alloc: Global, pairs: usize) -> Result<Found, AllocError>
         ensures { IfOk result (λ found. found ≡ []) }
     {
-        Ok(Found {
-            pairs: Vec::new(alloc),
-            places: vec![in alloc; FREE; FIRST_PLACES]?,
-        })
+        let room = pairs.clamp(LEAST_ROOM, MOST_ROOM);
+        let pairs = Vec::with_capacity(alloc, room)?;
+        let places = vec![in alloc; FREE; (2 * room).next_power_of_two()]?;
+        Ok(Found { pairs, places })
     }
 
     /// The pairs, in the order of their numbers.

@@ -7,11 +7,17 @@ ghost use Rattle.rela_letter_image.specs.Growth.{Grows, IsFoundIn, edge_to, with
 ghost use Rattle.rela_letter_image.specs.Steps.{step_to};
 
 use crate::counted::CountedBuilder;
-use crate::found::Found;
+use crate::found::{Found, MOST_ROOM};
 use rela_letter_nfa::LetterNfa;
 use rela_pairs::{BuildError, Pair, Shape};
 use std::alloc::{AllocError, Global};
 use std::marker::Model;
+
+/// For how many states there is room at first, where there may be at most `most`: twice as many as
+/// the left machine has, since a product is seldom much larger than that, and at most `MOST_ROOM`.
+fn first_room(shape: Shape, most: usize) -> usize {
+    shape.lefts.saturating_mul(2).min(most).min(MOST_ROOM)
+}
 
 /// A product of two machines as it grows. Its states are pairs of theirs, in the order in which
 /// they were found; each is built once it is reached in this order, and what it leads to is found
@@ -41,14 +47,16 @@ impl Model for Growing {
 }
 
 impl Growing {
-    /// No pair and no state, where there may be at most `most` states and as many edges.
+    /// No pair and no state, where there may be at most `most` states and as many edges. There is
+    /// room for the first states, as by [`first_room`].
     pub(crate) fn new(alloc: Global, shape: Shape, most: usize) -> Result<Growing, AllocError>
         ensures shape { IfOk result (λ growing. growing.shape ≡ shape) }
         ensures pairs { IfOk result (λ growing. growing.pairs ≡ []) }
         ensures parts { IfOk result (λ growing. growing.parts ≡ no_parts) }
     {
-        let found = Found::new(alloc)?;
-        let built = CountedBuilder::new(alloc, most)?;
+        let room = first_room(shape, most);
+        let found = Found::with_capacity(alloc, room)?;
+        let built = CountedBuilder::with_capacity(alloc, most, room, room, room)?;
         Ok(Growing {
             shape,
             found,

@@ -37,14 +37,21 @@ impl Model for LetterNfaBuilder {
 }
 
 impl LetterNfaBuilder {
-    /// No state.
-    pub fn new(alloc: Global) -> Result<LetterNfaBuilder, AllocError>
+    /// No state, with room for so many states, silent steps and edges. More can be pushed: then the
+    /// room grows.
+    pub fn with_capacity(
+        alloc: Global,
+        states: usize,
+        silents: usize,
+        edges: usize,
+    ) -> Result<LetterNfaBuilder, AllocError>
         ensures { IfOk result (λ builder. builder ≡ no_parts) }
     {
-        let silents = Lists::new(alloc)?;
-        let edges = Lists::new(alloc)?;
+        let finals = Vec::with_capacity(alloc, states)?;
+        let silents = Lists::with_capacity(alloc, states, silents)?;
+        let edges = Lists::with_capacity(alloc, states, edges)?;
         Ok(LetterNfaBuilder {
-            finals: Vec::new(alloc),
+            finals,
             silents,
             edges,
         })

@@ -32,16 +32,19 @@ impl<T> Model for Lists<T> {
 }
 
 impl<T: Drop> Lists<T> {
-    /// No closed list, and an open one that is empty.
-    pub(crate) fn new(alloc: Global) -> Result<Lists<T>, AllocError>
+    /// No closed list, and an open one that is empty, with room for so many closed lists and for so
+    /// many items in all of them.
+    pub(crate) fn with_capacity(
+        alloc: Global,
+        lists: usize,
+        items: usize,
+    ) -> Result<Lists<T>, AllocError>
         ensures { IfOk result (λ lists. lists ≡ ([], [])) }
     {
-        let mut places = Vec::new(alloc);
+        let mut places = Vec::with_capacity(alloc, lists.saturating_add(1))?;
         places.push(0)?;
-        Ok(Lists {
-            items: Vec::new(alloc),
-            places,
-        })
+        let items = Vec::with_capacity(alloc, items)?;
+        Ok(Lists { items, places })
     }
 
     /// Puts an item behind the open list.
