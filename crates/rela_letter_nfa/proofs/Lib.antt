@@ -1,6 +1,8 @@
 pub mod Arriving
 pub mod Ascending
 pub mod Beginning
+pub mod Bucketing
+pub mod ChainEnds
 pub mod Claims
 pub mod Closing
 pub mod Differing
@@ -15,7 +17,7 @@ pub mod PairsBefore
 pub mod Parting
 pub mod Reached
 pub mod Searching
-pub mod SetsFound
 pub mod Stamps
 pub mod Standing
 pub mod Within
+pub mod WithoutChains

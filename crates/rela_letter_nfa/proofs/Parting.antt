@@ -20,7 +20,7 @@ places_more end [] are = absurd are
 places_more end (from ∷ []) are = (are, omega arith)
 places_more end (from ∷ to ∷ later) are = (are.0, places_more end (to ∷ later) are.1)
 
-part_kept : {X : Type 0} (xs ys : List X) (from to : ℕ) → from ≤ to → to ≤ length xs → part (xs ++ ys) from to ≡ part xs from to
+pub part_kept : {X : Type 0} (xs ys : List X) (from to : ℕ) → from ≤ to → to ≤ length xs → part (xs ++ ys) from to ≡ part xs from to
 part_kept xs ys from to up within =
     ap (take (to - from)) (drop-append-le from xs ys (omega (arith, up, within)))
     ∙ take-append-le (to - from) (drop from xs) ys (omega (arith, up, within, length-drop from xs))

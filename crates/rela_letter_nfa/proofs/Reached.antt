@@ -7,11 +7,11 @@ use Rattle.rela_letter_nfa.specs.Runs.{Step, HasStep, Follow, spelled}
 use Rattle.rela_letter_nfa.specs.Sets.{Leads, LeadsFrom, Lists, NextFrom}
 
 module _ (a : LetterAutomaton) where
-  follow_join : (first second : List Step) (p q r : ℕ) → Follow a p first q → Follow a q second r → Follow a p (first ++ second) r
+  pub follow_join : (first second : List Step) (p q r : ℕ) → Follow a p first q → Follow a q second r → Follow a p (first ++ second) r
   follow_join [] second p q r here follows = subst (λ n. Follow a n second r) (sym here) follows
   follow_join (step ∷ rest) second p q r before follows = (before.0, follow_join rest second step.to q r before.1 follows)
 
-spelled_join : (first second : List Step) → spelled (first ++ second) ≡ spelled first ++ spelled second
+pub spelled_join : (first second : List Step) → spelled (first ++ second) ≡ spelled first ++ spelled second
 spelled_join [] second = refl
 spelled_join (step ∷ rest) second =
     ap (λ w. option_to_list step.letter ++ w) (spelled_join rest second) ∙ sym (append_assoc (option_to_list step.letter) (spelled rest) (spelled second))

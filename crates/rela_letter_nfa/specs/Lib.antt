@@ -1,3 +1,5 @@
+pub mod Buckets
+pub mod Chains
 pub mod Differences
 pub mod LetterAutomaton
 pub mod Outgoing

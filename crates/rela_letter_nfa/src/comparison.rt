@@ -10,16 +10,17 @@ use crate::both::Both;
 use crate::difference::{Difference, Sought};
 use crate::nfa::LetterNfa;
 use crate::search::{search, word_of};
-use crate::state_sets::StateSets;
+use crate::state_sets::{MOST_ROOM, StateSets};
 use rela_pairs::BuildError;
 use std::alloc::Global;
 
 /// The first of the sought words in shortlex order and the automaton that accepts it, and `None`
 /// where there is no such word. Pairs of sets of states are found as words first reach them, up to
 /// the one of the first sought word; neither automaton is made deterministic first. Time: for each
-/// pair of sets that is found a sort of the edges that leave its states, and for each letter on
-/// these a sort of the states that follow; space: linear in the pairs of sets. There may be
-/// exponentially many.
+/// pair of sets that is found a look at the edges that leave its states, and for each letter on
+/// these at the states that follow, and a sort of those edges and those states that are out of
+/// order; space: linear in the pairs of sets, and in the states. There may be exponentially many
+/// pairs.
 ///
 /// # Errors
 ///
@@ -44,8 +45,9 @@ pub fn first_difference(
     ensures bounded { IfErr result (λ e. e ≡ BuildError.Limit → limit < 2 ^ 63) }
 {
     let both = Both::new(a, b);
-    let mut sets = StateSets::new(alloc);
-    let mut arrivals = Vec::new(alloc);
+    let room = both.states() / 2;
+    let mut sets = StateSets::with_capacity(alloc, room)?;
+    let mut arrivals = Vec::with_capacity(alloc, room.min(MOST_ROOM))?;
     difference_of(alloc, &both, sought, &mut sets, &mut arrivals, limit)
 }
 

@@ -5,6 +5,7 @@
 mod arrival;
 mod both;
 mod builder;
+mod chains;
 mod closure;
 mod comparison;
 mod difference;
@@ -17,6 +18,7 @@ mod search;
 mod spreading;
 mod state_sets;
 mod visited;
+mod without_chains;
 
 pub use builder::LetterNfaBuilder;
 pub use comparison::first_difference;

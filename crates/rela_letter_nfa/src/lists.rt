@@ -47,6 +47,11 @@ impl<T: Drop> Lists<T> {
         Ok(Lists { items, places })
     }
 
+    /// How many items all lists have, to reserve memory by.
+    pub(crate) fn items(&self) -> usize {
+        self.items.len()
+    }
+
     /// Puts an item behind the open list.
     pub(crate) fn push(&mut self, item: T) -> Result<(), AllocError>
         ensures { OnOk result (self.new ≡ (self.old.0, self.old.1 ++ item ∷ [])) }

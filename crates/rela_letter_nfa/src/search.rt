@@ -10,7 +10,7 @@ use crate::both::Both;
 use crate::closure::close;
 use crate::difference::Sought;
 use crate::spreading::spread;
-use crate::state_sets::StateSets;
+use crate::state_sets::{MOST_ROOM, StateSets};
 use crate::visited::Visited;
 use rela_names::Word;
 use rela_pairs::BuildError;
@@ -112,7 +112,7 @@ fn search_on(
     ensures limit { IfErr result (λ e. e ≡ BuildError.Limit → IsPastLimit sought both.now limit
         sets.new arrivals.new.items) }
 {
-    let mut edges = Vec::new(alloc);
+    let mut edges = Vec::with_capacity(alloc, both.states().min(MOST_ROOM))?;
     let mut number = 0;
     while number < sets.len() {
         let found = spread(

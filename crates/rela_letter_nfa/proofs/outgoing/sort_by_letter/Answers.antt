@@ -1,6 +1,6 @@
 use Rattle.std.proofs.Common.{rules}
 use Rattle.std.proofs.lemmas.List.Sorted.{IsNonDecreasingBy-from_sort_by_key}
-use Rattle.rela_letter_nfa.proofs.outgoing.edges_out.Goals as goal
+use Rattle.rela_letter_nfa.proofs.outgoing.sort_by_letter.Goals as goal
 
 pub returns-clause-rising : goal.returns-clause-rising
 returns-clause-rising c = IsNonDecreasingBy-from_sort_by_key (λ edge. edge.letter) _ c.sort_unstable_by_key.ensures.sorted (λ a r q k. search rules)
