@@ -24,7 +24,7 @@ pub(crate) fn signature<L: LabelSet>(
     ensures { IfOk result (λ signed. signed.items
         ≡ is_signature dfa.now (lists_of columns.now) classes.now q) }
 {
-    let mut signed = Vec::with_capacity(alloc, columns.len())?;
+    let mut signed = Vec::with_capacity(alloc, columns.len().saturating_add(1))?;
     signed.push(if dfa.is_final(q) { 1 } else { 0 })?;
     for column in columns {
         signed.push(class_by(classes, column, q))?;

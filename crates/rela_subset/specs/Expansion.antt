@@ -1,6 +1,5 @@
 -- The sets of states that follow a set, and the edges to them.
-use Rattle.std.specs.Prelude.{◌≡◌, ℕ, ◌+◌, ◌<◌, ◌≤◌, ◌⊎◌, ◌↔◌, ◌&&◌, ◌||◌, not, Bool, true, false, List, [], ◌∷◌, ◌++◌, length, count_by, Some, IsSome, slice_index, slice_index_or, slice_set, nat_eq, if◌then◌else◌}
-use Rattle.std.specs.HashMap.{HashMap, get}
+use Rattle.std.specs.Prelude.{◌≡◌, ℕ, ◌+◌, ◌<◌, ◌≤◌, ◌⊎◌, ◌↔◌, ◌&&◌, ◌||◌, not, Bool, true, false, List, [], ◌∷◌, ◌++◌, length, count_by, Some, IsSome, slice_index, slice_index_or, slice_set, if◌then◌else◌}
 use Rattle.std.specs.List.{All}
 use Rattle.rela_labels.specs.Letters.{has}
 use Rattle.rela_names.specs.Shortlex.{IsBefore}
@@ -25,11 +24,6 @@ IsPutIn set to old new =
     × (new ≡ slice_set old i (record { label = Some joined; to = to }))
     × ((move : Move) → (slice_index_or old i move).to ≡ to) × (length joined ≡ length set)
     × ((k : ℕ) (move : Move) → has joined k ≡ (takes k (slice_index_or old i move) || has set k)))
-
--- each place is that of an edge to the end
-abbrev pub ArePlaced : {S : Type 0} → List Move → HashMap ℕ ℕ S → Type 0
-ArePlaced moves places = (to i : ℕ) → get nat_eq places to ≡ Some i → (i < length moves)
-    × ((move : Move) → (slice_index_or moves i move).to ≡ to)
 
 -- the sets found from a set stand behind the old ones, one for each of some letters, which ascend
 pub record HasGrown (a : Automaton) (over : List Bool) (set : List ℕ) (old new : List (List ℕ))

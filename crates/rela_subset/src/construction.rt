@@ -9,6 +9,7 @@ ghost use Rattle.rela_subset.specs.Expansion.{IsExplored};
 ghost use Rattle.rela_subset.specs.Sets.{AreDistinct, HasFinal};
 ghost use Rattle.rela_subset.specs.Subsets.{KeepsApart, ReachSame, ReachSets};
 
+use crate::bundle::Bundle;
 use crate::closure::closure;
 use crate::dfa::Dfa;
 use crate::expansion::expand;
@@ -121,9 +122,11 @@ fn explore<L: LabelSet>(
         ReachSets a.now (L.letters over.now) (limit + 1)) }
     ensures bounded { IfErr result (λ e. e ≡ BuildError.Limit → limit < 2 ^ 63) }
 {
+    let mut bundle = Bundle::new(alloc);
     let mut edges = Vec::new(alloc);
     while edges.len() < sets.len() {
-        let out = expand(alloc, a, over, sets, edges.len(), limit, visited)?;
+        let number = edges.len();
+        let out = expand(alloc, a, over, sets, number, limit, visited, &mut bundle)?;
         edges.push(out)?;
     }
     Ok(edges)

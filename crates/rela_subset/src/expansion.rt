@@ -18,7 +18,7 @@ use std::alloc::Global;
 /// Those sets are numbered: `Limit` where there are then more than `limit`. The letters are split
 /// by the labels of the edges out of the states of the set, and taken in blocks, that of the least
 /// letter first: a block of more letters costs a set operation for each of these edges that has
-/// more than one letter.
+/// more than one letter. The bundle is empty, and is left so.
 pub(crate) fn expand<L: LabelSet>(
     alloc: Global,
     a: &Nfa<L>,
@@ -27,6 +27,7 @@ pub(crate) fn expand<L: LabelSet>(
     number: usize,
     limit: usize,
     visited: &mut Visited,
+    bundle: &mut Bundle<L>,
 ) -> Result<Vec<Edge<L>>, BuildError>
     requires automaton { IsAutomaton a.now }
     requires number { number < length sets.old }
@@ -34,11 +35,13 @@ pub(crate) fn expand<L: LabelSet>(
     requires letters { length (L.letters over.now) ≡ a.now.letters }
     requires few { length sets.old ≤ limit }
     requires count { visited.old.count ≡ states a.now }
+    requires none { bundle.old ≡ [] }
     ensures expanded { IfOk result (λ edges. IsExpandedOver a.now (L.letters over.now)
         (slice_index_or sets.old number []) sets.old sets.new
         (map (move_of L.letters) edges.items)) }
     ensures few { IfOk result (λ _. length sets.new ≤ limit) }
     ensures count { visited.new.count ≡ visited.old.count }
+    ensures none { IfOk result (λ _. bundle.new ≡ []) }
     ensures limit { IfErr result (λ e. e ≡ BuildError.Limit → (length sets.new ≡ limit + 1)
         × AreDistinct sets.new × ((letters : List ℕ)
         × HasGrown a.now (L.letters over.now) (slice_index_or sets.old number []) sets.old
@@ -46,12 +49,12 @@ pub(crate) fn expand<L: LabelSet>(
     ensures bounded { IfErr result (λ e. e ≡ BuildError.Limit → limit < 2 ^ 63) }
 {
     let outgoing = Outgoing::new(alloc, a, sets.get(number))?;
-    let mut bundle = Bundle::new(alloc);
     let mut blocks = outgoing.blocks(alloc, over)?;
     while let Some(block) = blocks.next(alloc)? {
         let next = outgoing.following(alloc, block.letter, visited)?;
         let to = sets.number(next, limit)?;
         bundle.put(alloc, block.letters, to)?;
     }
-    Ok(bundle.into_edges())
+    let edges = bundle.take_edges(alloc)?;
+    Ok(edges)
 }

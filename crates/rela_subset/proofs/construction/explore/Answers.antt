@@ -9,9 +9,9 @@ use Rattle.rela_subset.proofs.construction.explore.Goals as goal
 pub expand-requires-clause-states : goal.expand-requires-clause-states
 expand-requires-clause-states g c =
     let letters = g.L.LabelSet.letters in
-    let i = c.len-in-loop-alloc-2.result in
+    let i = c.len-number.result in
     explored_within c.args.a.now (letters c.args.over.now) c.loop-alloc.sets (moves_in letters c.loop-alloc.edges.items) c.requires.automaton c.loop-alloc.invariant.explored i
-    (omega (arith, c.loop-alloc-test.true, c.len.ensures, c.len-in-loop-alloc.ensures.len, c.len-in-loop-alloc-2.ensures))
+    (omega (arith, c.loop-alloc-test.true, c.len.ensures, c.len-in-loop-alloc.ensures.len, c.len-number.ensures))
 
 pub returns-in_err-out-clause-limit : goal.returns-in_err-out-clause-limit
 returns-in_err-out-clause-limit g c =
@@ -21,7 +21,7 @@ returns-in_err-out-clause-limit g c =
     rw (p.1, p.2) (λ e.
     let limit = c.in_err-out.ensures.limit e in
     let len = length-map edges (λ v. map (move_of letters) v.items) in
-    let n_is : c.len-in-loop-alloc-2.result ≡ length (moves_in letters edges) = omega (arith, c.len-in-loop-alloc-2.ensures, c.loop-alloc.edges.ok.0, len) in
+    let n_is : c.len-number.result ≡ length (moves_in letters edges) = omega (arith, c.len-number.ensures, c.loop-alloc.edges.ok.0, len) in
     let left : length (moves_in letters edges) < length c.loop-alloc.sets = omega (arith, c.loop-alloc-test.true, c.len.ensures, c.len-in-loop-alloc.ensures.len, c.loop-alloc.edges.ok.0, len) in
     let set_is = ap (λ n. get_or c.loop-alloc.sets n []) n_is in
     reach_sets c.args.a.now (letters c.args.over.now) c.loop-alloc.sets (moves_in letters edges) c.loop-alloc.invariant.explored left c.expand.new.sets limit.2.0
@@ -33,8 +33,8 @@ loop-alloc-preserved g c =
     let letters = g.L.LabelSet.letters in
     let edges = c.loop-alloc.edges.items in
     let len = length-map edges (λ v. map (move_of letters) v.items) in
-    let i = c.len-in-loop-alloc-2.result in
-    let n_is : c.len-in-loop-alloc-2.result ≡ length (moves_in letters edges) = omega (arith, c.len-in-loop-alloc-2.ensures, c.loop-alloc.edges.ok.0, len) in
+    let i = c.len-number.result in
+    let n_is : c.len-number.result ≡ length (moves_in letters edges) = omega (arith, c.len-number.ensures, c.loop-alloc.edges.ok.0, len) in
     let left : length (moves_in letters edges) < length c.loop-alloc.sets = omega (arith, c.loop-alloc-test.true, c.len.ensures, c.len-in-loop-alloc.ensures.len, c.loop-alloc.edges.ok.0, len) in
     let set_is = ap (λ n. get_or c.loop-alloc.sets n []) n_is in
     record {
@@ -45,4 +45,5 @@ loop-alloc-preserved g c =
           c.loop-alloc.invariant.explored left set_is c.in_ok-out.ensures.expanded);
       count = c.in_ok-out.ensures.count ∙ c.loop-alloc.invariant.count;
       few = c.in_ok-out.ensures.few;
+      none = c.in_ok-out.ensures.none;
     }

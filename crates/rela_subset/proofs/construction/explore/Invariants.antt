@@ -1,4 +1,4 @@
-use Rattle.std.proofs.Common.{◌≡◌, ◌≤◌, ◌-◌, length}
+use Rattle.std.proofs.Common.{◌≡◌, ◌≤◌, ◌-◌, [], length}
 use Rattle.rela_nfa.specs.Stored.{moves_in}
 use Rattle.rela_subset.specs.Expansion.{IsExplored}
 use Rattle.rela_subset.proofs.construction.explore.Given as goal
@@ -8,6 +8,7 @@ invariant-loop-alloc g l = record {
   explored : IsExplored l.a (g.L.LabelSet.letters l.over) l.sets (moves_in g.L.LabelSet.letters l.edges.items);
   count : l.visited.count ≡ l.fn.visited.count;
   few : length l.sets ≤ l.limit;
+  none : l.bundle ≡ [];
 }
 
 abbrev pub decreases-loop-alloc : goal.decreases-loop-alloc

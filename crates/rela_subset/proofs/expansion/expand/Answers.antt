@@ -14,8 +14,8 @@ use Rattle.rela_subset.proofs.expansion.expand.Goals as goal
 pub loop-blocks-init : goal.loop-blocks-init
 loop-blocks-init g c = record {
   expanded =
-      expanded_none c.args.a.now (g.L.LabelSet.letters c.args.over.now) c.in_ok-blocks.blocks.left (get_or c.args.sets.now c.args.number []) c.args.sets.now c.new-bundle.result
-      c.in_ok-blocks.ensures.left c.new-bundle.ensures;
+      expanded_none c.args.a.now (g.L.LabelSet.letters c.args.over.now) c.in_ok-blocks.blocks.left (get_or c.args.sets.now c.args.number []) c.args.sets.now c.args.bundle.now
+      c.in_ok-blocks.ensures.left c.requires.none;
   few = c.requires.few;
   count = refl;
   size = ap length c.in_ok-blocks.ensures.left;

@@ -1,46 +1,31 @@
-use Rattle.std.proofs.Common.{◌≡◌, List, Some, [], ◌∷◌, ◌++◌, inl, length, map, sym, ap, subst, ◌∙◌, arith}
+use Rattle.std.proofs.Common.{◌≡◌, ◌<◌, List, Some, [], ◌∷◌, ◌++◌, inl, get_or, length, map, sym, ap, subst, ◌∙◌}
 use Rattle.std.proofs.lemmas.List.{map_push}
 use Rattle.rela_nfa.specs.Automaton.{Move}
 use Rattle.rela_nfa.specs.Stored.{move_of}
+use Rattle.rela_nfa.specs.declared.edge.Edge.{Edge}
 use Rattle.std.specs.List.{All}
 use Rattle.std.specs.Option.{ForSome}
-use Rattle.rela_subset.proofs.Placing.{place_within, placed_joined, placed_pushed, placed_still, put_joined, read_sized}
+use Rattle.rela_subset.proofs.Placing.{put_joined, read_sized}
 use Rattle.rela_subset.proofs.bundle.Bundle.put.Goals as goal
 
 pub joined-requires : goal.joined-requires
 joined-requires g c =
-    read_sized g.L.LabelSet.letters c.self.inside.edges.items c.self.inside.places c.self.invariant c.in-Some.place c.args.to (sym (c.in-Some.ensures ∙ c.get.ensures.value))
-    (length (g.L.LabelSet.letters c.args.label)) c.index.result.now c.index.ensures
-    (subst (All (λ move. ForSome move.label (λ s. length s ≡ length (g.L.LabelSet.letters c.args.label)))) (sym c.self.view_is) c.requires)
-
-pub index-requires : goal.index-requires
-index-requires g c =
-    let within = place_within g.L.LabelSet.letters c.self.inside.edges.items c.self.inside.places c.self.invariant c.in-Some.place c.args.to (sym (c.in-Some.ensures ∙ c.get.ensures.value)) in
-    omega (arith, within, c.self.inside.edges.ok.0)
-
-pub index_mut-requires : goal.index_mut-requires
-index_mut-requires g c =
-    let within = place_within g.L.LabelSet.letters c.self.inside.edges.items c.self.inside.places c.self.invariant c.in-Some.place c.args.to (sym (c.in-Some.ensures ∙ c.get.ensures.value)) in
-    omega (arith, within, c.self.inside.edges.ok.0)
-
-pub invariant_of-self : goal.invariant_of-self
-invariant_of-self g c =
-    placed_joined g.L.LabelSet.letters c.self.inside.edges.items c.self.inside.places c.self.invariant c.in-Some.place c.args.to (sym (c.in-Some.ensures ∙ c.get.ensures.value)) c.in_ok-label.label
+    let letters = g.L.LabelSet.letters in
+    let edges = c.self.inside.edges.items in
+    let place = c.in-Some.place in
+    read_sized letters edges place c.args.to (subst (λ (es : List (Edge g.row.L.Denot)). place < length es) c.deref-2.ensures.value c.in-Some.ensures.within)
+    (subst (λ (es : List (Edge g.row.L.Denot)). (edge : Edge g.row.L.Denot) → (get_or es place edge).to ≡ c.args.to) c.deref-2.ensures.value c.in-Some.ensures.leads)
+    c.index.result.now c.index.ensures (length (letters c.args.label))
+    (subst (All (λ move. ForSome move.label (λ s. length s ≡ length (letters c.args.label)))) (sym c.self.view_is) c.requires)
 
 pub returns-in-Some : goal.returns-in-Some
 returns-in-Some g c =
-    put_joined g.L.LabelSet.letters c.self.inside.edges.items c.self.inside.places c.self.invariant c.in-Some.place c.args.to (sym (c.in-Some.ensures ∙ c.get.ensures.value)) c.in_ok-label.label
-    c.args.self.now (g.L.LabelSet.letters c.args.label) c.index.result.now c.self.view_is c.index.ensures c.in_ok-label.ensures.size c.in_ok-label.ensures.either
-
-pub invariant_of-self-in_err-insert : goal.invariant_of-self-in_err-insert
-invariant_of-self-in_err-insert g c =
-    placed_still g.L.LabelSet.letters c.self.inside.edges.items c.self.inside.places c.self.invariant c.push.new.self.items (record { label = Some c.args.label; to = c.args.to })
-    c.in_ok-push.ensures.items c.insert.new.self c.in_err-insert.ensures.err
-
-pub invariant_of-self-2 : goal.invariant_of-self-2
-invariant_of-self-2 g c =
-    placed_pushed g.L.LabelSet.letters c.self.inside.edges.items c.self.inside.places c.self.invariant c.push.new.self.items (record { label = Some c.args.label; to = c.args.to })
-    c.in_ok-push.ensures.items c.insert.new.self c.len-place.result (c.len-place.ensures ∙ c.self.inside.edges.ok.0) c.in_ok-insert.ensures.updates.0
+    let letters = g.L.LabelSet.letters in
+    let edges = c.self.inside.edges.items in
+    let place = c.in-Some.place in
+    put_joined letters edges place c.args.to (subst (λ (es : List (Edge g.row.L.Denot)). place < length es) c.deref-2.ensures.value c.in-Some.ensures.within)
+    (subst (λ (es : List (Edge g.row.L.Denot)). (edge : Edge g.row.L.Denot) → (get_or es place edge).to ≡ c.args.to) c.deref-2.ensures.value c.in-Some.ensures.leads)
+    c.index.result.now c.index.ensures c.in_ok-label.label c.args.self.now (letters c.args.label) c.self.view_is c.in_ok-label.ensures.size c.in_ok-label.ensures.either
 
 pub returns : goal.returns
 returns g c =
