@@ -1,15 +1,12 @@
 -- What the excess of one transducer over another covers, and when it is empty.
-use Rattle.std.proofs.Common.{◌≡◌, ℕ, ◌+◌, ◌<◌, ◌≤◌, ◌⊎◌, ◌↔◌, Bool, true, false, not, List, [], ◌∷◌, get_or, Option, None, Some, inl, inr, sym, ap, ◌∙◌, subst, arith}
+use Rattle.std.proofs.Common.{◌≡◌, ℕ, ◌+◌, ◌<◌, ◌≤◌, ◌⊎◌, ◌↔◌, Bool, true, false, List, [], ◌∷◌, get_or, inl, inr, sym, ap, ◌∙◌, subst, arith}
 use Rattle.std.specs.List.{All, Contains}
-use Rattle.std.specs.Option.{is_some, IfNone}
 use Rattle.std.proofs.lemmas.Bool.{cases_Bool, false≢true}
 use Rattle.std.proofs.lemmas.List.Elements.{All-nil, All-cons, All-head, All-tail, All-map, All-weaker}
 use Rattle.rela_labels.specs.Letters.{has}
 use Rattle.rela_nfa.specs.Automaton.{Automaton}
 use Rattle.rela_nfa.specs.Runs.{Accepts}
 use Rattle.rela_subset.specs.Deterministic.{Deterministic, IsAccepted, IsOver, state_after}
-use Rattle.rela_subset.specs.Sets.{HasFinal}
-use Rattle.rela_subset.specs.Subsets.{IsUnwantedWord}
 use Rattle.rela_trans.specs.Machine.{Machine, IsMachine}
 use Rattle.rela_trans.specs.Runs.{Relates}
 use Rattle.rela_restriction.specs.Acts.{Act, Reads, Writes, Keeps, symbol_of, act_letter, act_letters, AreOfLetters, input_of}
@@ -60,13 +57,6 @@ pub still_accepted : (a n : Automaton) (d m : Deterministic) (over : List Bool) 
     → ((w : List ℕ) → Accepts n w ↔ IsAccepted m w) → (w : List ℕ) → All (λ k. k < count) w → Accepts a w → Accepts n w
 still_accepted a n d m over count all language least same_words w below accepted =
     (same_words w).1 ((least w).1 ((language w).1 (all_over over count all w below, accepted)))
-
--- no word is accepted where each leads to a set that has no final state
-pub unaccepted : (x : Automaton) (over : List Bool) → ((w : List ℕ) → IsOver over w → IsUnwantedWord x (HasFinal x) w)
-    → (w : List ℕ) → IsOver over w → ¬ Accepts x w
-unaccepted x over unwanted w is_over (q, reach, final) =
-    let (set, lists, none) = unwanted w is_over in
-    none (q, (lists.members q).1 reach, final)
 
 -- the acts of one transducer, the words that are no acts of another, those that are both, and what was made of these
 module _ (a b : Machine) (ok_a : IsMachine a) (ok_b : IsMachine b) (same : a.letters ≡ b.letters) (acts others both x : Automaton) (acts_are : acts ≡ act_automaton a)
@@ -125,8 +115,3 @@ none_in_excess x inputs over are none read u v reads excess =
     none (act_letters read x.letters excess.word)
     (acts_over read x.letters inputs over are excess.word excess.letters (subst (λ l. IsReadAs read inputs l) (sym excess.input) reads))
     excess.accepted
-
--- what is told of no value holds where there is none
-pub none_told : {X : Type 0} (o : Option X) (told : Bool) (P : Type 0) → is_some o ≡ not told → told ≡ true → IfNone o P → P
-none_told None told P is none p = p
-none_told (Some y) told P is none p = absurd (false≢true (sym (is ∙ ap not none)))

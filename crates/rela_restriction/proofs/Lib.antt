@@ -1,3 +1,4 @@
 pub mod MovedSets
 pub mod ActWords
 pub mod Covering
+pub mod Searching

@@ -1,3 +1,4 @@
 pub mod Acts
 pub mod Automata
+pub mod Emptiness
 pub mod Excess

@@ -1,20 +1,19 @@
 //! The pairs of words that one transducer relates and another may not.
-ghost use Rattle.std.specs.Prelude.{◌≡◌, ℕ, ◌<◌, ◌≤◌, ◌^◌, ◌⊎◌, ◌↔◌, List, IsTrue, IfOk, length};
+ghost use Rattle.std.specs.Prelude.{◌≡◌, ℕ, ◌<◌, ◌≤◌, ◌^◌, ◌⊎◌, List, IsTrue, IfOk};
 ghost use Rattle.std.specs.List.{All};
 ghost use Rattle.rela_nfa.specs.Runs.{Accepts};
-ghost use Rattle.rela_subset.specs.Deterministic.{IsOver};
 ghost use Rattle.rela_trans.specs.Runs.{Relates};
 ghost use Rattle.rela_restriction.specs.Automata.{act_automaton, act_count};
 ghost use Rattle.rela_restriction.specs.Excess.{Covers, IsInExcess, IsReadAs};
 
 use crate::acting::act_automaton;
 use crate::acts::acts_on;
-use crate::finals::FinalSets;
+use crate::emptiness::accepts_none;
 use crate::letters::letters_between;
 use rela_labels::LabelSet;
 use rela_minimise::into_minimal;
 use rela_nfa::{BuildError, Nfa};
-use rela_subset::{determinise, first_word};
+use rela_subset::determinise;
 use rela_trans::Transducer;
 use std::alloc::{AllocError, Global};
 use std::marker::Model;
@@ -89,8 +88,8 @@ impl<L: LabelSet> Excess<L> {
 
     /// Whether no pair is among these whose first word has letters of `inputs` alone. Where it is so,
     /// the second transducer relates each such pair that the first does. Time: linear in the number
-    /// of letters and the inputs, and for each state that acts on these lead to a few set
-    /// operations for each edge.
+    /// of letters, the inputs and the states, with a set operation for each edge out of the states
+    /// that acts on these lead to.
     pub fn is_empty_on(&self, alloc: Global, inputs: &[u32]) -> Result<bool, AllocError>
         requires { All (λ k. k < self.now.letters) inputs.now }
         ensures { IfOk result (λ empty. IsTrue empty → (read : ℕ → ℕ) (u v : List ℕ) →
@@ -98,21 +97,6 @@ impl<L: LabelSet> Excess<L> {
     {
         let over: L = acts_on(alloc, self.letters, inputs)?;
         accepts_none(alloc, &self.acts, &over)
-    }
-}
-
-/// Whether no word over the letters is accepted. Time: for each set of states that words over them
-/// reach a few set operations for each edge.
-fn accepts_none<L: LabelSet>(alloc: Global, nfa: &Nfa<L>, over: &L) -> Result<bool, AllocError>
-    requires { length (L.letters over.now) ≡ nfa.now.letters }
-    ensures { IfOk result (λ none. IsTrue none → (w : List ℕ) →
-        IsOver (L.letters over.now) w → ¬ Accepts nfa.now w) }
-{
-    let wanted = FinalSets { automaton: nfa };
-    match first_word(alloc, nfa, over, &wanted, usize::MAX) {
-        Ok(found) => Ok(found.is_none()),
-        // With the greatest limit memory is the only error.
-        Err(_) => Err(AllocError),
     }
 }
 

@@ -5,8 +5,8 @@
 
 mod acting;
 mod acts;
+mod emptiness;
 mod excess;
-mod finals;
 mod letters;
 mod moved;
 
