@@ -2,7 +2,7 @@
 ghost use Rattle.std.specs.Prelude.{◌≡◌, IfOk, length};
 
 use rela_labels::{BlockSet, LabelSet};
-use rela_letter_image::letter_image;
+use rela_letter_image::{LetterRelation, by_letters, letter_image};
 use rela_letter_nfa::LetterNfa;
 use rela_nfa::Nfa;
 use rela_trans::{Transducer, are_letters};
@@ -96,7 +96,11 @@ fn has_word(
         return Ok(None);
     }
     let paths: Nfa<Letters> = Nfa::word(alloc, 4, path)?;
+    let Some(paths) = by_letters(alloc, &paths, most)? else {
+        return Ok(None);
+    };
     let relation = relation(alloc, form)?;
+    let relation = LetterRelation::new(alloc, &relation)?;
     match letter_image(alloc, &paths, &relation, &COARSE, most)? {
         Some(image) => Ok(Some(spells(&image, image.start(), word, 20))),
         None => Ok(None),

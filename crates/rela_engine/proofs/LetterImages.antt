@@ -1,6 +1,7 @@
 -- What images of words of letters tell of words of symbols.
 use Rattle.std.proofs.Common.{◌≡◌, ℕ, ◌<◌, ◌≤◌, ◌↔◌, Bool, true, List, [], ◌∷◌, ◌++◌, length, get_or, map, refl, sym, ap, ◌∙◌, inl, inr, subst, arith}
 use Rattle.std.specs.List.{All}
+use Rattle.std.specs.Prelude.{Result, Ok, Err, IfOk}
 use Rattle.std.proofs.lemmas.Bool.{cases_lt}
 use Rattle.std.proofs.lemmas.List.{get_or_default, get_or_past, map-append}
 use Rattle.std.proofs.lemmas.List.Elements.{All-cons, All-nil}
@@ -9,8 +10,10 @@ use Rattle.rela_build.specs.Reading.{read_by}
 use Rattle.rela_labels.specs.Letters.{has}
 use Rattle.rela_labels.specs.Partition.{block_count, block_of, IsPartition}
 use Rattle.rela_letter_image.specs.Coarse.{coarse_of}
-use Rattle.rela_nfa.specs.Automaton.{Automaton, IsAutomaton}
-use Rattle.rela_nfa.specs.Runs.{Accepts}
+use Rattle.rela_letter_nfa.specs.LetterAutomaton.{LetterAutomaton}
+use Rattle.rela_letter_nfa.specs.Runs.{Accepts}
+use Rattle.rela_letter_source.specs.Sources.{IsSourceOf}
+use Rattle.rela_names.specs.Shortlex.{First, IsBefore}
 use Rattle.rela_report.specs.declared.rows.Row.{Row}
 use Rattle.rela_report.specs.declared.rows.Row.TheVariants.{Compliant, Violated, Undecided}
 use Rattle.rela_report.specs.declared.rows.Side.{Side}
@@ -19,15 +22,17 @@ use Rattle.rela_rir.specs.Words.{WordSet, Relation, ImageOf}
 use Rattle.rela_trans.specs.Machine.{Machine, Kind, IsMachine}
 use Rattle.rela_trans.specs.Runs.{Does, Follow, IsSymbolOf, Relates, Step, inputs, outputs}
 use Rattle.rela_trans.specs.declared.moves.MoveKind.TheVariants.{Silent, In, Out, Same}
-use Rattle.rela_engine.specs.Compilation.{Compilation, Relations, AreRelations}
-use Rattle.rela_engine.specs.LetterImages.{AreParents, IsFirstOffence, TellsFirst, TellsOfFlow, TellsOfImages}
-use Rattle.rela_engine.specs.Reading.{Recognises, Realises}
+use Rattle.rela_engine.specs.Compilation.{Compilation, Relations, AreRelations, RelateAlike}
+use Rattle.rela_engine.specs.LetterImages.{AreParents, IsFirstOffence, IsImageUnder, IsReadOver, ReadsJust, TellsFirst, TellsOfFlow, TellsOfImages, TellsSource}
+use Rattle.rela_engine.specs.Reading.{Realises}
 use Rattle.rela_engine.specs.RowOf.{RowOf, relation_of, words_of}
+use Rattle.rela_engine.specs.Seen.{AreLeast, AreLeastSymbols}
 use Rattle.rela_engine.specs.declared.told.Told.{Told}
 use Rattle.rela_engine.specs.declared.told.Told.TheVariants.{Met, Differ, Open}
+use Rattle.rela_engine.proofs.LeastWords.{before_letters, same_words}
 use Rattle.rela_engine.proofs.MetOn.{inputs_below}
 use Rattle.rela_engine.proofs.Rereading.{related_below}
-use Rattle.rela_engine.proofs.Rows.{letters_below, met, offence_of, offence_row, right_row, word_for}
+use Rattle.rela_engine.proofs.Rows.{met, offence_of, offence_row, right_row, word_for}
 
 -- ---- what a word was mapped from
 
@@ -138,34 +143,36 @@ module _ (coarse fine parents : List ℕ) (same_symbols : length fine ≡ length
             ∙ sym (get_or_past coarse s (block_count coarse) (omega (arith, past, same_symbols)))
       ]
 
+  -- what is read by the coarse letters is what symbols are read as
+  same_readings : (t : Machine) → t.letters ≡ block_count coarse → both (coarse_of t.letters parents) (read_by fine) ≡ read_by coarse
+  same_readings t count = λ i s. (ap (λ n. coarse_of n parents (read_by fine s)) count ∙ same_reading s) i
+
   -- the image of words of letters, read by the coarse ones, is that of the words of symbols
-  pub reads_image : (words A : WordSet) (paths : Automaton) (t : Machine) → IsPartition fine → IsAutomaton paths → Recognises fine words paths → t.letters ≡ block_count coarse
-      → ((v : List ℕ) → A v ↔ ((u : List ℕ) × Accepts paths u × Relates (coarse_of t.letters parents) t u v))
-      → (w : List ℕ) → A (map (read_by fine) w) ↔ ImageOf words (Relates (read_by coarse) t) w
-  reads_image words A paths t is ok in_paths count language w =
+  pub reads_image : (words : WordSet) (paths : LetterAutomaton) (t : Machine) (image : LetterAutomaton) → IsPartition fine → IsReadOver fine words paths
+      → t.letters ≡ block_count coarse → IsImageUnder parents paths t image → ReadsJust fine (ImageOf words (Relates (read_by coarse) t)) image
+  reads_image words paths t image is over count language w =
       let read = coarse_of t.letters parents in
-      let same : both read (read_by fine) ≡ read_by coarse = λ i s. (ap (λ n. coarse_of n parents (read_by fine s)) count ∙ same_reading s) i in (
+      let same = same_readings t count in (
         λ accepted.
             let found = (language (map (read_by fine) w)).0 accepted in
-            let word = word_for fine is found.0 (letters_below fine paths ok in_paths.letters found.0 found.1) in
+            let word = word_for fine is found.0 (over.below found.0 found.1) in
             let lifted = symbols_related read (read_by fine) t word.0 w (subst (λ u. Relates read t u (map (read_by fine) w)) (sym word.1) found.2) in
             record {
               source = lifted.0;
-              in_set = (in_paths.language lifted.0).0 (subst (Accepts paths) (sym (lifted.1 ∙ word.1)) found.1);
+              in_set = (over.reads lifted.0).0 (subst (Accepts paths) (sym (lifted.1 ∙ word.1)) found.1);
               related = subst (λ by. Relates by t lifted.0 w) same lifted.2;
             },
         λ found. (language (map (read_by fine) w)).1 (
           map (read_by fine) found.source,
-          (in_paths.language found.source).1 found.in_set,
+          (over.reads found.source).1 found.in_set,
           letters_related read (read_by fine) t found.source w (subst (λ by. Relates by t found.source w) (sym same) found.related),
         ),
       )
 
   -- its words have letters of the fine partition alone
-  pub image_below : (A : WordSet) (paths : Automaton) (t : Machine) → IsMachine t
-      → ((v : List ℕ) → A v ↔ ((u : List ℕ) × Accepts paths u × Relates (coarse_of t.letters parents) t u v))
-      → (v : List ℕ) → A v → All (λ k. k < block_count fine) v
-  image_below A paths t ok language v accepted =
+  pub image_below : (paths : LetterAutomaton) (t : Machine) (image : LetterAutomaton) → IsMachine t → IsImageUnder parents paths t image
+      → (v : List ℕ) → Accepts image v → All (λ k. k < block_count fine) v
+  image_below paths t image ok language v accepted =
       let found = (language v).0 accepted in
       let only : (s : ℕ) → coarse_of t.letters parents s < t.letters → s < length parents =
       λ s letter. elim (cases_lt s (length parents)) [
@@ -173,6 +180,68 @@ module _ (coarse fine parents : List ℕ) (same_symbols : length fine ≡ length
         | inr past ↦ absurd (omega (arith, letter, get_or_past parents s t.letters past))
       ] in
       subst (λ n. All (λ k. k < n) v) are.each (related_below (coarse_of t.letters parents) t ok (length parents) only found.0 v found.2).1
+
+  -- the first source of a word of letters, by the symbols that are the least of their blocks, is the first path that is related
+  -- to each word of symbols with these letters
+  module _ (is : IsPartition fine) (words : WordSet) (paths : LetterAutomaton) (t : Machine) (over : IsReadOver fine words paths)
+      (count : t.letters ≡ block_count coarse) (least : (w : List ℕ) → words w → AreLeastSymbols fine w) where
+    abbrev read : ℕ → ℕ
+    read = coarse_of t.letters parents
+
+    path_of : (source word : List ℕ) → IsSourceOf read paths t (map (read_by fine) word) source
+        → (u : List ℕ) × (map (read_by fine) u ≡ source) × words u × Relates (read_by coarse) t u word
+    path_of source word is_source =
+        let some = word_for fine is source (over.below source is_source.0) in
+        let lifted = symbols_related read (read_by fine) t some.0 word (subst (λ u. Relates read t u (map (read_by fine) word)) (sym some.1) is_source.1) in (
+          lifted.0,
+          lifted.1 ∙ some.1,
+          (over.reads lifted.0).0 (subst (Accepts paths) (sym (lifted.1 ∙ some.1)) is_source.0),
+          subst (λ by. Relates by t lifted.0 word) (same_readings t count) lifted.2,
+        )
+
+    source_of : (u word : List ℕ) → words u → Relates (read_by coarse) t u word → IsSourceOf read paths t (map (read_by fine) word) (map (read_by fine) u)
+    source_of u word in_words related = (
+      (over.reads u).1 in_words,
+      letters_related read (read_by fine) t u word (subst (λ by. Relates by t u word) (sym (same_readings t count)) related),
+    )
+
+    first_path : (word source path : List ℕ) → First (IsSourceOf read paths t (map (read_by fine) word)) source → AreLeast fine source path
+        → First (λ u. words u × Relates (read_by coarse) t u word) path
+    first_path word source path first symbols =
+        let found = path_of source word first.member in
+        let same : found.0 ≡ path = same_words fine found.0 path (least found.0 found.2) symbols.least (found.1 ∙ sym symbols.read) in
+        record {
+          member = subst (λ u. words u × Relates (read_by coarse) t u word) same (found.2, found.3);
+          least = λ v is_source before.
+              first.least (map (read_by fine) v) (source_of v word is_source.0 is_source.1)
+              (subst (IsBefore (map (read_by fine) v)) symbols.read (before_letters fine is v path symbols.least before));
+        }
+
+    -- so the row that tells of both by their least symbols tells of the words
+    pub tells_first_path : (letters : List ℕ) (of : Side) (source : List ℕ) (row : Row) → First (IsSourceOf read paths t letters) source
+        → TellsSource fine letters of source row → TellsFirst fine words (Relates (read_by coarse) t) letters of row
+    tells_first_path letters of source Compliant first tells = absurd tells
+    tells_first_path letters of source Undecided first tells = absurd tells
+    tells_first_path letters of source (Violated word on path) first tells =
+        (tells.0, tells.1, first_path word source path (subst (λ l. First (IsSourceOf read paths t l) source) (sym tells.0.read) first) tells.2)
+
+-- a transducer that was made to relate the same
+pub relate_alike : {E : Type 0} (r : Result Machine E) (t : Machine) → IfOk r (λ made. made.letters ≡ t.letters)
+    → IfOk r (λ made. (by : ℕ → ℕ) (u v : List ℕ) → Relates by made u v ↔ Relates by t u v) → IfOk r (λ made. RelateAlike made t)
+relate_alike (Ok made) t letters relation = record { letters = letters; relation = relation }
+relate_alike (Err e) t letters relation = tt
+
+-- the image by it is the image by the other
+pub image_alike : (parents : List ℕ) (paths : LetterAutomaton) (t other : Machine) (image : LetterAutomaton) → RelateAlike t other
+    → IsImageUnder parents paths t image → IsImageUnder parents paths other image
+image_alike parents paths t other image alike language v =
+    let same : coarse_of t.letters parents ≡ coarse_of other.letters parents = ap (λ n. coarse_of n parents) alike.letters in (
+      λ accepted.
+          let found = (language v).0 accepted in
+          (found.0, found.1, subst (λ by. Relates by other found.0 v) same ((alike.relation (coarse_of t.letters parents) found.0 v).0 found.2)),
+      λ found.
+          (language v).1 (found.0, found.1, (alike.relation (coarse_of t.letters parents) found.0 v).1 (subst (λ by. Relates by other found.0 v) (sym same) found.2)),
+    )
 
 -- ---- what is told of a flow
 

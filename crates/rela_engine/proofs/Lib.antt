@@ -36,3 +36,4 @@ pub mod OneMinimal
 pub mod MetOn
 pub mod LetterImages
 pub mod ToldSides
+pub mod BlockPaths

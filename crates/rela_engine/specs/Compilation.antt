@@ -1,11 +1,12 @@
 -- A compiled check as data, and what each keeps.
-use Rattle.std.specs.Prelude.{◌≡◌, ℕ, ◌+◌, ◌≤◌, ◌⊎◌, List, Option, None}
+use Rattle.std.specs.Prelude.{◌≡◌, ℕ, ◌+◌, ◌≤◌, ◌⊎◌, ◌↔◌, List, Option, None}
 use Rattle.std.specs.Option.{ForSome}
 use Rattle.rela_build.specs.Made.{IsMadeR}
 use Rattle.rela_build.specs.PathSets.{no_paths}
 use Rattle.rela_rir.specs.Limit.{ReachedInsideR, ForcedInsideR}
 use Rattle.rela_rir.specs.declared.term.RelTerm.{RelTerm}
 use Rattle.rela_trans.specs.Machine.{Machine}
+use Rattle.rela_trans.specs.Runs.{Relates}
 use Rattle.rela_translate.specs.Checked.{Checked}
 use Rattle.rela_translate.specs.Terms.{before_of, after_of}
 use Rattle.rela_translate.specs.Zones.{Before, After}
@@ -17,6 +18,11 @@ use Rattle.rela_engine.specs.Scenes.{bare_scene, lettering_of}
 pub record Twofold : Type 0 where
   pub plain : Machine
   pub small : Machine
+
+-- the two have as many letters, and relate the same words, however symbols are read
+pub record RelateAlike (t other : Machine) : Type 0 where
+  pub letters : t.letters ≡ other.letters
+  pub relation : (read : ℕ → ℕ) (u v : List ℕ) → Relates read t u v ↔ Relates read other u v
 
 -- the relations that the paths before and after the change are seen through
 pub record Relations : Type 0 where

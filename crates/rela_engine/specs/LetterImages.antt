@@ -2,6 +2,7 @@
 use Rattle.std.specs.Prelude.{◌≡◌, ℕ, ◌<◌, ◌↔◌, Bool, List, All, length, map, slice_index}
 use Rattle.rela_build.specs.Reading.{read_by}
 use Rattle.rela_labels.specs.Partition.{block_count, block_of}
+use Rattle.rela_letter_image.specs.Coarse.{coarse_of}
 use Rattle.rela_letter_nfa.specs.LetterAutomaton.{LetterAutomaton}
 use Rattle.rela_letter_nfa.specs.Runs.{Accepts}
 use Rattle.rela_names.specs.Shortlex.{First}
@@ -9,6 +10,8 @@ use Rattle.rela_report.specs.declared.rows.Row.{Row}
 use Rattle.rela_report.specs.declared.rows.Row.TheVariants.{Compliant, Violated, Undecided}
 use Rattle.rela_report.specs.declared.rows.Side.{Side}
 use Rattle.rela_rir.specs.Words.{WordSet, Relation, ImageOf}
+use Rattle.rela_trans.specs.Machine.{Machine}
+use Rattle.rela_trans.specs.Runs.{Relates}
 use Rattle.rela_translate.specs.Checked.{Checked}
 use Rattle.rela_translate.specs.Verdict.{AreMet, Meets, Offending, Offends}
 use Rattle.rela_engine.specs.RowOf.{words_of, relation_of}
@@ -19,6 +22,17 @@ use Rattle.rela_engine.specs.declared.told.Told.TheVariants.{Met, Differ, Open}
 -- the words of symbols that are accepted, each symbol read as its block, are those of the set
 abbrev pub ReadsJust : List ℕ → WordSet → LetterAutomaton → Type 0
 ReadsJust blocks words a = (w : List ℕ) → Accepts a (map (read_by blocks) w) ↔ words w
+
+-- the words that are accepted have blocks alone as letters, and are those of the set
+pub record IsReadOver (blocks : List ℕ) (words : WordSet) (a : LetterAutomaton) : Type 0 where
+  pub reads : ReadsJust blocks words a
+  pub below : (v : List ℕ) → Accepts a v → All (λ k. k < block_count blocks) v
+
+-- the automaton has just the words that the transducer relates to the paths, whose letters lie in those that are listed
+abbrev pub IsImageUnder : List ℕ → LetterAutomaton → Machine → LetterAutomaton → Type 0
+IsImageUnder parents paths t image =
+    (v : List ℕ) → Accepts image v
+    ↔ ((u : List ℕ) × Accepts paths u × Relates (coarse_of t.letters parents) t u v)
 
 -- the list gives for each block of the fine partition the block of the coarse one in which it lies
 pub record AreParents (coarse fine parents : List ℕ) : Type 0 where
@@ -56,3 +70,10 @@ TellsFirst blocks words pairs letters side Compliant = ⊥
 TellsFirst blocks words pairs letters side (Violated word of source) =
     AreLeast blocks letters word × (of ≡ side) × First (λ path. words path × pairs path word) source
 TellsFirst blocks words pairs letters side Undecided = ⊥
+
+-- the row tells of a violation on this side: the first words of symbols with these letters, and with those of the source
+abbrev pub TellsSource : List ℕ → List ℕ → Side → List ℕ → Row → Type 0
+TellsSource blocks letters side source Compliant = ⊥
+TellsSource blocks letters side source (Violated word of path) =
+    AreLeast blocks letters word × (of ≡ side) × AreLeast blocks source path
+TellsSource blocks letters side source Undecided = ⊥

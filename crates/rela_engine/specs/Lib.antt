@@ -1,6 +1,7 @@
 pub mod Reading
 pub mod Scenes
 pub mod Blocks
+pub mod Case
 pub mod Sides
 pub mod Compilation
 pub mod RowOf
@@ -13,5 +14,6 @@ pub mod Leaves
 pub mod PlainBlocks
 pub mod Compared
 pub mod Differing
+pub mod FlowLetters
 pub mod LetterImages
 pub mod ToldSides

@@ -1,36 +1,31 @@
 //! The row of a check for a flow, by images with one letter on each edge.
-ghost use Rattle.std.specs.Prelude.{◌≡◌, ◌<◌, ℕ, List, IfOk, All, length, map};
+ghost use Rattle.std.specs.Prelude.{◌≡◌, ◌≤◌, ◌^◌, IfOk, length};
 ghost use Rattle.std.specs.Option.{ForSome};
 ghost use Rattle.rela_build.specs.Reading.{read_by};
-ghost use Rattle.rela_graph.specs.Paths.{Paths};
-ghost use Rattle.rela_graph.specs.Topology.{symbol_at};
 ghost use Rattle.rela_labels.specs.Partition.{block_count};
-ghost use Rattle.rela_letter_nfa.specs.Runs.{Accepts};
-ghost use Rattle.rela_nfa.specs.Relabelling.{Refines};
-ghost use Rattle.rela_rir.specs.Words.{ImageOf};
-ghost use Rattle.rela_snapshot.specs.PairsLocated.{IsPairLocated};
+ghost use Rattle.rela_names.specs.Alphabet.{path_symbols};
+ghost use Rattle.rela_trans.specs.Machine.{IsMachine};
 ghost use Rattle.rela_trans.specs.Runs.{Relates};
-ghost use Rattle.rela_engine.specs.Compilation.{AreRelations};
-ghost use Rattle.rela_engine.specs.LetterImages.{AreParents, IsFirstOffence, ReadsJust, TellsFirst, TellsOfFlow};
-ghost use Rattle.rela_engine.specs.RowOf.{RowOf};
-ghost use Rattle.rela_engine.specs.Scenes.{paths_of};
-ghost use Rattle.rela_engine.specs.Seen.{AreFiner};
+ghost use Rattle.rela_engine.specs.Case.{AreBlockPaths, IsCase, IsRight, IsSeenSide, paths_in};
+ghost use Rattle.rela_engine.specs.FlowLetters.{AreAt, AreLettersOf};
+ghost use Rattle.rela_engine.specs.LetterImages.{AreParents, IsFirstOffence, IsImageUnder, IsReadOver, TellsFirst, TellsOfFlow};
 
-use crate::compiled::Compiled;
+use crate::block_paths::{BlockPaths, block_paths};
+use crate::case::Case;
+use crate::flow_letters::FlowLetters;
 use crate::letter_offence::compare;
 use crate::offence::Offence;
-use crate::relations::Relations;
+use crate::relations::Twofold;
 use crate::seen::{short_paths, small_relation};
 use crate::told::Told;
-use crate::witnesses::row_of_source;
+use crate::witnesses::{row_of_letters, row_of_source};
 use rela_graph::Graph;
-use rela_labels::{LabelSet, Partition, WideSet};
+use rela_labels::{LabelSet, WideSet};
 use rela_letter_image::letter_image;
 use rela_letter_nfa::LetterNfa;
-use rela_names::Alphabet;
-use rela_nfa::parents_of;
+use rela_letter_paths::LetterPaths;
+use rela_letter_source::first_source;
 use rela_report::{Row, Side};
-use rela_snapshot::FlowPair;
 use rela_trans::Transducer;
 use std::alloc::{AllocError, Global};
 
@@ -39,224 +34,191 @@ use std::alloc::{AllocError, Global};
 const MOST_STATES: usize = 1_048_576;
 
 /// The row by the images of the flow's paths, as automata with one letter on each edge, whose
-/// letters are these blocks. `None` where they are too large, or where their comparison passes the
-/// check's limit.
+/// letters are the case's blocks. `None` where they are too large, or where their comparison passes
+/// the check's limit. The automata of the paths by symbols are kept in `letters`.
 ///
 /// Time and space: those of two images, of at most `MOST_STATES` states each, and of their
 /// comparison; where the row is violated, those of a walk through the paths of one side too.
 pub(crate) fn row_by_letters<L: LabelSet>(
     alloc: Global,
-    compiled: &Compiled<'_>,
-    relations: &Relations,
-    pair: &FlowPair,
-    alphabet: &Alphabet,
-    blocks: &Partition,
+    case: &Case<'_, '_>,
+    maker: &LetterPaths,
+    letters: &mut FlowLetters,
 ) -> Result<Option<Row>, AllocError>
-    requires alphabet { length alphabet.now ≡ compiled.now.locations }
-    requires located { IsPairLocated alphabet.now compiled.now.check.level pair.now }
-    requires relations { AreRelations compiled.now relations.now }
-    requires blocks { AreFiner compiled.now.blocks (length alphabet.now) compiled.now.check.level
-        pair.now.before pair.now.after blocks.now }
-    requires fits { L.fits (block_count blocks.now) }
-    ensures { IfOk result (λ found. ForSome found (RowOf compiled.now.check (length alphabet.now)
-        (paths_of compiled.now.check.level alphabet.now pair.now.before pair.now.after)
-        compiled.now.states)) }
+    requires case { IsCase case.now }
+    requires maker { maker.now ≡ path_symbols case.now.alphabet.now }
+    requires letters { AreLettersOf case.now.alphabet.now case.now.pair.now letters.old }
+    requires fits { L.fits (block_count case.now.blocks.now) }
+    ensures row { IfOk result (λ found. ForSome found (IsRight case.now)) }
+    ensures letters { AreLettersOf case.now.alphabet.now case.now.pair.now letters.new }
 {
-    match told_by_images::<L>(alloc, compiled, relations, pair, alphabet, blocks)? {
+    let level = case.compiled.level();
+    letters.make_at(alloc, maker, case.pair, case.alphabet, level)?;
+    row_by_kept_paths::<L>(alloc, case, letters)
+}
+
+/// The row by the automata of the flow's paths that are kept.
+fn row_by_kept_paths<L: LabelSet>(
+    alloc: Global,
+    case: &Case<'_, '_>,
+    letters: &FlowLetters,
+) -> Result<Option<Row>, AllocError>
+    requires case { IsCase case.now }
+    requires letters { AreLettersOf case.now.alphabet.now case.now.pair.now letters.now }
+    requires at { AreAt case.now.compiled.now.check.level letters.now }
+    requires fits { L.fits (block_count case.now.blocks.now) }
+    ensures { IfOk result (λ found. ForSome found (IsRight case.now)) }
+{
+    match block_paths(alloc, case, letters)? {
+        Some(paths) => row_by_images::<L>(alloc, case, &paths),
+        None => Ok(None),
+    }
+}
+
+/// The row by the images of these paths.
+fn row_by_images<L: LabelSet>(
+    alloc: Global,
+    case: &Case<'_, '_>,
+    paths: &BlockPaths,
+) -> Result<Option<Row>, AllocError>
+    requires case { IsCase case.now }
+    requires paths { AreBlockPaths case.now paths.now }
+    requires fits { L.fits (block_count case.now.blocks.now) }
+    ensures { IfOk result (λ found. ForSome found (IsRight case.now)) }
+{
+    match compare_images(alloc, case, paths)? {
         Told::Met => Ok(Some(Row::Compliant)),
         Told::Open => Ok(None),
         Told::Differ(offence) => {
-            let row = row_of::<L>(alloc, compiled, relations, pair, alphabet, blocks, &offence)?;
+            let row = row_of_offence::<L>(alloc, case, paths, &offence)?;
             Ok(Some(row))
         }
     }
 }
 
-/// What the two images tell of the check.
-fn told_by_images<L: LabelSet>(
+/// What the images of these paths tell of the check.
+fn compare_images(
     alloc: Global,
-    compiled: &Compiled<'_>,
-    relations: &Relations,
-    pair: &FlowPair,
-    alphabet: &Alphabet,
-    blocks: &Partition,
+    case: &Case<'_, '_>,
+    paths: &BlockPaths,
 ) -> Result<Told, AllocError>
-    requires alphabet { length alphabet.now ≡ compiled.now.locations }
-    requires located { IsPairLocated alphabet.now compiled.now.check.level pair.now }
-    requires relations { AreRelations compiled.now relations.now }
-    requires blocks { AreFiner compiled.now.blocks (length alphabet.now) compiled.now.check.level
-        pair.now.before pair.now.after blocks.now }
-    requires fits { L.fits (block_count blocks.now) }
-    ensures { IfOk result (TellsOfFlow compiled.now.check compiled.now.locations
-        (Paths pair.now.before compiled.now.check.level alphabet.now)
-        (Paths pair.now.after compiled.now.check.level alphabet.now) blocks.now) }
+    requires case { IsCase case.now }
+    requires paths { AreBlockPaths case.now paths.now }
+    ensures { IfOk result (TellsOfFlow case.now.compiled.now.check case.now.compiled.now.locations
+        (paths_in case.now case.now.pair.now.before) (paths_in case.now case.now.pair.now.after)
+        case.now.blocks.now) }
 {
-    let parents = parents(alloc, compiled.blocks(), blocks)?;
-    let parents = parents.as_slice();
-    told_over::<L>(alloc, compiled, relations, pair, alphabet, blocks, parents)
-}
-
-/// For each of the finer blocks the coarse one in which it lies. Time: linear in the finer blocks,
-/// with a look-up in the coarse partition for each.
-fn parents(alloc: Global, coarse: &Partition, fine: &Partition) -> Result<Vec<u32>, AllocError>
-    requires { Refines fine.now coarse.now }
-    ensures { IfOk result (λ parents. AreParents coarse.now fine.now parents.items) }
-{
-    parents_of(alloc, coarse, fine)
-}
-
-/// What the two images tell of the check, where the blocks lie in these of the check.
-fn told_over<L: LabelSet>(
-    alloc: Global,
-    compiled: &Compiled<'_>,
-    relations: &Relations,
-    pair: &FlowPair,
-    alphabet: &Alphabet,
-    blocks: &Partition,
-    parents: &[u32],
-) -> Result<Told, AllocError>
-    requires alphabet { length alphabet.now ≡ compiled.now.locations }
-    requires located { IsPairLocated alphabet.now compiled.now.check.level pair.now }
-    requires relations { AreRelations compiled.now relations.now }
-    requires blocks { AreFiner compiled.now.blocks (length alphabet.now) compiled.now.check.level
-        pair.now.before pair.now.after blocks.now }
-    requires parents { AreParents compiled.now.blocks blocks.now parents.now }
-    requires fits { L.fits (block_count blocks.now) }
-    ensures { IfOk result (TellsOfFlow compiled.now.check compiled.now.locations
-        (Paths pair.now.before compiled.now.check.level alphabet.now)
-        (Paths pair.now.after compiled.now.check.level alphabet.now) blocks.now) }
-{
-    let first = relations.before().small();
-    let second = relations.after().small();
-    let (before, after) = (&pair.before, &pair.after);
-    let at_most = compiled.at_most();
-    let states = compiled.states();
-    let Some(before) = image_of::<L>(alloc, compiled, first, before, alphabet, blocks, parents)?
-    else {
+    // There are no more blocks than a `u32` counts.
+    let _blocks = case.blocks.blocks();
+    let parents = paths.parents.as_slice();
+    let first = case.relations.before();
+    let second = case.relations.after();
+    let Some(before) = image_of(alloc, &paths.before, first, parents)? else {
         return Ok(Told::Open);
     };
-    let Some(after) = image_of::<L>(alloc, compiled, second, after, alphabet, blocks, parents)?
-    else {
+    let Some(after) = image_of(alloc, &paths.after, second, parents)? else {
         return Ok(Told::Open);
     };
-    compare(alloc, at_most, &before, &after, states)
+    let at_most = case.compiled.at_most();
+    compare(alloc, at_most, &before, &after, case.compiled.states())
 }
 
-/// The image of the graph's paths under the relation, whose letters are the check's blocks. Its own
-/// letters are `blocks`, which lie in those that `parents` lists. `None` where it is too large.
-fn image_of<L: LabelSet>(
+/// The image of the paths under the relation, where each letter of the paths lies in the letter of
+/// the relation that `parents` lists. `None` where it is too large.
+fn image_of(
     alloc: Global,
-    compiled: &Compiled<'_>,
-    relation: &Transducer<WideSet>,
-    graph: &Graph,
-    alphabet: &Alphabet,
-    blocks: &Partition,
+    paths: &LetterNfa,
+    relation: &Twofold,
     parents: &[u32],
 ) -> Result<Option<LetterNfa>, AllocError>
-    requires alphabet { length alphabet.now ≡ compiled.now.locations }
-    requires placed { All (λ node. symbol_at compiled.now.check.level node < length alphabet.now)
-        graph.now.nodes }
-    requires blocks { AreFiner compiled.now.blocks (length alphabet.now) compiled.now.check.level
-        graph.now graph.now blocks.now }
-    requires letters { relation.now.letters ≡ block_count compiled.now.blocks }
-    requires parents { AreParents compiled.now.blocks blocks.now parents.now }
-    requires fits { L.fits (block_count blocks.now) }
-    ensures words { IfOk result (λ found. ForSome found (ReadsJust blocks.now
-        (ImageOf (Paths graph.now compiled.now.check.level alphabet.now)
-        (Relates (read_by compiled.now.blocks) relation.now)))) }
-    ensures below { IfOk result (λ found. ForSome found (λ image. (word : List ℕ) →
-        Accepts image word → All (λ k. k < block_count blocks.now) word)) }
+    requires few { length parents.now ≤ 2 ^ 32 }
+    ensures image { IfOk result (λ found. ForSome found
+        (IsImageUnder parents.now paths.now relation.now.small)) }
+    ensures machine { IsMachine relation.now.small }
 {
-    // By what each compiled check keeps, its blocks are of its symbols.
-    let _ = compiled.blocks();
-    let level = compiled.level();
-    let paths = short_paths::<L>(alloc, graph, level, alphabet, blocks)?;
-    prove!(relation.start() < relation.states());
-    letter_image(alloc, &paths, relation, parents, MOST_STATES)
+    let small = relation.small();
+    prove!(small.start() < small.states());
+    letter_image(alloc, paths, relation.letters(), parents, MOST_STATES)
 }
 
-/// The row of the offence.
-fn row_of<L: LabelSet>(
+/// The row of the offence, which the image of one side has.
+fn row_of_offence<L: LabelSet>(
     alloc: Global,
-    compiled: &Compiled<'_>,
-    relations: &Relations,
-    pair: &FlowPair,
-    alphabet: &Alphabet,
-    blocks: &Partition,
+    case: &Case<'_, '_>,
+    paths: &BlockPaths,
     offence: &Offence,
 ) -> Result<Row, AllocError>
-    requires alphabet { length alphabet.now ≡ compiled.now.locations }
-    requires located { IsPairLocated alphabet.now compiled.now.check.level pair.now }
-    requires relations { AreRelations compiled.now relations.now }
-    requires blocks { AreFiner compiled.now.blocks (length alphabet.now) compiled.now.check.level
-        pair.now.before pair.now.after blocks.now }
-    requires fits { L.fits (block_count blocks.now) }
-    requires offends { IsFirstOffence compiled.now.check compiled.now.locations
-        (Paths pair.now.before compiled.now.check.level alphabet.now)
-        (Paths pair.now.after compiled.now.check.level alphabet.now) blocks.now
-        offence.now.letters offence.now.side }
-    ensures { IfOk result (RowOf compiled.now.check (length alphabet.now)
-        (paths_of compiled.now.check.level alphabet.now pair.now.before pair.now.after)
-        compiled.now.states) }
+    requires case { IsCase case.now }
+    requires paths { AreBlockPaths case.now paths.now }
+    requires fits { L.fits (block_count case.now.blocks.now) }
+    requires offends { IsFirstOffence case.now.compiled.now.check case.now.compiled.now.locations
+        (paths_in case.now case.now.pair.now.before) (paths_in case.now case.now.pair.now.after)
+        case.now.blocks.now offence.now.letters offence.now.side }
+    ensures { IfOk result (IsRight case.now) }
 {
+    let parents = paths.parents.as_slice();
     match offence.side {
         Side::Before => {
-            let relation = relations.before().small();
-            row_on_side::<L>(
-                alloc,
-                compiled,
-                relation,
-                &pair.before,
-                alphabet,
-                blocks,
-                offence,
-            )
+            let (graph, paths) = (&case.pair.before, &paths.before);
+            let relation = case.relations.before().small();
+            row_with_source::<L>(alloc, case, graph, relation, paths, parents, offence)
         }
         Side::After => {
-            let relation = relations.after().small();
-            row_on_side::<L>(
-                alloc,
-                compiled,
-                relation,
-                &pair.after,
-                alphabet,
-                blocks,
-                offence,
-            )
+            let (graph, paths) = (&case.pair.after, &paths.after);
+            let relation = case.relations.after().small();
+            row_with_source::<L>(alloc, case, graph, relation, paths, parents, offence)
         }
     }
 }
 
-/// The row of an offence, where this is the graph of its side, and the relation that its paths are
-/// seen through. The only error is want of memory.
-fn row_on_side<L: LabelSet>(
+/// The row of an offence with its first source, where these are the graph of its side, the relation
+/// that its paths are seen through, and the automaton of these paths. The only error is want of
+/// memory.
+fn row_with_source<L: LabelSet>(
     alloc: Global,
-    compiled: &Compiled<'_>,
-    relation: &Transducer<WideSet>,
+    case: &Case<'_, '_>,
     graph: &Graph,
-    alphabet: &Alphabet,
-    blocks: &Partition,
+    relation: &Transducer<WideSet>,
+    paths: &LetterNfa,
+    parents: &[u32],
     offence: &Offence,
 ) -> Result<Row, AllocError>
-    requires alphabet { length alphabet.now ≡ compiled.now.locations }
-    requires placed { All (λ node. symbol_at compiled.now.check.level node < length alphabet.now)
-        graph.now.nodes }
-    requires blocks { AreFiner compiled.now.blocks (length alphabet.now) compiled.now.check.level
-        graph.now graph.now blocks.now }
-    requires letters { relation.now.letters ≡ block_count compiled.now.blocks }
-    requires fits { L.fits (block_count blocks.now) }
-    requires below { All (λ k. k < block_count blocks.now) offence.now.letters }
-    requires image { (word : List ℕ) → map (read_by blocks.now) word ≡ offence.now.letters →
-        ImageOf (Paths graph.now compiled.now.check.level alphabet.now)
-        (Relates (read_by compiled.now.blocks) relation.now) word }
-    ensures { IfOk result (TellsFirst blocks.now
-        (Paths graph.now compiled.now.check.level alphabet.now)
-        (Relates (read_by compiled.now.blocks) relation.now) offence.now.letters
+    requires side { IsSeenSide case.now graph.now relation.now offence.now.letters }
+    requires paths { IsReadOver case.now.blocks.now (paths_in case.now graph.now) paths.now }
+    requires parents { AreParents case.now.compiled.now.blocks case.now.blocks.now parents.now }
+    requires fits { L.fits (block_count case.now.blocks.now) }
+    ensures { IfOk result (TellsFirst case.now.blocks.now (paths_in case.now graph.now)
+        (Relates (read_by case.now.compiled.now.blocks) relation.now) offence.now.letters
         offence.now.side) }
 {
-    let level = compiled.level();
-    let coarse = compiled.blocks();
-    let paths = short_paths::<L>(alloc, graph, level, alphabet, blocks)?;
-    let finer = small_relation(alloc, relation, &paths, coarse, blocks)?;
-    row_of_source(alloc, offence, &paths, &finer, blocks)
+    // By what each compiled check keeps, its blocks are of its symbols; and a graph joins its nodes.
+    let _ = case.compiled.blocks();
+    let _ = graph.nodes();
+    let letters = offence.letters.as_slice();
+    match first_source(alloc, paths, relation, parents, letters, MOST_STATES)? {
+        Some(source) => row_of_letters(alloc, offence, source.as_slice(), case.blocks),
+        None => row_with_source_by_sets::<L>(alloc, case, graph, relation, offence),
+    }
+}
+
+/// The row of an offence with its first source, by automata whose edges are labelled by sets of
+/// blocks. The only error is want of memory.
+fn row_with_source_by_sets<L: LabelSet>(
+    alloc: Global,
+    case: &Case<'_, '_>,
+    graph: &Graph,
+    relation: &Transducer<WideSet>,
+    offence: &Offence,
+) -> Result<Row, AllocError>
+    requires side { IsSeenSide case.now graph.now relation.now offence.now.letters }
+    requires fits { L.fits (block_count case.now.blocks.now) }
+    ensures { IfOk result (TellsFirst case.now.blocks.now (paths_in case.now graph.now)
+        (Relates (read_by case.now.compiled.now.blocks) relation.now) offence.now.letters
+        offence.now.side) }
+{
+    let level = case.compiled.level();
+    let coarse = case.compiled.blocks();
+    let paths = short_paths::<L>(alloc, graph, level, case.alphabet, case.blocks)?;
+    let finer = small_relation(alloc, relation, &paths, coarse, case.blocks)?;
+    row_of_source(alloc, offence, &paths, &finer, case.blocks)
 }

@@ -10,22 +10,27 @@ ghost use Rattle.rela_nfa.specs.Runs.{Accepts};
 ghost use Rattle.rela_restriction.specs.Excess.{IsReadAs};
 ghost use Rattle.rela_snapshot.specs.PairsLocated.{IsPairLocated};
 ghost use Rattle.rela_translate.specs.Verdict.{Meets, Offends};
+ghost use Rattle.rela_engine.specs.Case.{IsCase, IsRight};
 ghost use Rattle.rela_engine.specs.Compilation.{AreRelations};
 ghost use Rattle.rela_engine.specs.Differing.{path_symbols_of};
+ghost use Rattle.rela_engine.specs.FlowLetters.{AreLettersOf};
 ghost use Rattle.rela_engine.specs.RowOf.{MayBeOpen, RowOf, words_of};
 ghost use Rattle.rela_engine.specs.Scenes.{paths_of};
 ghost use Rattle.rela_engine.specs.Seen.{AreFiner};
 ghost use Rattle.rela_engine.specs.ToldSides.{HasSources, TellsOfSides, TellsOnSide};
 
 use crate::by_letters::row_by_letters;
+use crate::case::Case;
 use crate::compiled::{Compiled, compile};
 use crate::finer_blocks::{finer_blocks, push_locations};
+use crate::flow_letters::FlowLetters;
 use crate::offence::{Offence, first_offence};
 use crate::relations::Relations;
 use crate::seen::{Form, Seen, see};
 use crate::witnesses::violated_row;
 use rela_graph::{Graph, Node};
 use rela_labels::{BlockSet, LabelSet, Partition, WideSet};
+use rela_letter_paths::LetterPaths;
 use rela_names::{Alphabet, Level, Symbol};
 use rela_nfa::BuildError;
 use rela_report::{Row, Side};
@@ -78,9 +83,9 @@ pub fn decide(
 /// The row of a compiled check for a flow, as [`decide`] gives it. The alphabet is the one that the
 /// check was compiled with.
 ///
-/// Time and space: linear in the nodes and edges of the flow where the check treats both sides
-/// alike and the two graphs look the same; otherwise those of two images and of their comparison,
-/// each of which makes at most `states` states, at most twice.
+/// Time and space: linear in the symbols, and in the nodes and edges of the flow; where the two
+/// graphs don't look the same, or the check doesn't treat both sides alike, also those of two images
+/// and of their comparison, each of which makes at most `states` states, at most twice.
 pub fn decide_compiled(
     alloc: Global,
     compiled: &Compiled<'_>,
@@ -93,6 +98,33 @@ pub fn decide_compiled(
         (paths_of compiled.now.check.level alphabet.now pair.now.before pair.now.after)
         compiled.now.states) }
 {
+    let maker = LetterPaths::new(alloc, alphabet)?;
+    let mut letters = FlowLetters::new();
+    decide_with_letters(alloc, compiled, pair, alphabet, &maker, &mut letters)
+}
+
+/// The row of a compiled check for a flow, as [`decide_compiled`] gives it. The automata of the
+/// flow's paths are taken from `letters` where those of the check's level are there, and else made by
+/// `maker`, which is of the same alphabet, and kept there for the checks that follow.
+///
+/// Time and space: those of [`decide_compiled`], without a step for each symbol.
+pub fn decide_with_letters(
+    alloc: Global,
+    compiled: &Compiled<'_>,
+    pair: &FlowPair,
+    alphabet: &Alphabet,
+    maker: &LetterPaths,
+    letters: &mut FlowLetters,
+) -> Result<Row, AllocError>
+    requires alphabet { length alphabet.now ≡ compiled.now.locations }
+    requires located { IsPairLocated alphabet.now compiled.now.check.level pair.now }
+    requires maker { maker.now ≡ path_symbols alphabet.now }
+    requires letters { AreLettersOf alphabet.now pair.now letters.old }
+    ensures row { IfOk result (RowOf compiled.now.check (length alphabet.now)
+        (paths_of compiled.now.check.level alphabet.now pair.now.before pair.now.after)
+        compiled.now.states) }
+    ensures letters { AreLettersOf alphabet.now pair.now letters.new }
+{
     // Equal outlines don't decide a row that has to be left open.
     let Some(relations) = compiled.relations() else {
         return Ok(Row::Undecided);
@@ -101,7 +133,7 @@ pub fn decide_compiled(
     if met {
         return Ok(Row::Compliant);
     }
-    row_by_automata(alloc, compiled, relations, pair, alphabet)
+    row_by_automata(alloc, compiled, relations, pair, alphabet, maker, letters)
 }
 
 /// Whether the graphs of the flow look the same at the check's level, and the check treats both sides
@@ -197,13 +229,18 @@ fn row_by_automata(
     relations: &Relations,
     pair: &FlowPair,
     alphabet: &Alphabet,
+    maker: &LetterPaths,
+    letters: &mut FlowLetters,
 ) -> Result<Row, AllocError>
     requires alphabet { length alphabet.now ≡ compiled.now.locations }
     requires located { IsPairLocated alphabet.now compiled.now.check.level pair.now }
     requires relations { AreRelations compiled.now relations.now }
-    ensures { IfOk result (RowOf compiled.now.check (length alphabet.now)
+    requires maker { maker.now ≡ path_symbols alphabet.now }
+    requires letters { AreLettersOf alphabet.now pair.now letters.old }
+    ensures row { IfOk result (RowOf compiled.now.check (length alphabet.now)
         (paths_of compiled.now.check.level alphabet.now pair.now.before pair.now.after)
         compiled.now.states) }
+    ensures letters { AreLettersOf alphabet.now pair.now letters.new }
 {
     let blocks = finer_blocks(
         alloc,
@@ -213,37 +250,42 @@ fn row_by_automata(
         &pair.before,
         &pair.after,
     )?;
-    by_width!(
-        blocks.blocks(),
-        row_over(alloc, compiled, relations, pair, alphabet, &blocks)
-    )
+    let case = Case {
+        compiled,
+        relations,
+        pair,
+        alphabet,
+        blocks: &blocks,
+    };
+    by_width!(blocks.blocks(), row_over(alloc, &case, maker, letters))
 }
 
-/// The row, by automata whose letters are these blocks. Those with one letter on each edge are the
-/// fastest, and decide nearly every row; only where they don't, automata do whose edges are labelled
-/// by sets.
+/// The row of the case. Automata with one letter on each edge are the fastest, and decide nearly every
+/// row; only where they don't, automata do whose edges are labelled by sets.
 fn row_over<L: LabelSet>(
     alloc: Global,
-    compiled: &Compiled<'_>,
-    relations: &Relations,
-    pair: &FlowPair,
-    alphabet: &Alphabet,
-    blocks: &Partition,
+    case: &Case<'_, '_>,
+    maker: &LetterPaths,
+    letters: &mut FlowLetters,
 ) -> Result<Row, AllocError>
-    requires alphabet { length alphabet.now ≡ compiled.now.locations }
-    requires located { IsPairLocated alphabet.now compiled.now.check.level pair.now }
-    requires relations { AreRelations compiled.now relations.now }
-    requires blocks { AreFiner compiled.now.blocks (length alphabet.now) compiled.now.check.level
-        pair.now.before pair.now.after blocks.now }
-    requires fits { L.fits (block_count blocks.now) }
-    ensures { IfOk result (RowOf compiled.now.check (length alphabet.now)
-        (paths_of compiled.now.check.level alphabet.now pair.now.before pair.now.after)
-        compiled.now.states) }
+    requires case { IsCase case.now }
+    requires maker { maker.now ≡ path_symbols case.now.alphabet.now }
+    requires letters { AreLettersOf case.now.alphabet.now case.now.pair.now letters.old }
+    requires fits { L.fits (block_count case.now.blocks.now) }
+    ensures row { IfOk result (IsRight case.now) }
+    ensures letters { AreLettersOf case.now.alphabet.now case.now.pair.now letters.new }
 {
-    match row_by_letters::<L>(alloc, compiled, relations, pair, alphabet, blocks)? {
-        Some(row) => Ok(row),
-        None => row_by_sets::<L>(alloc, compiled, relations, pair, alphabet, blocks),
+    if let Some(row) = row_by_letters::<L>(alloc, case, maker, letters)? {
+        return Ok(row);
     }
+    row_by_sets::<L>(
+        alloc,
+        case.compiled,
+        case.relations,
+        case.pair,
+        case.alphabet,
+        case.blocks,
+    )
 }
 
 /// The row, by automata whose edges are labelled by sets of these blocks. Only where small ones pass

@@ -4,12 +4,15 @@
 
 mod assertion;
 mod automaton_lines;
+mod block_paths;
 mod blocks;
 mod by_letters;
+mod case;
 mod compiled;
 mod decision;
 mod differing;
 mod finer_blocks;
+mod flow_letters;
 mod flow_paths;
 mod leaf;
 mod letter_offence;
@@ -34,7 +37,8 @@ mod zone_laws;
 
 pub use assertion::decide_assertion;
 pub use compiled::{Compiled, compile};
-pub use decision::{decide, decide_compiled};
+pub use decision::{decide, decide_compiled, decide_with_letters};
+pub use flow_letters::FlowLetters;
 pub use leaf::Leaf;
 pub use row_laws::{TwoPathSets, rows_carry_over};
 pub use symbol_laws::{symbols_in_path_terms, symbols_in_rel_terms};

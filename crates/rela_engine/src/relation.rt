@@ -48,7 +48,8 @@ pub(crate) fn relation_of(
 {
     let plain = plain_relation(alloc, term, letters, complements, limit)?;
     let small = small_relation(alloc, &plain, letters.partition())?;
-    Ok(Twofold::new(plain, small))
+    let relation = Twofold::new(alloc, plain, small)?;
+    Ok(relation)
 }
 
 /// The transducer of the term as it is built, with these complements under the limit. Errors are those
@@ -80,7 +81,7 @@ fn plain_relation(
     builder.transducer(alloc, term, &mut notes)
 }
 
-/// A relation of more states than this is kept once. Its states are nearly all those of complements, of
+/// A relation of more states than this is one transducer. Its states are nearly all those of complements, of
 /// which few are met beside the paths of a flow, and each state of a transducer takes some hundred bytes.
 const MOST_TWICE: usize = 8_192;
 

@@ -1,18 +1,24 @@
 //! The relations of a compiled check.
-ghost use Rattle.std.specs.Prelude.{◌≡◌};
+ghost use Rattle.std.specs.Prelude.{◌≡◌, IfOk};
 ghost use Rattle.std.specs.Option.{unwrap_or};
+ghost use Rattle.rela_engine.specs.Compilation.{RelateAlike};
 
 use rela_labels::WideSet;
+use rela_letter_image::LetterRelation;
 use rela_trans::Transducer;
+use std::alloc::{AllocError, Global};
 use std::marker::Model;
 
 /// A relation twice. Both transducers have the same pairs. Contracts see it as a `Twofold`, with both of
 /// them.
 #[derive(Drop)]
 pub(crate) struct Twofold {
+    /// The relation as it was built of its term.
     plain: Transducer<WideSet>,
-    // none where the plain one serves for many walks too
+    /// The relation made small; `None` where the plain one serves for many walks too.
     small: Option<Transducer<WideSet>>,
+    /// The small one, laid out for images that are made letter by letter.
+    letters: LetterRelation,
 }
 
 impl Model for Twofold {
@@ -22,14 +28,29 @@ impl Model for Twofold {
     ghost Value = { kept.Twofold };
 
     ghost view = { λ r. record { plain = r.plain; small = unwrap_or r.small r.plain } };
+
+    ghost invariant = { λ r. kept.RelateAlike r.letters (unwrap_or r.small r.plain) };
 }
 
 impl Twofold {
     /// The relation as it was built, and made small. Where no small one is given, the other serves for it.
-    pub(crate) fn new(plain: Transducer<WideSet>, small: Option<Transducer<WideSet>>) -> Twofold
-        ensures { result ≡ record { plain = plain; small = unwrap_or small plain } }
+    /// The only error is want of memory.
+    ///
+    /// Time and space: those of a relation by letters.
+    pub(crate) fn new(
+        alloc: Global,
+        plain: Transducer<WideSet>,
+        small: Option<Transducer<WideSet>>,
+    ) -> Result<Twofold, AllocError>
+        ensures { IfOk result (λ made.
+            made ≡ record { plain = plain; small = unwrap_or small plain }) }
     {
-        Twofold { plain, small }
+        let letters = by_letters(alloc, &plain, &small)?;
+        Ok(Twofold {
+            plain,
+            small,
+            letters,
+        })
     }
 
     /// The relation as it was built of its term: each state stands for places of the term.
@@ -47,6 +68,28 @@ impl Twofold {
             Some(small) => small,
             None => &self.plain,
         }
+    }
+
+    /// The small relation, as images are made by it letter by letter.
+    pub(crate) fn letters(&self) -> &LetterRelation
+        ensures { RelateAlike result.now self.now.small }
+    {
+        &self.letters
+    }
+}
+
+/// The relation by letters, of the small transducer, or of the plain one where there is none. The only
+/// error is want of memory.
+fn by_letters(
+    alloc: Global,
+    plain: &Transducer<WideSet>,
+    small: &Option<Transducer<WideSet>>,
+) -> Result<LetterRelation, AllocError>
+    ensures { IfOk result (λ made. RelateAlike made (unwrap_or small.now plain.now)) }
+{
+    match small {
+        Some(small) => LetterRelation::new(alloc, small),
+        None => LetterRelation::new(alloc, plain),
     }
 }
 

@@ -2,6 +2,7 @@
 ghost use Rattle.std.specs.Prelude.{◌≡◌, ◌<◌, ℕ, List, IfOk, All};
 ghost use Rattle.rela_labels.specs.Partition.{IsPartition, block_count};
 ghost use Rattle.rela_nfa.specs.Automaton.{IsAutomaton};
+ghost use Rattle.rela_engine.specs.LetterImages.{TellsSource};
 ghost use Rattle.rela_engine.specs.Seen.{AreLeast, IsSource, IsFirstSource, TellsOf};
 
 use crate::offence::Offence;
@@ -56,6 +57,25 @@ pub(crate) fn row_of_source<L: LabelSet>(
         word: least_symbols(alloc, blocks, letters)?,
         side: offence.side,
         source: first_source(alloc, paths, relation, letters, blocks)?,
+    })
+}
+
+/// The row of an offence with this source, whose letters are blocks too: the first words of symbols
+/// with these letters. The only error is want of memory.
+pub(crate) fn row_of_letters(
+    alloc: Global,
+    offence: &Offence,
+    source: &[u32],
+    blocks: &Partition,
+) -> Result<Row, AllocError>
+    requires below { All (λ k. k < block_count blocks.now) offence.now.letters }
+    requires source_below { All (λ k. k < block_count blocks.now) source.now }
+    ensures { IfOk result (TellsSource blocks.now offence.now.letters offence.now.side source.now) }
+{
+    Ok(Row::Violated {
+        word: least_symbols(alloc, blocks, offence.letters.as_slice())?,
+        side: offence.side,
+        source: least_symbols(alloc, blocks, source)?,
     })
 }
 

@@ -10,13 +10,10 @@ use Rattle.rela_pairs.specs.Places.{Fits}
 use Rattle.rela_pairs.specs.declared.shape.Shape.{Shape}
 use Rattle.rela_pairs.specs.declared.pair.Pair.{Pair}
 use Rattle.rela_trans.specs.Machine.{Machine, moves_of}
-use Rattle.rela_trans.specs.Stored.{kind_of}
 use Rattle.rela_trans.specs.declared.moves.Move.{Move}
-use Rattle.rela_trans.specs.declared.moves.MoveKind.{MoveKind}
-use Rattle.rela_trans.specs.declared.moves.MoveKind.TheVariants.{Silent, In, Out, Same}
 use Rattle.rela_letter_image.specs.Growth.{Growth, HasEnd, Stand, Grows, IsFoundIn, edge_to, with_parts}
 use Rattle.rela_letter_nfa.specs.declared.edge.LetterEdge.{LetterEdge}
-use Rattle.rela_letter_image.specs.Steps.{JointStep, alone_by, alone_steps, edge_steps, read_by, silent_steps, step_if, step_to, steps_from}
+use Rattle.rela_letter_image.specs.Steps.{JointStep, alone_steps, edge_steps, silent_steps, step_if, step_to, steps_from}
 use Rattle.rela_letter_image.proofs.StepsGo.{Contains-nil, Contains-cons_cases, first_in}
 
 -- a pair keeps its number where more are found
@@ -241,21 +238,6 @@ module _ (test : ℕ → Bool) (y : Pair) where
       same : (b : Bool) → slice_get (if b then with_parts h (with_edge h.parts (edge_to n q)) else h).pairs q ≡ slice_get h.pairs q
       same true = refl
       same false = refl
-
--- ---- moves by which nothing is added
-
-module _ {L : Type 0} (letters : L → List Bool) (kind : MoveKind L) (to : Pair) (g : Growth) where
-  pub reads_alone : (coarse : List ℕ) → ((set : L) × (kind ≡ In set)) ⊎ ((set : L) × (kind ≡ Same set)) → Grows (alone_by coarse (kind_of letters kind) to) g g
-  reads_alone coarse which = elim which [
-    | inl in_set ↦ subst (λ k. Grows (alone_by coarse (kind_of letters k) to) g g) (sym in_set.1) (grows_none g)
-    | inr same ↦ subst (λ k. Grows (alone_by coarse (kind_of letters k) to) g g) (sym same.1) (grows_none g)
-  ]
-
-  pub reads_nothing : (coarse letter : ℕ) → (kind ≡ Silent) ⊎ ((set : L) × (kind ≡ Out set)) → Grows (read_by coarse letter (kind_of letters kind) to) g g
-  reads_nothing coarse letter which = elim which [
-    | inl silent ↦ subst (λ k. Grows (read_by coarse letter (kind_of letters k) to) g g) (sym silent) (grows_none g)
-    | inr out ↦ subst (λ k. Grows (read_by coarse letter (kind_of letters k) to) g g) (sym out.1) (grows_none g)
-  ]
 
 -- ---- all steps from a pair
 

@@ -1,8 +1,9 @@
 mod BuiltStates
 mod CopiedStates
 mod GrownSteps
-mod ImageWords
 mod LetterWords
 mod ProductWords
 mod Spelling
 mod StepsGo
+mod LaidOut
+mod Laying

@@ -1,5 +1,6 @@
 pub mod ByLetters
 pub mod Coarse
 pub mod Growth
+pub mod LetterMoves
 pub mod Product
 pub mod Steps

@@ -1,5 +1,5 @@
 -- The steps by which an automaton and a transducer that reads its words leave a pair of states, as a list.
-use Rattle.std.specs.Prelude.{ℕ, Bool, List, [], ◌∷◌, ◌++◌, map, Option, None, Some, if◌then◌else◌}
+use Rattle.std.specs.Prelude.{ℕ, Bool, List, [], ◌∷◌, ◌++◌, map, nat_eq, Option, None, Some, if◌then◌else◌}
 use Rattle.std.specs.List.{flat_map}
 use Rattle.rela_labels.specs.Letters.{has}
 use Rattle.rela_pairs.specs.declared.pair.Pair.{Pair}
@@ -7,6 +7,9 @@ use Rattle.rela_nfa.specs.Meeting.{pair_of}
 use Rattle.rela_letter_image.specs.Coarse.{coarse_of, fine_letters}
 use Rattle.rela_letter_nfa.specs.declared.edge.LetterEdge.{LetterEdge}
 use Rattle.rela_letter_nfa.specs.LetterAutomaton.{LetterAutomaton, silents_of, edges_of}
+use Rattle.rela_letter_image.specs.declared.letter_moves.LetterMove.{LetterMove}
+use Rattle.rela_letter_image.specs.declared.letter_moves.StateMoves.{StateMoves}
+use Rattle.rela_letter_image.specs.LetterMoves.{set_move}
 use Rattle.rela_trans.specs.Machine.{Machine, Kind, moves_of}
 use Rattle.rela_trans.specs.declared.moves.Move.{Move}
 use Rattle.rela_trans.specs.declared.moves.MoveKind.TheVariants.{Silent, In, Out, Same}
@@ -46,6 +49,20 @@ alone_steps coarse left moves = flat_map (λ m. alone_by coarse m.kind (pair_of 
 
 abbrev pub read_steps : ℕ → LetterEdge → List (Move (List Bool)) → List JointStep
 read_steps c edge moves = flat_map (λ m. read_by c edge.letter m.kind (pair_of edge.to m.to)) moves
+
+-- the letter that is written where k is read
+abbrev pub written_by : ℕ → Bool → Option ℕ
+written_by k writes = if writes then Some k else None
+
+-- what both do by moves each of which reads one letter
+abbrev pub letter_steps : ℕ → LetterEdge → List LetterMove → List JointStep
+letter_steps c edge moves = flat_map (λ m. step_if (nat_eq m.letter c)
+    (step_to (written_by edge.letter m.writes) (pair_of edge.to m.to))) moves
+
+-- what both do by the moves of a state
+abbrev pub laid_out_steps : ℕ → LetterEdge → StateMoves → List JointStep
+laid_out_steps c edge state = read_steps c edge (map set_move state.by_set.items)
+    ++ letter_steps c edge state.by_letter.items
 
 abbrev pub edge_steps : ℕ → List ℕ → List (Move (List Bool)) → List LetterEdge → List JointStep
 edge_steps letters coarse moves edges = flat_map (λ e.

@@ -2,11 +2,16 @@
 //! one letter on each edge. A want of memory is told as `AllocError` or as `BuildError::Memory`.
 #![tactic(auto)]
 
-mod by_letters;
 mod counted;
 mod found;
 mod growing;
 mod imaging;
+mod laying_out;
+mod letter_by_letter;
+mod letter_moves;
+mod letter_relation;
 mod product;
 
 pub use imaging::letter_image;
+pub use letter_by_letter::by_letters;
+pub use letter_relation::LetterRelation;

@@ -1,22 +1,23 @@
 //! What an automaton and a transducer that reads its words do together, as one automaton.
-ghost use Rattle.std.specs.Prelude.{◌≡◌, ◌<◌, ◌≤◌, ◌↔◌, ◌^◌, ◌∷◌, List, None, Some, IsTrue, IfOk, OnOk, length, map, if◌then◌else◌};
+ghost use Rattle.std.specs.Prelude.{◌≡◌, ◌<◌, ◌≤◌, ◌↔◌, ◌^◌, [], ◌∷◌, List, None, Some, IsTrue, IfOk, OnOk, length, map, nat_eq, if◌then◌else◌};
 ghost use Rattle.std.specs.List.{All};
 ghost use Rattle.rela_letter_nfa.specs.LetterAutomaton.{IsFinal, states, with_edge};
 ghost use Rattle.rela_nfa.specs.Meeting.{pair_of};
 ghost use Rattle.rela_pairs.specs.Places.{Fits};
 ghost use Rattle.rela_pairs.specs.declared.pair.Pair.{Pair};
 ghost use Rattle.rela_trans.specs.Machine.{machine_states, IsFinal as IsFinalMachine};
-ghost use Rattle.rela_trans.specs.Stored.{kind_of, move_of};
 ghost use Rattle.rela_letter_image.specs.Coarse.{coarse_of, fine_letters};
 ghost use Rattle.rela_letter_image.specs.Growth.{AddsState, Grows, edge_to, with_parts};
+ghost use Rattle.rela_letter_image.specs.LetterMoves.{AreLettersOf, LeadBelow, all_moves, alone_move, reading, set_move, writing};
 ghost use Rattle.rela_letter_image.specs.Product.{IsProduct};
-ghost use Rattle.rela_letter_image.specs.Steps.{step_to, step_if, silent_steps, alone_by, alone_steps, read_by, read_steps, edge_steps, steps_from};
+ghost use Rattle.rela_letter_image.specs.Steps.{step_to, step_if, silent_steps, alone_by, alone_steps, read_by, read_steps, letter_steps, laid_out_steps, written_by, edge_steps, steps_from};
 
 use crate::growing::Growing;
-use rela_labels::LabelSet;
+use crate::letter_moves::{AloneMove, LetterMove, SetMove, StateMoves};
+use crate::letter_relation::LetterRelation;
+use rela_labels::{LabelSet, WideSet};
 use rela_letter_nfa::{LetterEdge, LetterNfa};
 use rela_pairs::{BuildError, Pair, Shape};
-use rela_trans::{Move, MoveKind, Transducer};
 use std::alloc::Global;
 
 /// The coarse letter of a fine one; that of a letter past the list is `letters`, their number.
@@ -46,46 +47,49 @@ fn add_edge_if(
     Ok(())
 }
 
-/// Adds an edge by the letter to the pair, if it is to be added.
-fn add_read_letter(
+/// Adds what both do by an edge of this letter and a move that reads it, to the pair.
+fn add_read(growing: &mut Growing, letter: u32, writes: bool, to: Pair) -> Result<(), BuildError>
+    requires { Fits growing.old.shape to }
+    ensures { OnOk result (Grows (step_to (written_by letter writes) to ∷ [])
+        growing.old growing.new) }
+{
+    if writes {
+        growing.add_edge(letter, to)
+    } else {
+        growing.add_silent(to)
+    }
+}
+
+/// Adds what both do by an edge of this letter and a move to the pair, if the move reads it.
+fn add_read_if(
     growing: &mut Growing,
-    is_added: bool,
+    is_read: bool,
     letter: u32,
+    writes: bool,
     to: Pair,
 ) -> Result<(), BuildError>
     requires { Fits growing.old.shape to }
-    ensures { OnOk result (Grows (step_if is_added (step_to (Some letter) to))
+    ensures { OnOk result (Grows (step_if is_read (step_to (written_by letter writes) to))
         growing.old growing.new) }
 {
-    if is_added {
-        return growing.add_edge(letter, to);
-    }
-    Ok(())
-}
-
-/// Adds a silent step to the pair, if it is to be added.
-fn add_silent_if(growing: &mut Growing, is_added: bool, to: Pair) -> Result<(), BuildError>
-    requires { Fits growing.old.shape to }
-    ensures { OnOk result (Grows (step_if is_added (step_to None to)) growing.old growing.new) }
-{
-    if is_added {
-        return growing.add_silent(to);
+    if is_read {
+        return add_read(growing, letter, writes, to);
     }
     Ok(())
 }
 
 /// Adds an edge to the pair by each fine letter whose coarse letter is in the set. Time: a step for
 /// each fine letter.
-fn add_written<M: LabelSet>(
+fn add_written(
     growing: &mut Growing,
-    set: &M,
+    set: &WideSet,
     coarse: &[u32],
     to: Pair,
 ) -> Result<(), BuildError>
     requires few { length coarse.now ≤ 2 ^ 32 }
     requires fits { Fits growing.old.shape to }
     ensures { OnOk result (Grows (map (λ k. step_to (Some k) to)
-        (fine_letters coarse.now (M.letters set.now))) growing.old growing.new) }
+        (fine_letters coarse.now set.now)) growing.old growing.new) }
 {
     let number = growing.number(to)?;
     for (letter, coarse_letter) in coarse.iter().enumerate() {
@@ -94,40 +98,39 @@ fn add_written<M: LabelSet>(
     Ok(())
 }
 
-/// Adds what the transducer does alone by the move: it reads nothing.
-fn add_alone<M: LabelSet>(
+/// Adds what the transducer does alone by the move.
+fn add_alone(
     growing: &mut Growing,
-    step: &Move<M>,
+    step: &AloneMove,
     left: usize,
     coarse: &[u32],
 ) -> Result<(), BuildError>
     requires few { length coarse.now ≤ 2 ^ 32 }
     requires fits { Fits growing.old.shape (pair_of left step.now.to) }
-    ensures { OnOk result (Grows (alone_by coarse.now (kind_of M.letters step.now.kind)
+    ensures { OnOk result (Grows (alone_by coarse.now (writing step.now.written)
         (pair_of left step.now.to)) growing.old growing.new) }
 {
     let to = Pair {
         left,
         right: step.to,
     };
-    match &step.kind {
-        MoveKind::Silent => growing.add_silent(to),
-        MoveKind::Out(set) => add_written(growing, set, coarse, to),
-        MoveKind::In(_) | MoveKind::Same(_) => Ok(()),
+    match &step.written {
+        None => growing.add_silent(to),
+        Some(set) => add_written(growing, set, coarse, to),
     }
 }
 
 /// Adds what the transducer does alone by the moves.
-fn add_moves<M: LabelSet>(
+fn add_moves(
     growing: &mut Growing,
-    moves: &[Move<M>],
+    moves: &[AloneMove],
     left: usize,
     coarse: &[u32],
 ) -> Result<(), BuildError>
     requires few { length coarse.now ≤ 2 ^ 32 }
     requires left { left < growing.old.shape.lefts }
     requires rights { All (λ step. step.to < growing.old.shape.rights) moves.now }
-    ensures { OnOk result (Grows (alone_steps coarse.now left (map (move_of M.letters) moves.now))
+    ensures { OnOk result (Grows (alone_steps coarse.now left (map alone_move moves.now))
         growing.old growing.new) }
 {
     for step in moves {
@@ -136,59 +139,114 @@ fn add_moves<M: LabelSet>(
     Ok(())
 }
 
-/// Adds what both do by the edge and the move, where the move reads the edge's letter, whose coarse
-/// letter is `coarse`.
-fn add_read<M: LabelSet>(
+/// Adds what both do by the edge and the move, if the move's set has the coarse letter of the edge,
+/// which is `coarse`.
+fn add_by_set(
     growing: &mut Growing,
     edge: LetterEdge,
     coarse: u32,
-    step: &Move<M>,
+    step: &SetMove,
 ) -> Result<(), BuildError>
     requires { Fits growing.old.shape (pair_of edge.to step.now.to) }
-    ensures { OnOk result (Grows (read_by coarse edge.letter (kind_of M.letters step.now.kind)
+    ensures { OnOk result (Grows (read_by coarse edge.letter (reading step.now.set step.now.writes)
         (pair_of edge.to step.now.to)) growing.old growing.new) }
 {
     let to = Pair {
         left: edge.to as usize,
         right: step.to,
     };
-    match &step.kind {
-        MoveKind::In(set) => add_silent_if(growing, set.contains(coarse), to),
-        MoveKind::Same(set) => { add_read_letter(growing, set.contains(coarse), edge.letter, to) }
-        MoveKind::Silent | MoveKind::Out(_) => Ok(()),
-    }
+    add_read_if(
+        growing,
+        step.set.contains(coarse),
+        edge.letter,
+        step.writes,
+        to,
+    )
 }
 
-/// Adds what both do by the edge, whose letter's coarse letter is `coarse`, and one of the moves.
-fn add_edge_moves<M: LabelSet>(
+/// Adds what both do by the edge, whose coarse letter is `coarse`, and one of the moves.
+fn add_by_sets(
     growing: &mut Growing,
     edge: LetterEdge,
     coarse: u32,
-    moves: &[Move<M>],
+    moves: &[SetMove],
 ) -> Result<(), BuildError>
     requires left { edge.to < growing.old.shape.lefts }
     requires rights { All (λ step. step.to < growing.old.shape.rights) moves.now }
-    ensures { OnOk result (Grows (read_steps coarse edge (map (move_of M.letters) moves.now))
+    ensures { OnOk result (Grows (read_steps coarse edge (map set_move moves.now))
         growing.old growing.new) }
 {
     for step in moves {
-        add_read(growing, edge, coarse, step)?;
+        add_by_set(growing, edge, coarse, step)?;
     }
     Ok(())
 }
 
+/// Adds what both do by the edge and the move, if the move's letter is the coarse letter of the
+/// edge, which is `coarse`.
+fn add_by_letter(
+    growing: &mut Growing,
+    edge: LetterEdge,
+    coarse: u32,
+    step: LetterMove,
+) -> Result<(), BuildError>
+    requires { Fits growing.old.shape (pair_of edge.to step.to) }
+    ensures { OnOk result (Grows (step_if (nat_eq step.letter coarse)
+        (step_to (written_by edge.letter step.writes) (pair_of edge.to step.to)))
+        growing.old growing.new) }
+{
+    let to = Pair {
+        left: edge.to as usize,
+        right: step.to,
+    };
+    add_read_if(growing, step.letter == coarse, edge.letter, step.writes, to)
+}
+
+/// Adds what both do by the edge, whose coarse letter is `coarse`, and one of the moves.
+fn add_by_letters(
+    growing: &mut Growing,
+    edge: LetterEdge,
+    coarse: u32,
+    moves: &[LetterMove],
+) -> Result<(), BuildError>
+    requires left { edge.to < growing.old.shape.lefts }
+    requires rights { All (λ step. step.to < growing.old.shape.rights) moves.now }
+    ensures { OnOk result (Grows (letter_steps coarse edge moves.now) growing.old growing.new) }
+{
+    for step in moves {
+        add_by_letter(growing, edge, coarse, *step)?;
+    }
+    Ok(())
+}
+
+/// Adds what both do by the edge, whose coarse letter is `coarse`, and one of the state's moves.
+fn add_edge_moves(
+    growing: &mut Growing,
+    edge: LetterEdge,
+    coarse: u32,
+    moves: &StateMoves,
+) -> Result<(), BuildError>
+    requires left { edge.to < growing.old.shape.lefts }
+    requires rights { LeadBelow growing.old.shape.rights moves.now }
+    ensures { OnOk result (Grows (laid_out_steps coarse edge moves.now) growing.old growing.new) }
+{
+    add_by_sets(growing, edge, coarse, &moves.by_set)?;
+    add_by_letters(growing, edge, coarse, &moves.by_letter)
+}
+
 /// Adds what both do by one of the edges and one of the moves, of a transducer with this number of
 /// letters.
-fn add_edges<M: LabelSet>(
+fn add_edges(
     growing: &mut Growing,
     edges: &[LetterEdge],
     letters: u32,
     coarse: &[u32],
-    moves: &[Move<M>],
+    moves: &StateMoves,
 ) -> Result<(), BuildError>
     requires lefts { All (λ edge. edge.to < growing.old.shape.lefts) edges.now }
-    requires rights { All (λ step. step.to < growing.old.shape.rights) moves.now }
-    ensures { OnOk result (Grows (edge_steps letters coarse.now (map (move_of M.letters) moves.now)
+    requires rights { LeadBelow growing.old.shape.rights moves.now }
+    requires below { AreLettersOf letters moves.now }
+    ensures { OnOk result (Grows (edge_steps letters coarse.now (all_moves letters moves.now)
         edges.now) growing.old growing.new) }
 {
     for edge in edges {
@@ -211,12 +269,12 @@ fn add_silents(growing: &mut Growing, ends: &[u32], right: usize) -> Result<(), 
     Ok(())
 }
 
-/// Adds what the two do from the pair. Time: the product of the numbers of edges and moves that
-/// leave its two states, and a step for each fine letter for each move that writes alone.
-fn add_steps<M: LabelSet>(
+/// Adds what the two do from the pair. Time: the product of the numbers of edges and of moves that
+/// read, and a step for each fine letter for each move that writes alone.
+fn add_steps(
     growing: &mut Growing,
     paths: &LetterNfa,
-    relation: &Transducer<M>,
+    relation: &LetterRelation,
     coarse: &[u32],
     pair: Pair,
 ) -> Result<(), BuildError>
@@ -232,7 +290,7 @@ fn add_steps<M: LabelSet>(
     let left = pair.left as u32;
     let moves = relation.moves(pair.right);
     add_silents(growing, paths.silent(left), pair.right)?;
-    add_moves(growing, moves, pair.left, coarse)?;
+    add_moves(growing, &moves.alone, pair.left, coarse)?;
     add_edges(
         growing,
         paths.edges(left),
@@ -243,7 +301,7 @@ fn add_steps<M: LabelSet>(
 }
 
 /// Whether both states of the pair are final.
-fn is_final_pair<M: LabelSet>(paths: &LetterNfa, relation: &Transducer<M>, pair: Pair) -> bool
+fn is_final_pair(paths: &LetterNfa, relation: &LetterRelation, pair: Pair) -> bool
     requires left { pair.left < states paths.now }
     requires right { pair.right < machine_states relation.now }
     requires small { pair.left < 2 ^ 32 }
@@ -254,10 +312,10 @@ fn is_final_pair<M: LabelSet>(paths: &LetterNfa, relation: &Transducer<M>, pair:
 }
 
 /// Builds the state of the pair: what the two do from it, and whether it is final.
-fn add_state<M: LabelSet>(
+fn add_state(
     growing: &mut Growing,
     paths: &LetterNfa,
-    relation: &Transducer<M>,
+    relation: &LetterRelation,
     coarse: &[u32],
     pair: Pair,
 ) -> Result<(), BuildError>
@@ -285,10 +343,10 @@ fn add_state<M: LabelSet>(
 /// - `Limit` where it would have more than `most` states or more than `most` edges and silent
 ///   steps.
 /// - `Memory` where there isn't memory for it.
-pub(crate) fn product<M: LabelSet>(
+pub(crate) fn product(
     alloc: Global,
     paths: &LetterNfa,
-    relation: &Transducer<M>,
+    relation: &LetterRelation,
     coarse: &[u32],
     most: usize,
 ) -> Result<LetterNfa, BuildError>

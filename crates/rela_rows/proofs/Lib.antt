@@ -7,3 +7,4 @@ pub mod VerdictLaws
 pub mod AgreeLaws
 pub mod OneShape
 pub mod SameAsked
+pub mod Deciding

@@ -1,9 +1,9 @@
 -- Flows of one shape, and the checks that they meet alike.
-use Rattle.std.proofs.Common.{◌≡◌, ◌∙◌, ℕ, ◌<◌, ◌≤◌, ◌↔◌, Bool, true, false, List, length, get_or, Option, inl, inr, refl, sym, subst, arith}
+use Rattle.std.proofs.Common.{◌≡◌, ◌∙◌, ℕ, ◌<◌, ◌≤◌, ◌↔◌, Bool, true, false, List, [], length, get_or, Option, inl, inr, refl, sym, subst, arith}
 use Rattle.std.specs.Prelude.{cond, slice_get, IsSomeAnd, nat_eq}
 use Rattle.std.specs.HashSet.{HashSet, contains}
-use Rattle.std.specs.List.{All}
-use Rattle.std.proofs.lemmas.Bool.{and_parts, cases_Bool, cond-false, eqb-true}
+use Rattle.std.specs.List.{All, list_any}
+use Rattle.std.proofs.lemmas.Bool.{and_parts, cases_Bool, cond-false, eqb-true, false≢true}
 use Rattle.std.proofs.lemmas.List.Elements.{All-append, All-map}
 use Rattle.std.proofs.lemmas.Option.{slice_get_read}
 use Rattle.rela_build.specs.Reading.{read_by}
@@ -129,6 +129,11 @@ module _ {S : Type 0} (names : List (List ℕ)) (compiled : List Compilation) wh
   met_at met check shape by kept inside by_is has =
       subst (λ (o : Option Compilation). IsSomeAnd o (λ (c : Compilation). IsMetShape names c shape)) (slice_get_read compiled (length compiled) check by refl inside by_is)
       (kept check shape has)
+
+  -- there are none in a set without keys
+  pub shapes_none : (met : HashSet (ℕ × Shape) S) → met.keys ≡ [] → AreMetShapes names compiled met
+  shapes_none met none check shape has =
+      absurd (false≢true (subst (λ (keys : List (ℕ × Shape)). list_any (same_entry (check, shape)) keys ≡ true) none has))
 
   -- one more
   pub shapes_more : (old new : HashSet (ℕ × Shape) S) (check : ℕ) (shape : Shape) (by : Compilation) (pair : FlowPair) → AreMetShapes names compiled old

@@ -24,6 +24,12 @@ located_at names pairs compiled flow check pair by all flow_inside check_inside 
     subst (λ (p : FlowPair). IsPairLocated names by.check.level p) (sym pair_is)
     (subst (λ (c : Compiled). IsPairLocated names c.check.level (get_or pairs flow pair)) (sym by_is) here)
 
+-- and so do those of all flows
+pub all_located : (names : List (List ℕ)) (pairs : List FlowPair) (compiled : List Compiled) (check : ℕ) (by : Compiled)
+    → All (λ c. ArePairsLocated names c.check.level pairs) compiled → check < length compiled → by ≡ get_or compiled check by
+    → ArePairsLocated names by.check.level pairs
+all_located names pairs compiled check by all inside by_is = subst (λ (c : Compiled). ArePairsLocated names c.check.level pairs) (sym by_is) (all check by inside)
+
 -- the row of a flow alone
 pub alone_row : (names : List (List ℕ)) (checks : List Check) (compiled : List Compiled) (pairs : List FlowPair) (flow : ℕ) (pair : FlowPair) (name : List ℕ) (row : PlannedRow)
     → row ≡ planned.Unselected flow → flow < length pairs → pair ≡ get_or pairs flow pair → name ≡ pair.class.name

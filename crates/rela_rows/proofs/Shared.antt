@@ -24,7 +24,7 @@ use Rattle.rela_rows.proofs.SameAsked.{asks_there, check_of, row_of_same}
 use Rattle.rela_same_checks.specs.SameChecks.{AreAskedAt, AskTheSame}
 use Rattle.rela_translate.specs.Checked.{Checked as Check}
 use Rattle.rela_plan.specs.Alike.{look_of, LooksAs, AreAlike}
-use Rattle.rela_rows.specs.Sharing.{IsVerdict, IsVerdictOf, IsRowBy, same_numbers, AreVerdicts}
+use Rattle.rela_rows.specs.Sharing.{IsVerdict, IsVerdictOf, IsVerdictOn, IsRowBy, same_numbers, AreVerdicts}
 
 -- what `==` calls equal is equal
 equal_numbers : (x y : ℕ × ℕ) → same_numbers x y ≡ true → x ≡ y
@@ -69,6 +69,11 @@ verdicts_more names compiled pairs old new flow check row kept right updates f c
     entries_more same_numbers equal_numbers (λ q v. IsVerdictOf names compiled pairs q.0 q.1 v) old new (flow, check) row updates right
     (λ q v was. kept q.0 q.1 v was) (f, c) r has
 
+-- a map without entries keeps none
+pub verdicts_none : {S : Type 0} (names : List (List ℕ)) (compiled : List Compiled) (pairs : List FlowPair) (verdicts : HashMap (ℕ × ℕ) Row S)
+    → verdicts.entries ≡ [] → AreVerdicts names compiled pairs verdicts
+verdicts_none names compiled pairs verdicts none flow check row has = absurd (let no = rw none at has in cc)
+
 module _ (names : List (List ℕ)) (pairs : List FlowPair) (compiled : List Compiled) where
   -- a verdict that was decided, by the numbers of its flow and its check
   pub decided_of : (flow k : ℕ) (pair : FlowPair) (by : Compiled) (row : Row) → flow < length pairs → k < length compiled
@@ -79,15 +84,6 @@ module _ (names : List (List ℕ)) (pairs : List FlowPair) (compiled : List Comp
       (sym (slice_get_read pairs (length pairs) flow pair refl flow_inside pair_is))
       (subst (λ o. IsSomeAnd o (λ (c : Compiled). IsVerdict names c pair row))
       (sym (slice_get_read compiled (length compiled) k by refl check_inside by_is)) verdict)
-
-  -- the same of what a call answers
-  pub decided_result : {E : Type 0} (flow k : ℕ) (pair : FlowPair) (by : Compiled) (answer : Result Row E) → flow < length pairs → k < length compiled
-      → pair ≡ get_or pairs flow pair → by ≡ get_or compiled k by
-      → IfOk answer (RowOf by.check (length names) (paths_of by.check.level names pair.before pair.after) by.states) → IfOk answer (VerdictHasTexts names)
-      → IfOk answer (IsVerdictOf names compiled pairs flow k)
-  decided_result flow k pair by (Ok row) flow_inside check_inside pair_is by_is right texts =
-      decided_of flow k pair by row flow_inside check_inside pair_is by_is (record { right = right; texts = texts })
-  decided_result flow k pair by (Err e) flow_inside check_inside pair_is by_is right texts = tt
 
   -- and back
   pub verdict_at : (flow k : ℕ) (pair : FlowPair) (by : Compiled) (row : Row) → flow < length pairs → k < length compiled
@@ -149,3 +145,26 @@ verdict_there names by pair other level is before after carries same row verdict
     subst (λ (l : Level). SamePathSets (paths_of l names other.before other.after) (paths_of l names pair.before pair.after)) is
     (same_sets level names pair other before after here) in
     record { right = carries sets by.check (length names) by.states row verdict.right; texts = verdict.texts }
+
+-- a verdict on the flow of a number is one on the flow that is there
+pub verdict_on_flow : (names : List (List ℕ)) (pairs : List FlowPair) (flow : ℕ) (pair : FlowPair) (by : Compiled) (row : Row)
+    → flow < length pairs → pair ≡ get_or pairs flow pair → IsVerdictOn names by pairs flow row → IsVerdict names by pair row
+verdict_on_flow names pairs flow pair by row inside pair_is verdict =
+    subst (λ o. IsSomeAnd o (λ (p : FlowPair). IsVerdict names by p row)) (slice_get_read pairs (length pairs) flow pair refl inside pair_is) verdict
+
+-- and the other way round, of what a call answers
+pub verdict_from : {E : Type 0} (names : List (List ℕ)) (pairs : List FlowPair) (flow : ℕ) (pair : FlowPair) (by : Compiled) (answer : Result Row E)
+    → flow < length pairs → pair ≡ get_or pairs flow pair
+    → IfOk answer (RowOf by.check (length names) (paths_of by.check.level names pair.before pair.after) by.states) → IfOk answer (VerdictHasTexts names)
+    → IfOk answer (IsVerdictOn names by pairs flow)
+verdict_from names pairs flow pair by (Ok row) inside pair_is right texts =
+    subst (λ o. IsSomeAnd o (λ (p : FlowPair). IsVerdict names by p row)) (sym (slice_get_read pairs (length pairs) flow pair refl inside pair_is))
+    (record { right = right; texts = texts })
+verdict_from names pairs flow pair by (Err e) inside pair_is right texts = tt
+
+-- a verdict on the flow of a number, by a check that has a number too
+pub verdict_of_check : (names : List (List ℕ)) (pairs : List FlowPair) (compiled : List Compiled) (flow k : ℕ) (pair : FlowPair) (by : Compiled) (row : Row)
+    → flow < length pairs → k < length compiled → pair ≡ get_or pairs flow pair → by ≡ get_or compiled k by → IsVerdictOn names by pairs flow row
+    → IsVerdictOf names compiled pairs flow k row
+verdict_of_check names pairs compiled flow k pair by row flow_inside check_inside pair_is by_is verdict =
+    decided_of names pairs compiled flow k pair by row flow_inside check_inside pair_is by_is (verdict_on_flow names pairs flow pair by row flow_inside pair_is verdict)

@@ -1,3 +1,4 @@
+pub mod Deciding
 pub mod Kept
 pub mod Rows
 pub mod Shapes

@@ -20,6 +20,11 @@ pub record IsVerdict (names : List (List ℕ)) (by : Compilation) (pair : FlowPa
       pair.after) by.states row
   pub texts : VerdictHasTexts names row
 
+-- the same of the flow of this number
+abbrev pub IsVerdictOn : List (List ℕ) → Compilation → List FlowPair → ℕ → Row → Type 0
+IsVerdictOn names by pairs flow row = IsSomeAnd (slice_get pairs flow) (λ pair.
+    IsVerdict names by pair row)
+
 -- the same of the flow and the check of these numbers
 abbrev pub IsVerdictOf : List (List ℕ) → List Compilation → List FlowPair → ℕ → ℕ → Row → Type 0
 IsVerdictOf names compiled pairs flow check row =

@@ -114,7 +114,7 @@ fn decide_all(
         judges.now.compiled.now pairs.now) planned.now rows.items) }
     ensures texts { IfOk result (λ rows. All (RowHasTexts alphabet.now) rows.items) }
 {
-    let mut kept = Kept::new(alloc);
+    let mut kept = Kept::new(alloc, alphabet)?;
     let mut rows = Vec::with_capacity(alloc, planned.len())?;
     for row in planned {
         rows.push(row_of(alloc, row, pairs, judges, alphabet, others, &mut kept)?)?;

@@ -1,12 +1,15 @@
 //! Compliance that flows share whose graphs differ in the names of locations alone.
 
-ghost use Rattle.std.specs.Prelude.{◌≡◌, ◌<◌, IfOk, OnOk, IsSome, IsTrue, All, length};
+ghost use Rattle.std.specs.Prelude.{◌≡◌, ◌<◌, ℕ, List, IfOk, OnOk, IsSome, IsTrue, All, length};
+ghost use Rattle.rela_engine.specs.Compilation.{Compilation};
 ghost use Rattle.rela_shape.specs.Shape.{IsShape};
 ghost use Rattle.rela_snapshot.specs.PairsLocated.{ArePairsLocated, IsPairLocated};
-ghost use Rattle.rela_rows.specs.Shapes.{AreMetShapes, IsMetShape};
+ghost use Rattle.rela_snapshot.specs.declared.pairing.FlowPair.{FlowPair};
+ghost use Rattle.rela_rows.specs.Kept.{AreByShape};
+ghost use Rattle.rela_rows.specs.Shapes.{IsMetShape};
 ghost use Rattle.rela_rows.specs.Sharing.{IsVerdict, IsVerdictOf};
 
-use crate::verdict::verdict;
+use crate::verdict::Decider;
 use rela_engine::Compiled;
 use rela_names::Alphabet;
 use rela_report::Row;
@@ -16,7 +19,30 @@ use std::alloc::{AllocError, Global};
 use std::collections::HashSet;
 
 /// Shapes of compliant flows, each with the index of the compiled check that they meet.
-pub(crate) type MetShapes = HashSet<(usize, Shape)>;
+type MetShapes = HashSet<(usize, Shape)>;
+
+/// The shapes of compliant flows, and what decides those flows that have no such shape.
+#[derive(Drop)]
+pub(crate) struct ByShape {
+    /// The shapes.
+    met: MetShapes,
+    /// What decides.
+    decider: Decider,
+}
+
+impl ByShape {
+    /// No shape yet, and what decides flows whose locations are those of the alphabet. Time and space:
+    /// linear in the symbols. The only error is want of memory.
+    pub(crate) fn new(alloc: Global, alphabet: &Alphabet) -> Result<ByShape, AllocError>
+        ensures { IfOk result (λ kept. (compiled : List Compilation) (pairs : List FlowPair) →
+            AreByShape alphabet.now compiled pairs kept) }
+    {
+        Ok(ByShape {
+            met: HashSet::new(alloc),
+            decider: Decider::new(alloc, alphabet)?,
+        })
+    }
+}
 
 /// How many shapes are kept for a compiled check, on average. Where there are more, hardly two flows
 /// have one shape, and keeping them isn't worth the memory.
@@ -32,7 +58,7 @@ const SHAPES_PER_CHECK: usize = 128;
 /// Only where memory is wanted.
 pub(crate) fn verdict_by_shape(
     alloc: Global,
-    met: &mut MetShapes,
+    kept: &mut ByShape,
     flow: usize,
     check: usize,
     pairs: &[FlowPair],
@@ -44,25 +70,25 @@ pub(crate) fn verdict_by_shape(
     requires locations { All (λ c. c.locations ≡ length alphabet.now) compiled.now }
     requires located { All (λ c. ArePairsLocated alphabet.now c.check.level
         pairs.now) compiled.now }
-    requires met { AreMetShapes alphabet.now compiled.now met.old }
+    requires kept { AreByShape alphabet.now compiled.now pairs.now kept.old }
     ensures verdict { IfOk result (IsVerdictOf alphabet.now compiled.now pairs.now flow check) }
-    ensures met { OnOk result (AreMetShapes alphabet.now compiled.now met.new) }
+    ensures kept { OnOk result (AreByShape alphabet.now compiled.now pairs.now kept.new) }
 {
     let (pair, by) = (&pairs[flow], &compiled[check]);
     if !by.complete() || looks_unchanged(by, pair) {
-        return verdict(alloc, by, pair, alphabet);
+        return kept.decider.verdict(alloc, by, flow, pairs, alphabet);
     }
     let shape = shape_under(alloc, by, pair, alphabet)?;
     share_compliance(by, pair, &shape, alphabet);
     let entry = (check, shape);
-    if met.contains(&entry) {
+    if kept.met.contains(&entry) {
         return Ok(Row::Compliant);
     }
-    let row = verdict(alloc, by, pair, alphabet)?;
-    if !is_kept(&row, met, compiled.len()) {
+    let row = kept.decider.verdict(alloc, by, flow, pairs, alphabet)?;
+    if !is_kept(&row, &kept.met, compiled.len()) {
         return Ok(row);
     }
-    met.insert(entry)?;
+    kept.met.insert(entry)?;
     Ok(row)
 }
 

@@ -12,13 +12,13 @@ ghost use Rattle.rela_plan.specs.Alike.{look_of};
 ghost use Rattle.rela_rows.specs.Kept.{AreKept};
 ghost use Rattle.rela_rows.specs.Sharing.{IsVerdict, IsVerdictOf};
 
-use crate::shapes::{MetShapes, verdict_by_shape};
+use crate::shapes::{ByShape, verdict_by_shape};
 use rela_engine::{Compiled, TwoPathSets, rows_carry_over};
 use rela_names::Alphabet;
 use rela_report::Row;
 use rela_snapshot::FlowPair;
 use std::alloc::{AllocError, Global};
-use std::collections::{HashMap, HashSet};
+use std::collections::HashMap;
 use std::marker::Brand;
 
 /// What is known of the flows that have been decided.
@@ -26,20 +26,21 @@ use std::marker::Brand;
 pub(crate) struct Kept {
     /// Their verdicts, by the indexes of the flow and the compiled check.
     verdicts: HashMap<(usize, usize), Row>,
-    /// The shapes of those that are compliant.
-    met: MetShapes,
+    /// The shapes of those that are compliant, and what decides the others.
+    by_shape: ByShape,
 }
 
 impl Kept {
-    /// Nothing is known.
-    pub(crate) fn new(alloc: Global) -> Kept
-        ensures { (names : List (List ℕ)) (compiled : List Compilation) (pairs : List FlowPair) →
-            AreKept names compiled pairs result }
+    /// Nothing is known of flows whose locations are those of the alphabet. Time and space: linear in
+    /// the symbols. The only error is want of memory.
+    pub(crate) fn new(alloc: Global, alphabet: &Alphabet) -> Result<Kept, AllocError>
+        ensures { IfOk result (λ kept. (compiled : List Compilation) (pairs : List FlowPair) →
+            AreKept alphabet.now compiled pairs kept) }
     {
-        Kept {
+        Ok(Kept {
             verdicts: HashMap::new(alloc),
-            met: HashSet::new(alloc),
-        }
+            by_shape: ByShape::new(alloc, alphabet)?,
+        })
     }
 }
 
@@ -104,7 +105,8 @@ pub(crate) fn verdict_on(
     if let Some(row) = kept.verdicts.get(&(flow, check)) {
         return row.copy(alloc);
     }
-    let row = verdict_by_shape(alloc, &mut kept.met, flow, check, pairs, compiled, alphabet)?;
+    let by_shape = &mut kept.by_shape;
+    let row = verdict_by_shape(alloc, by_shape, flow, check, pairs, compiled, alphabet)?;
     kept.verdicts.insert((flow, check), row.copy(alloc)?)?;
     Ok(row)
 }

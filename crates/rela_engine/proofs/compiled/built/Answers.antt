@@ -1,4 +1,10 @@
-use Rattle.std.proofs.Common.{length, subst}
+use Rattle.std.proofs.Common.{◌+◌, inr, length, subst}
+use Rattle.std.proofs.lemmas.Result.{err_from_is_err_and}
+use Rattle.rela_build.specs.Lettering.{Lettering}
+use Rattle.rela_build.specs.PathSets.{no_paths, scene_of}
+use Rattle.rela_rir.specs.Limit.{ReachedInsideR}
+use Rattle.rela_rir.specs.declared.term.RelTerm.{RelTerm}
+use Rattle.rela_translate.specs.Terms.{after_of}
 use Rattle.rela_engine.specs.Sides.{TreatsSidesAlike}
 use Rattle.rela_engine.proofs.CheckLetters.{before_alone, after_alone}
 use Rattle.rela_engine.proofs.Compilations.{one_relation, two_relations}
@@ -29,3 +35,13 @@ returns-clause-made c =
     c.in_ok-terms.ensures.before c.in_ok-terms.ensures.after c.new-2.result c.in_ok-before.before c.in_ok-after.after c.new-2.ensures
     (record { plain = c.in_ok-before.ensures.plain; small = c.in_ok-before.ensures.small; within = c.in_ok-before.ensures.within })
     (record { plain = c.in_ok-after.ensures.plain; small = c.in_ok-after.ensures.small; within = c.in_ok-after.ensures.within })
+
+pub returns-in_err-after-clause-past : goal.returns-in_err-after-clause-past
+returns-in_err-after-clause-past c =
+    let check = c.args.check.now in
+    let n = length c.args.alphabet.now in
+    let p = err_from_is_err_and c.from_residual-in_err-after.result c.from_residual-in_err-after.ensures.1 in
+    rw (p.1, p.2)
+    (λ other. inr (subst (λ (l : Lettering). ReachedInsideR (scene_of l no_paths) (c.args.states + 1) (after_of n check.body)) c.requires.letters
+    (subst (λ (r : RelTerm). ReachedInsideR (scene_of c.args.letters.now no_paths) (c.args.states + 1) r) c.in_ok-terms.ensures.after_term
+    (c.in_err-after.ensures.past other))))

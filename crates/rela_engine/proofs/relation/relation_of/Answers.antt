@@ -14,10 +14,10 @@ small_relation-requires c =
 
 pub returns-clause-plain : goal.returns-clause-plain
 returns-clause-plain c =
-    subst (λ (r : Twofold). IsMadeR ⊥ c.args.letters.now no_paths c.args.term.now r.plain) (sym c.new.ensures) c.in_ok-plain.ensures.made
+    subst (λ (r : Twofold). IsMadeR ⊥ c.args.letters.now no_paths c.args.term.now r.plain) (sym c.in_ok-relation.ensures) c.in_ok-plain.ensures.made
 
 pub returns-clause-small : goal.returns-clause-small
 returns-clause-small c =
-    subst (λ (r : Twofold). Realises c.args.letters.now.blocks (InR (scene_of c.args.letters.now no_paths).setting c.args.term.now) r.small) (sym c.new.ensures)
+    subst (λ (r : Twofold). Realises c.args.letters.now.blocks (InR (scene_of c.args.letters.now no_paths).setting c.args.term.now) r.small) (sym c.in_ok-relation.ensures)
     (made_small ⊥ c.args.letters.now no_paths c.args.term.now c.in_ok-plain.plain c.in_ok-plain.ensures.made c.partition.result.now c.partition.ensures
     (unwrap_or c.in_ok-small.small c.in_ok-plain.plain) c.in_ok-small.ensures)

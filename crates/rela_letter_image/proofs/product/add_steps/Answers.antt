@@ -1,13 +1,21 @@
-use Rattle.std.proofs.Common.{map}
+use Rattle.std.proofs.Common.{◌∙◌, ap, map, subst}
 use Rattle.std.proofs.lemmas.Result.{on_ok_weaker}
-use Rattle.rela_trans.specs.Stored.{move_of}
+use Rattle.rela_letter_image.specs.Growth.{Grows}
+use Rattle.rela_letter_image.specs.LetterMoves.{all_moves, alone_move}
+use Rattle.rela_letter_image.specs.Steps.{alone_steps}
 use Rattle.rela_letter_image.proofs.GrownSteps.{grows_steps}
+use Rattle.rela_letter_image.proofs.LaidOut.{alone_all}
 use Rattle.rela_letter_image.proofs.product.add_steps.Goals as goal
 
 pub returns : goal.returns
-returns g c =
+returns c =
+    let letters = c.letters.result in
+    let state = c.moves-moves.result.now in
+    let coarse = c.args.coarse.now in
+    let pair = c.args.pair in
+    let alone = subst (λ l. Grows l c.add_silents.new.growing c.add_moves.new.growing) (ap (λ l. alone_steps coarse pair.left (map alone_move l)) c.deref.ensures.value ∙ alone_all coarse pair.left letters state) c.in_ok-add_moves.ensures in
+    let moves_are = ap (λ n. all_moves n state) c.letters.ensures.letters ∙ c.moves-moves.ensures.moves in
     on_ok_weaker c.add_edges.result
     (λ reads.
-    grows_steps c.args.coarse.now c.args.paths.now c.args.relation.now c.args.pair c.letters.result c.silent.result.now (map (move_of g.M.LabelSet.letters) c.moves-moves.result.now) c.edges.result.now
-    c.silent.ensures.silent c.moves-moves.ensures.moves c.edges.ensures.edges c.letters.ensures.letters c.args.growing.now c.add_silents.new.growing c.add_moves.new.growing c.add_edges.new.growing
-    c.in_ok-add_silents.ensures c.in_ok-add_moves.ensures reads) c.add_edges.ensures
+    grows_steps coarse c.args.paths.now c.args.relation.now pair letters c.silent.result.now (all_moves letters state) c.edges.result.now c.silent.ensures.silent moves_are c.edges.ensures.edges c.letters.ensures.letters
+    c.args.growing.now c.add_silents.new.growing c.add_moves.new.growing c.add_edges.new.growing c.in_ok-add_silents.ensures alone reads) c.add_edges.ensures

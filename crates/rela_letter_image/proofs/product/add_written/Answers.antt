@@ -3,15 +3,15 @@ use Rattle.rela_letter_image.proofs.GrownSteps.{grows_found, grows_letter, same_
 use Rattle.rela_letter_image.proofs.product.add_written.Goals as goal
 
 pub loop-letter-init : goal.loop-letter-init
-loop-letter-init g c = record {
+loop-letter-init c = record {
   at = c.in_ok-number.ensures.numbered;
   grows = grows_found c.args.growing.now c.number.new.self c.args.to c.number.ensures.shape c.number.ensures.parts c.number.ensures.found;
 }
 
 pub loop-letter-preserved : goal.loop-letter-preserved
-loop-letter-preserved g c =
+loop-letter-preserved c =
     let to = c.args.to in
-    let test = in_coarse c.args.coarse.now (g.M.LabelSet.letters c.args.set.now) in
+    let test = in_coarse c.args.coarse.now c.args.set.now in
     let n = c.loop-letter.letter in
     let q = c.in_ok-number.number in
     let here = c.loop-letter.invariant in

@@ -6,7 +6,7 @@ use Rattle.rela_letter_image.proofs.GrownSteps.{edges_below}
 use Rattle.rela_letter_image.proofs.product.add_written.Given as goal
 
 abbrev pub invariant-loop-letter : goal.invariant-loop-letter
-invariant-loop-letter g l = record {
+invariant-loop-letter l = record {
   at : slice_get l.growing.pairs l.number ≡ Some l.fn.to;
-  grows : Grows (edges_below (in_coarse l.coarse (g.M.LabelSet.letters l.set)) l.fn.to l.letter) l.fn.growing l.growing;
+  grows : Grows (edges_below (in_coarse l.coarse l.set) l.fn.to l.letter) l.fn.growing l.growing;
 }

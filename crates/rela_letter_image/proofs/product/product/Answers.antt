@@ -13,7 +13,7 @@ pair_read : (pairs read : List Pair) (n m : ℕ) (none : Pair) → read ≡ pair
 pair_read pairs read n m none same is below = slice_get-get_or pairs n none below ∙ (λ i. Some (get_or (sym same i) (sym is i) none))
 
 pub queue-preserved : goal.queue-preserved
-queue-preserved g c =
+queue-preserved c =
     let grown = c.queue.growing in
     let n = length grown.parts.finals in
     let none : Pair = pair_of 0 0 in
@@ -23,14 +23,14 @@ queue-preserved g c =
     built_more c.args.coarse.now c.args.paths.now c.args.relation.now grown c.add_state.new.growing x c.queue.invariant at c.in_ok-add_state.ensures
 
 pub finish-requires-clause-automaton : goal.finish-requires-clause-automaton
-finish-requires-clause-automaton g c =
+finish-requires-clause-automaton c =
     let grown = c.queue.growing in
     let done : length grown.pairs ≤ length grown.parts.finals =
     omega (arith, c.states-in-queue.ensures, c.queue-test.false, ap (λ (l : List Pair). length l) c.pairs.ensures.pairs) in
     all_ok c.args.coarse.now c.args.paths.now c.args.relation.now grown c.queue.invariant done
 
 pub returns : goal.returns
-returns g c =
+returns c =
     let grown = c.queue.growing in
     let coarse = c.args.coarse.now in
     let a = c.args.paths.now in

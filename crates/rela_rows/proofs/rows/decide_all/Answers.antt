@@ -15,7 +15,7 @@ loop-row-init c = record {
   texts =
       subst (λ (rows : List ReportRow). All (RowHasTexts c.args.alphabet.now) rows) (sym c.in_ok-rows.ensures.items)
       (All-nil (RowHasTexts c.args.alphabet.now));
-  kept = c.new-kept.ensures c.args.alphabet.now c.args.judges.now.compiled.now c.args.pairs.now;
+  kept = c.in_ok-kept.ensures c.args.judges.now.compiled.now c.args.pairs.now;
 }
 
 pub loop-row-preserved : goal.loop-row-preserved

@@ -14,5 +14,5 @@ returns-clause-kept c = record {
       c.in_ok-copy.field-0 c.requires.kept.verdicts
       (subst (λ (row : Row). IsVerdictOf c.args.alphabet.now c.args.compiled.now c.args.pairs.now c.args.flow c.args.check row)
       (sym c.in_ok-copy.ensures) c.in_ok-row.ensures.verdict) c.in_ok-insert.ensures.updates.0;
-  met = c.in_ok-row.ensures.met;
+  by_shape = c.in_ok-row.ensures.kept;
 }

@@ -1,5 +1,0 @@
-use Rattle.rela_letter_image.proofs.CopiedStates.{AreCopied}
-use Rattle.rela_letter_image.proofs.by_letters.by_letters.Given as goal
-
-abbrev pub invariant-loop-q : goal.invariant-loop-q
-invariant-loop-q g l = AreCopied l.nfa l.q l.builder

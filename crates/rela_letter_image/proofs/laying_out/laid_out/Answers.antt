@@ -1,0 +1,9 @@
+use Rattle.std.proofs.Common.{sym}
+use Rattle.rela_trans.specs.Stored.{move_of}
+use Rattle.rela_letter_image.proofs.Laying.{laid_out_more}
+use Rattle.rela_letter_image.proofs.laying_out.laid_out.Goals as goal
+
+pub loop-step-preserved : goal.loop-step-preserved
+loop-step-preserved g c =
+    laid_out_more (move_of g.M.LabelSet.letters) c.args.moves.now c.loop-step.step-index c.step-item.result c.loop-step-test.true (sym c.step-item.is) c.args.letters c.loop-step.state c.push_move.new.state
+    c.loop-step.invariant c.in_ok-push_move.ensures

@@ -1,9 +1,0 @@
-use Rattle.rela_nfa.specs.Meeting.{pair_of}
-use Rattle.rela_letter_image.proofs.GrownSteps.{reads_nothing}
-use Rattle.rela_letter_image.proofs.product.add_read.Goals as goal
-
-pub returns-in-Silent : goal.returns-in-Silent
-returns-in-Silent g c = reads_nothing g.M.LabelSet.letters c.args.step.now.kind (pair_of c.args.edge.to c.args.step.now.to) c.args.growing.now c.args.coarse c.args.edge.letter c.in-Silent.is
-
-pub returns-in-Silent-2 : goal.returns-in-Silent-2
-returns-in-Silent-2 g c = reads_nothing g.M.LabelSet.letters c.args.step.now.kind (pair_of c.args.edge.to c.args.step.now.to) c.args.growing.now c.args.coarse c.args.edge.letter c.in-Silent.is

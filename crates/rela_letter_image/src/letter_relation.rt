@@ -1,0 +1,117 @@
+//! A transducer laid out for reading letter by letter.
+ghost use Rattle.std.specs.Prelude.{◌≡◌, ℕ, ◌<◌, ◌↔◌, List, IsTrue, IfOk};
+ghost use Rattle.rela_trans.specs.Machine.{IsFinal, IsMachine, machine_states, moves_of};
+ghost use Rattle.rela_trans.specs.Runs.{Relates};
+ghost use Rattle.rela_letter_image.specs.LetterMoves.{AreLettersOf, LeadBelow, all_moves};
+
+use crate::laying_out::{finals_of, states_of};
+use crate::letter_moves::StateMoves;
+use rela_labels::LabelSet;
+use rela_trans::Transducer;
+use std::alloc::{AllocError, Global};
+use std::marker::Model;
+
+/// A transducer for reading letter by letter: the moves of a state that read one letter, and no
+/// other, stand apart with that letter, and so do those that read nothing. It is made once, and then
+/// used for many images. Contracts see it as a `Machine`.
+#[derive(Drop)]
+pub struct LetterRelation {
+    /// The number of letters.
+    letters: u32,
+    /// The state from which runs begin.
+    start: usize,
+    /// For each state whether it is final.
+    finals: Vec<bool>,
+    /// The moves that leave each state.
+    states: Vec<StateMoves>,
+}
+
+impl Model for LetterRelation {
+    ghost use Rattle.std.specs.Prelude.{map};
+    ghost use Rattle.std.specs.List.{All};
+    ghost use Rattle.rela_trans.specs.Machine.{Machine, IsMachine};
+    ghost use Rattle.rela_letter_image.specs.LetterMoves.{AreLettersOf, all_moves};
+
+    ghost Value = { Machine };
+
+    ghost view = { λ relation. record {
+      letters = relation.letters;
+      start = relation.start;
+      finals = relation.finals.items;
+      moves = map (all_moves relation.letters) relation.states.items;
+    } };
+
+    ghost invariant = { λ relation. IsMachine (record {
+      letters = relation.letters;
+      start = relation.start;
+      finals = relation.finals.items;
+      moves = map (all_moves relation.letters) relation.states.items;
+    }) × All (AreLettersOf relation.letters) relation.states.items };
+}
+
+impl LetterRelation {
+    /// The relation of the transducer. Time and space: linear in its states and moves; besides, a
+    /// move whose set has several letters costs a step for each letter, and a bit for each.
+    pub fn new<M: LabelSet>(
+        alloc: Global,
+        relation: &Transducer<M>,
+    ) -> Result<LetterRelation, AllocError>
+        ensures letters { IfOk result (λ made. made.letters ≡ relation.now.letters) }
+        ensures relation { IfOk result (λ made. (read : ℕ → ℕ) (u v : List ℕ) →
+            Relates read made u v ↔ Relates read relation.now u v) }
+    {
+        let letters = relation.letters();
+        let start = relation.start();
+        let finals = finals_of(alloc, relation)?;
+        let states = states_of(alloc, relation)?;
+        Ok(LetterRelation {
+            letters,
+            start,
+            finals,
+            states,
+        })
+    }
+
+    /// The number of letters.
+    pub fn letters(&self) -> u32
+        ensures letters { result ≡ self.now.letters }
+        ensures machine { IsMachine self.now }
+    {
+        self.letters
+    }
+
+    /// The number of states.
+    pub fn states(&self) -> usize
+        ensures states { result ≡ machine_states self.now }
+        ensures machine { IsMachine self.now }
+    {
+        self.finals.len()
+    }
+
+    /// The state from which runs begin.
+    pub(crate) fn start(&self) -> usize
+        ensures start { result ≡ self.now.start }
+        ensures machine { IsMachine self.now }
+    {
+        self.start
+    }
+
+    /// Whether the state is final.
+    pub(crate) fn is_final(&self, q: usize) -> bool
+        requires { q < machine_states self.now }
+        ensures { IsTrue result ↔ IsFinal self.now q }
+    {
+        self.finals[q]
+    }
+
+    /// The moves that leave the state.
+    pub(crate) fn moves(&self, q: usize) -> &StateMoves
+        requires { q < machine_states self.now }
+        ensures moves { all_moves self.now.letters result.now ≡ moves_of self.now q }
+        ensures below { AreLettersOf self.now.letters result.now }
+        ensures lead { LeadBelow (machine_states self.now) result.now }
+        ensures machine { IsMachine self.now }
+    {
+        &self.states[q]
+    }
+}

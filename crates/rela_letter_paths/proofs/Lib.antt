@@ -1,0 +1,4 @@
+mod RenamedStates
+mod RenamedWords
+mod SymbolWords
+mod WithinSymbols

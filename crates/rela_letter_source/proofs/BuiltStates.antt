@@ -1,0 +1,224 @@
+-- The states of an automaton of sources as they are built, one after another.
+use Rattle.std.proofs.Common.{◌≡◌, ℕ, ◌+◌, ◌<◌, ◌≤◌, ◌↔◌, Bool, false, IsTrue, List, [], ◌∷◌, ◌++◌, length, get_or, Option, None, Some, refl, sym, ap, ◌∙◌, subst, inl, inr, arith, length-append}
+use Rattle.std.specs.List.{Contains, slice_get}
+use Rattle.std.proofs.lemmas.Bool.{cases_lt}
+use Rattle.std.proofs.lemmas.List.{get_or_append_left, get_or_default, get_or_push, length_push}
+use Rattle.std.proofs.lemmas.List.Elements.{Contains-get_or}
+use Rattle.std.proofs.lemmas.Option.{slice_get-get_or, slice_get_within}
+use Rattle.rela_letter_nfa.specs.LetterAutomaton.{IsLetterAutomaton, LetterAutomaton, LetterParts, edges_of, from_parts, no_parts, silents_of, states, with_state}
+use Rattle.rela_letter_nfa.specs.Runs.{HasStep}
+use Rattle.rela_letter_nfa.specs.declared.edge.LetterEdge.{LetterEdge}
+use Rattle.rela_letter_source.specs.declared.configuration.Configuration.{Configuration}
+use Rattle.rela_trans.specs.Machine.{Machine, machine_states}
+use Rattle.rela_letter_image.specs.Coarse.{coarse_of}
+use Rattle.rela_letter_source.specs.Growth.{AddsState, Growth, HasEnd, IsFoundIn, Stand, with_parts}
+use Rattle.rela_letter_source.specs.Product.{IsEnd, IsProduct}
+use Rattle.rela_letter_source.specs.Steps.{standing, step_to, steps_from}
+use Rattle.rela_letter_source.proofs.GrownSteps.{stand_longer, still_at}
+use Rattle.rela_letter_source.proofs.StepsGo.{goes_listed, steps_go}
+
+-- a configuration that had its number before has it where more were found
+was_at : (found more : List Configuration) (q : ℕ) (y : Configuration) → q < length found → slice_get (found ++ more) q ≡ Some y → slice_get found q ≡ Some y
+was_at found more q y below at =
+    let here = slice_get-get_or found q y below in
+    here ∙ sym (still_at found more q (get_or found q y) here) ∙ at
+
+module _ (coarse word : List ℕ) (a : LetterAutomaton) (t : Machine) where
+  -- a state stands for its configuration: it is final where that is an end, and has the steps from the configuration
+  pub record StandsFor (found : List Configuration) (x : Configuration) (final : Bool) (silents : List ℕ) (edges : List LetterEdge) : Type 0 where
+    pub is_final : IsTrue final ↔ IsEnd a t word x
+    pub stand : Stand found (steps_from coarse word a t x) silents edges
+
+  -- the states that were built stand for the first configurations
+  pub record AreBuilt (g : Growth) : Type 0 where
+    pub lefts : g.shape.lefts ≡ states a
+    pub rights : g.shape.rights ≡ machine_states t
+    pub first : slice_get g.found 0 ≡ Some (standing a.start t.start 0)
+    pub no_silents : g.parts.next_silents ≡ []
+    pub no_edges : g.parts.next_edges ≡ []
+    pub each_silents : length g.parts.silents ≡ length g.parts.finals
+    pub each_edges : length g.parts.edges ≡ length g.parts.finals
+    pub count : length g.parts.finals ≤ length g.found
+    pub built : (p : ℕ) (x : Configuration) → p < length g.parts.finals → slice_get g.found p ≡ Some x
+        → StandsFor g.found x (get_or g.parts.finals p false) (get_or g.parts.silents p []) (get_or g.parts.edges p [])
+
+  -- the configuration that is found first has the number 0
+  first_of : (found : List Configuration) (x : Configuration) (q : ℕ) → IsFoundIn [] found x → slice_get found q ≡ Some x → slice_get found 0 ≡ Some x
+  first_of found x q finds at = elim finds [
+    | inl none ↦ absurd (nothing (sym (ap (λ (l : List Configuration). slice_get l q) none) ∙ at))
+    | inr one ↦ ap (λ (l : List Configuration). slice_get l 0) one
+  ]
+    where
+      nothing : {y : Configuration} → None ≡ Some y → ⊥
+      nothing e = cc
+
+  -- no state
+  pub built_none : (g h : Growth) (q : ℕ) → g.shape.lefts ≡ states a → g.shape.rights ≡ machine_states t → g.found ≡ [] → g.parts ≡ no_parts
+      → h.shape ≡ g.shape → h.parts ≡ g.parts → IsFoundIn g.found h.found (standing a.start t.start 0) → slice_get h.found q ≡ Some (standing a.start t.start 0) → AreBuilt h
+  built_none g h q lefts rights none nothing shape parts found at = record {
+    lefts = ap (λ s. s.lefts) shape ∙ lefts;
+    rights = ap (λ s. s.rights) shape ∙ rights;
+    first = first_of h.found (standing a.start t.start 0) q (subst (λ l. IsFoundIn l h.found (standing a.start t.start 0)) none found) at;
+    no_silents = ap (λ (p : LetterParts). p.next_silents) (parts ∙ nothing);
+    no_edges = ap (λ (p : LetterParts). p.next_edges) (parts ∙ nothing);
+    each_silents = ap (λ (p : LetterParts). length p.silents) (parts ∙ nothing) ∙ sym (ap (λ (p : LetterParts). length p.finals) (parts ∙ nothing));
+    each_edges = ap (λ (p : LetterParts). length p.edges) (parts ∙ nothing) ∙ sym (ap (λ (p : LetterParts). length p.finals) (parts ∙ nothing));
+    count = omega (arith, ap (λ (p : LetterParts). length p.finals) (parts ∙ nothing));
+    built = λ p x below there. absurd (omega (arith, below, ap (λ (p : LetterParts). length p.finals) (parts ∙ nothing)));
+  }
+
+  module _ (g h : Growth) (x : Configuration) (so_far : AreBuilt g) (at : slice_get g.found (length g.parts.finals) ≡ Some x) (adds : AddsState coarse word a t x g h) where
+    abbrev mid : Growth
+    mid = adds.between
+
+    abbrev more : List Configuration
+    more = adds.grows.found.0
+
+    longer : mid.found ≡ g.found ++ more
+    longer = adds.grows.found.1
+
+    number_below : length g.parts.finals < length g.found
+    number_below = slice_get_within g.found (length g.parts.finals) x at
+
+    -- the state that was added
+    added : StandsFor mid.found x adds.is_final mid.parts.next_silents mid.parts.next_edges
+    added = record {
+      is_final = adds.final;
+      stand =
+          subst (λ l. Stand mid.found (steps_from coarse word a t x) mid.parts.next_silents l) (sym (adds.grows.added.3 ∙ ap (λ l. l ++ adds.grows.added.1) so_far.no_edges))
+          (subst (λ l. Stand mid.found (steps_from coarse word a t x) l adds.grows.added.1) (sym (adds.grows.added.2 ∙ ap (λ l. l ++ adds.grows.added.0) so_far.no_silents)) adds.grows.added.4);
+    }
+
+    -- a state from before
+    earlier : (p : ℕ) (y : Configuration) → p < length g.parts.finals → slice_get mid.found p ≡ Some y
+        → StandsFor mid.found y (get_or g.parts.finals p false) (get_or g.parts.silents p []) (get_or g.parts.edges p [])
+    earlier p y below there =
+        let before = so_far.built p y below (was_at g.found more p y (omega (arith, number_below)) (ap (λ (l : List Configuration). slice_get l p) (sym longer) ∙ there)) in
+        record {
+          is_final = before.is_final;
+          stand =
+              subst (λ l. Stand l (steps_from coarse word a t y) (get_or g.parts.silents p []) (get_or g.parts.edges p [])) (sym longer)
+              (stand_longer g.found more (steps_from coarse word a t y) (get_or g.parts.silents p []) (get_or g.parts.edges p []) before.stand);
+        }
+
+    -- what stands at a place of a list with one more
+    before_push : {A : Type 0} (xs old : List A) (z d : A) (p n : ℕ) → xs ≡ old → length old ≡ n → p < n → get_or (xs ++ z ∷ []) p d ≡ get_or old p d
+    before_push xs old z d p n same size below = ap (λ l. get_or (l ++ z ∷ []) p d) same ∙ get_or_append_left old (z ∷ []) d p (omega (arith, size))
+
+    at_push : {A : Type 0} (xs old : List A) (z d : A) (p n : ℕ) → xs ≡ old → length old ≡ n → p ≡ n → get_or (xs ++ z ∷ []) p d ≡ z
+    at_push xs old z d p n same size here = get_or_push xs z d p (ap (λ l. length l) same ∙ size ∙ sym here)
+
+    stands_as : {final other : Bool} {silents ends : List ℕ} {edges arcs : List LetterEdge} (y : Configuration) → other ≡ final → ends ≡ silents → arcs ≡ edges → StandsFor mid.found y final silents edges
+        → StandsFor mid.found y other ends arcs
+    stands_as {final} {other} {silents} {ends} {edges} {arcs} y one two three stands =
+        subst (λ l. StandsFor mid.found y other ends l) (sym three)
+        (subst (λ l. StandsFor mid.found y other l edges) (sym two) (subst (λ b. StandsFor mid.found y b silents edges) (sym one) stands))
+
+    abbrev ended : Growth
+    ended = with_parts mid (with_state mid.parts adds.is_final)
+
+    each : (p : ℕ) (y : Configuration) → p < length ended.parts.finals → slice_get ended.found p ≡ Some y
+        → StandsFor ended.found y (get_or ended.parts.finals p false) (get_or ended.parts.silents p []) (get_or ended.parts.edges p [])
+    each p y below there = elim (cases_lt p (length g.parts.finals)) [
+      | inl less ↦
+          stands_as y (before_push mid.parts.finals g.parts.finals adds.is_final false p (length g.parts.finals) adds.grows.finals refl less)
+          (before_push mid.parts.silents g.parts.silents mid.parts.next_silents [] p (length g.parts.finals) adds.grows.silents so_far.each_silents less)
+          (before_push mid.parts.edges g.parts.edges mid.parts.next_edges [] p (length g.parts.finals) adds.grows.edges so_far.each_edges less) (earlier p y less there)
+      | inr past ↦
+          let size : length ended.parts.finals ≡ length g.parts.finals + 1 = length_push mid.parts.finals adds.is_final ∙ ap (λ (l : List Bool). length l + 1) adds.grows.finals in
+          let here : p ≡ length g.parts.finals = omega arith in
+          let same : Some x ≡ Some y =
+          sym (ap (λ (l : List Configuration). slice_get l p) longer ∙ ap (slice_get (g.found ++ more)) here ∙ still_at g.found more (length g.parts.finals) x at) ∙ there in
+          let is : x ≡ y = cc in
+          stands_as y (at_push mid.parts.finals g.parts.finals adds.is_final false p (length g.parts.finals) adds.grows.finals refl here)
+          (at_push mid.parts.silents g.parts.silents mid.parts.next_silents [] p (length g.parts.finals) adds.grows.silents so_far.each_silents here)
+          (at_push mid.parts.edges g.parts.edges mid.parts.next_edges [] p (length g.parts.finals) adds.grows.edges so_far.each_edges here)
+          (subst (λ z. StandsFor mid.found z adds.is_final mid.parts.next_silents mid.parts.next_edges) is added)
+    ]
+
+    pushed : {A B : Type 0} (xs old : List A) (z : A) (ys was : List B) (w : B) → xs ≡ old → ys ≡ was → length old ≡ length was → length (xs ++ z ∷ []) ≡ length (ys ++ w ∷ [])
+    pushed xs old z ys was w one two same =
+        length_push xs z ∙ ap (λ l. length l + 1) one ∙ ap (λ n. n + 1) same ∙ sym (length_push ys w ∙ ap (λ l. length l + 1) two)
+
+    -- one more state
+    pub built_more : AreBuilt h
+    built_more = subst AreBuilt (sym adds.ended) (record {
+      lefts = ap (λ s. s.lefts) adds.grows.shape ∙ so_far.lefts;
+      rights = ap (λ s. s.rights) adds.grows.shape ∙ so_far.rights;
+      first = ap (λ (l : List Configuration). slice_get l 0) longer ∙ still_at g.found more 0 (standing a.start t.start 0) so_far.first;
+      no_silents = refl;
+      no_edges = refl;
+      each_silents = pushed mid.parts.silents g.parts.silents mid.parts.next_silents mid.parts.finals g.parts.finals adds.is_final adds.grows.silents adds.grows.finals so_far.each_silents;
+      each_edges = pushed mid.parts.edges g.parts.edges mid.parts.next_edges mid.parts.finals g.parts.finals adds.is_final adds.grows.edges adds.grows.finals so_far.each_edges;
+      count = count;
+      built = each;
+    })
+      where
+        count : length ended.parts.finals ≤ length mid.found
+        count =
+            omega (
+              arith,
+              number_below,
+              length_push mid.parts.finals adds.is_final ∙ ap (λ (l : List Bool). length l + 1) adds.grows.finals,
+              ap (λ (l : List Configuration). length l) longer,
+              length-append g.found more,
+            )
+
+    -- and one fewer to be built
+    pub one_more : length h.parts.finals ≡ length g.parts.finals + 1
+    one_more = ap (λ (v : Growth). length v.parts.finals) adds.ended ∙ length_push mid.parts.finals adds.is_final ∙ ap (λ (l : List Bool). length l + 1) adds.grows.finals
+
+  -- ---- when all are built
+
+  module _ (g : Growth) (all : AreBuilt g) (done : length g.found ≤ length g.parts.finals) where
+    abbrev image : LetterAutomaton
+    image = from_parts g.parts 0
+
+    step_end : (p q : ℕ) (letter : Option ℕ) → HasStep image p letter q → HasEnd (silents_of image p) (edges_of image p) letter q
+    step_end p q None step = step
+    step_end p q (Some k) step = step
+
+    end_step : (p q : ℕ) (letter : Option ℕ) → HasEnd (silents_of image p) (edges_of image p) letter q → HasStep image p letter q
+    end_step p q None end = end
+    end_step p q (Some k) end = end
+
+    stands : (p : ℕ) (x : Configuration) → slice_get g.found p ≡ Some x → StandsFor g.found x (get_or g.parts.finals p false) (silents_of image p) (edges_of image p)
+    stands p x at = all.built p x (omega (arith, slice_get_within g.found p x at)) at
+
+    pub all_product : IsProduct (coarse_of t.letters coarse) a t word g.found image
+    all_product = record {
+      starts = all.first;
+      final = λ p x at. (stands p x at).is_final;
+      only = λ p q x letter at step.
+          let found = (stands p x at).stand.only letter q (step_end p q letter step) in
+          (found.0, found.1, steps_go coarse word a t x (step_to letter found.0) found.2);
+      all = λ p x y letter at goes.
+          let found = (stands p x at).stand.all letter y (goes_listed coarse word a t x letter y goes) in
+          (found.0, found.1, end_step p found.0 letter found.2);
+    }
+
+    -- the configuration of a number
+    abbrev configuration_at : ℕ → Configuration
+    configuration_at p = get_or g.found p (standing 0 0 0)
+
+    end_below : (p q : ℕ) (letter : Option ℕ) → p < length g.parts.finals → HasEnd (silents_of image p) (edges_of image p) letter q → q < length g.parts.finals
+    end_below p q letter below end =
+        let at = slice_get-get_or g.found p (standing 0 0 0) (omega (arith, all.count, below)) in
+        let found = (stands p (configuration_at p) at).stand.only letter q end in
+        omega (arith, slice_get_within g.found q found.0 found.1)
+
+    pub all_ok : IsLetterAutomaton image
+    all_ok = record {
+      starts = omega (arith, slice_get_within g.found 0 (standing a.start t.start 0) all.first);
+      each_silents = all.each_silents;
+      each_edges = all.each_edges;
+      silents = λ p d below j e within.
+          let same = get_or_default g.parts.silents p d [] below in
+          let here : Contains (silents_of image p) (get_or (get_or g.parts.silents p d) j e) = subst (λ l. Contains l (get_or (get_or g.parts.silents p d) j e)) same (Contains-get_or (get_or g.parts.silents p d) j e within) in
+          end_below p (get_or (get_or g.parts.silents p d) j e) None (omega (arith, all.each_silents)) here;
+      edges = λ p d below j e within.
+          let same = get_or_default g.parts.edges p d [] below in
+          let edge : LetterEdge = get_or (get_or g.parts.edges p d) j e in
+          let here : Contains (edges_of image p) edge = subst (λ l. Contains l edge) same (Contains-get_or (get_or g.parts.edges p d) j e within) in
+          end_below p edge.to (Some edge.letter) (omega (arith, all.each_edges)) here;
+    }

@@ -1,0 +1,5 @@
+mod BuiltStates
+mod FoundAt
+mod GrownSteps
+mod SourceWords
+mod StepsGo

@@ -1,0 +1,10 @@
+use Rattle.std.proofs.Common.{ℕ, Option, sym, subst}
+use Rattle.rela_letter_source.specs.Growth.{Grows}
+use Rattle.rela_letter_source.specs.Steps.{same_by}
+use Rattle.rela_letter_source.proofs.GrownSteps.{grows_none}
+use Rattle.rela_letter_source.proofs.sources.add_same.Goals as goal
+
+pub returns-in_default : goal.returns-in_default
+returns-in_default g c =
+    let now = c.args.growing.now in
+    subst (λ (told : Option ℕ). Grows (same_by told c.args.reading (g.M.LabelSet.letters c.args.set.now) c.args.machine) now now) (sym c.in_default.is) (grows_none now)

@@ -1,0 +1,63 @@
+-- An automaton of sources as it grows: the configurations that were found, and the states that were built of them.
+use Rattle.std.specs.Prelude.{◌≡◌, ℕ, ◌<◌, ◌⊎◌, ◌↔◌, Bool, IsTrue, List, [], ◌∷◌, ◌++◌, Option, None, Some, Contains, slice_get}
+use Rattle.rela_pairs.specs.declared.shape.Shape.{Shape}
+use Rattle.rela_letter_nfa.specs.declared.edge.LetterEdge.{LetterEdge}
+use Rattle.rela_letter_nfa.specs.LetterAutomaton.{LetterAutomaton, LetterParts, with_state}
+use Rattle.rela_trans.specs.Machine.{Machine}
+use Rattle.rela_letter_source.specs.Product.{IsEnd}
+use Rattle.rela_letter_source.specs.Steps.{JointStep, step_to, steps_from}
+use Rattle.rela_letter_source.specs.declared.configuration.Configuration.{Configuration}
+
+-- the states are among those that there are
+abbrev pub Fits : Shape → Configuration → Type 0
+Fits shape x = (x.path < shape.lefts) × (x.machine < shape.rights)
+
+-- new is old, or old with x at the end
+abbrev pub IsFoundIn : List Configuration → List Configuration → Configuration → Type 0
+IsFoundIn old new x = (new ≡ old) ⊎ (new ≡ old ++ x ∷ [])
+
+-- how many states there are on each side, the configurations by their numbers, and the automaton as far as it is built
+pub record Growth : Type 0 where
+  pub shape : Shape
+  pub found : List Configuration
+  pub parts : LetterParts
+
+-- the same configurations, where this is built
+abbrev pub with_parts : Growth → LetterParts → Growth
+with_parts g parts = record { shape = g.shape; found = g.found; parts = parts }
+
+abbrev pub edge_to : ℕ → ℕ → LetterEdge
+edge_to k q = record { letter = k; to = q }
+
+-- one of the silent targets, or of the edges by the letter, is the state of this number
+abbrev pub HasEnd : List ℕ → List LetterEdge → Option ℕ → ℕ → Type 0
+HasEnd silents edges None q = Contains silents q
+HasEnd silents edges (Some k) q = Contains edges (edge_to k q)
+
+-- the targets and edges are just the steps, with the numbers of the configurations to which they lead
+pub record Stand (found : List Configuration) (steps : List JointStep) (silents : List ℕ)
+    (edges : List LetterEdge) : Type 0 where
+  pub only : (letter : Option ℕ) (q : ℕ) → HasEnd silents edges letter q →
+      (y : Configuration) × (slice_get found q ≡ Some y) × Contains steps (step_to letter y)
+  pub all : (letter : Option ℕ) (y : Configuration) → Contains steps (step_to letter y) →
+      (q : ℕ) × (slice_get found q ≡ Some y) × HasEnd silents edges letter q
+
+-- the state that is next has these steps too; configurations may have been found besides
+pub record Grows (steps : List JointStep) (old new : Growth) : Type 0 where
+  pub shape : new.shape ≡ old.shape
+  pub finals : new.parts.finals ≡ old.parts.finals
+  pub silents : new.parts.silents ≡ old.parts.silents
+  pub edges : new.parts.edges ≡ old.parts.edges
+  pub found : (more : List Configuration) × (new.found ≡ old.found ++ more)
+  pub added : (silents : List ℕ) × (edges : List LetterEdge)
+      × (new.parts.next_silents ≡ old.parts.next_silents ++ silents)
+      × (new.parts.next_edges ≡ old.parts.next_edges ++ edges) × Stand new.found steps silents edges
+
+-- the state of the configuration is built: it has the steps of the two from there, and is final at an end
+pub record AddsState (coarse word : List ℕ) (a : LetterAutomaton) (t : Machine) (x : Configuration)
+    (old new : Growth) : Type 0 where
+  pub between : Growth
+  pub is_final : Bool
+  pub grows : Grows (steps_from coarse word a t x) old between
+  pub ended : new ≡ with_parts between (with_state between.parts is_final)
+  pub final : IsTrue is_final ↔ IsEnd a t word x

@@ -1,0 +1,4 @@
+pub mod Growth
+pub mod Product
+pub mod Sources
+pub mod Steps
