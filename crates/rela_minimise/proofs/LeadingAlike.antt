@@ -3,7 +3,7 @@ use Rattle.std.proofs.Common.{◌≡◌, ℕ, ◌+◌, ◌<◌, ◌≤◌, ◌�
 use Rattle.std.specs.List.{All, Contains, count_by}
 use Rattle.std.specs.Option.{option_map, unwrap_or}
 use Rattle.std.proofs.lemmas.Bool.{cases_Bool, cases_lt, false≢true}
-use Rattle.std.proofs.lemmas.List.{get_or-map, length-map}
+use Rattle.std.proofs.lemmas.List.{get_or-map, get_or_append_left, get_or_push, length-map, length_push}
 use Rattle.std.proofs.lemmas.List.Elements.{All-contains, All-nil, All-push, Contains-append_left, Contains-push}
 use Rattle.rela_labels.specs.Letters.{has}
 use Rattle.rela_nfa.specs.Automaton.{IsMove, Move}
@@ -50,6 +50,13 @@ module _ {L : Type 0} (letters : L → List Bool) (d : Deterministic) (ok : IsDe
       let small = bit_small (has d.over k) in
       ap (λ o. unwrap_or o 0) (step_target (moves_of d q) k edge.to (omega (arith, split, small)) (letters label, among, inside))
 
+  -- where the edge leads by a letter of the label
+  pub meets_leads : (k : ℕ) → has (letters label) k ≡ true → edge.to ≡ next d q k
+  meets_leads k inside = sym (leads k inside)
+
+  pub meets_within : edge.to < states d
+  meets_within = (All-contains (IsMove (length d.over) (states d)) (moves_of d q) move (moves_at d ok q q_in) among).leads
+
   module _ (block narrow : List Bool) (j : ℕ) (inside : has (letters label) j ≡ true) (cut : (k : ℕ) → has narrow k ≡ (has block k && has (letters label) k)) where
     pub meets_itself : has block j ≡ true → has narrow j ≡ true
     meets_itself there = cut j ∙ both_true (has block j) (has (letters label) j) there inside
@@ -75,6 +82,53 @@ alike_more d rest block narrow j q before here k there =
         | inr not_less ↦ let same : q ≡ p = omega arith in subst (λ n. next d n j ≡ next d n k) same last
       ],
     )
+
+-- the letters and the column of a kind, after the first q states
+pub record IsKind (d : Deterministic) (rest : List Bool) (j q : ℕ) (letters : List Bool) (column : List ℕ) : Type 0 where
+  pub size : length letters ≡ length d.over
+  pub itself : has rest j ≡ true → has letters j ≡ true
+  pub alike : (k : ℕ) → has letters k ≡ true → (has rest k ≡ true) × ((p : ℕ) → p < q → next d p j ≡ next d p k)
+  pub each : length column ≡ q
+  pub within : All (λ p. p < states d) column
+  pub leads : (p : ℕ) → p < q → get_or column p 0 ≡ next d p j
+
+pub kind_none : (d : Deterministic) (rest : List Bool) (j : ℕ) (letters : List Bool) (column : List ℕ) → length rest ≡ length d.over → letters ≡ rest → column ≡ [] → IsKind d rest j 0 letters column
+kind_none d rest j letters column size same none = record {
+  size = ap length same ∙ size;
+  itself = λ there. subst (λ l. has l j ≡ true) (sym same) there;
+  alike = λ k there. (subst (λ l. has l k ≡ true) same there, λ p below. absurd (omega arith));
+  each = ap length none;
+  within = subst (All (λ p. p < states d)) (sym none) (All-nil (λ p. p < states d));
+  leads = λ p below. absurd (omega arith);
+}
+
+pub kind_more : (d : Deterministic) (rest : List Bool) (j q : ℕ) (letters letters' : List Bool) (column column' : List ℕ) (to : ℕ) → IsKind d rest j q letters column → length letters' ≡ length d.over
+    → (has letters j ≡ true → has letters' j ≡ true) → ((k : ℕ) → has letters' k ≡ true → (has letters k ≡ true) × (next d q j ≡ next d q k)) → to ≡ next d q j → to < states d
+    → column' ≡ column ++ to ∷ [] → IsKind d rest j (q + 1) letters' column'
+kind_more d rest j q letters letters' column column' to is size itself alike leads within pushed = record {
+  size = size;
+  itself = λ there. itself (is.itself there);
+  alike = alike_more d rest letters letters' j q is.alike alike;
+  each = ap length pushed ∙ length_push column to ∙ ap (λ n. n + 1) is.each;
+  within = subst (All (λ p. p < states d)) (sym pushed) (All-push (λ p. p < states d) column to is.within within);
+  leads = λ p below. elim (cases_lt p q) [
+    | inl less ↦ ap (λ l. get_or l p 0) pushed ∙ get_or_append_left column (to ∷ []) 0 p (let each = is.each in omega arith) ∙ is.leads p less
+    | inr not_less ↦
+        let same : q ≡ p = omega arith in
+        let last : get_or column' q 0 ≡ next d q j = ap (λ l. get_or l q 0) pushed ∙ get_or_push column to 0 q is.each ∙ leads in
+        subst (λ n. get_or column' n 0 ≡ next d n j) same last
+  ];
+}
+
+pub kind_alike : (d : Deterministic) (rest : List Bool) (j n : ℕ) (letters : List Bool) (column : List ℕ) → n ≡ states d → IsKind d rest j n letters column
+    → (k : ℕ) → has letters k ≡ true → (has rest k ≡ true) × LeadAlike d j k
+kind_alike d rest j n letters column all is k there = let (in_rest, leads) = is.alike k there in (in_rest, λ q q_in. leads q (omega (arith, all, q_in)))
+
+pub kind_column : (d : Deterministic) (rest : List Bool) (j n : ℕ) (letters : List Bool) (column : List ℕ) → n ≡ states d → IsKind d rest j n letters column → IsColumn d j column
+kind_column d rest j n letters column all is = record {
+  map_of = record { each = is.each ∙ all; within = is.within };
+  leads = λ q q_in. is.leads q (omega (arith, all, q_in));
+}
 
 -- a letter that leads as another one has its column
 same_column : (d : Deterministic) (j k : ℕ) (column : List ℕ) → LeadAlike d j k → IsColumn d j column → IsColumn d k column

@@ -1,3 +1,7 @@
+pub mod FirstClasses
+pub mod Parted
+pub mod Paired
+pub mod CutApart
 pub mod Origins
 pub mod Swapping
 pub mod Minimal

@@ -1,3 +1,4 @@
+pub mod Cutting
 pub mod Classes
 pub mod Refining
 pub mod Stored

@@ -9,6 +9,24 @@ use rela_labels::LabelSet;
 use rela_subset::Dfa;
 use std::alloc::{AllocError, Global};
 
+/// Letters of one kind, and where they lead.
+#[derive(Drop)]
+struct Kind<L: LabelSet> {
+    /// The letters.
+    letters: L,
+    /// The state to which they lead from each state.
+    column: Vec<usize>,
+}
+
+/// Letters in one label of a state, and where they lead from it.
+#[derive(Drop)]
+struct LabelPart<L: LabelSet> {
+    /// The letters.
+    letters: L,
+    /// The state to which they lead.
+    to: usize,
+}
+
 /// Where letters lead: one list for each kind of letters, of the state to which they lead from each
 /// state. Letters are of one kind where at each state they are in the label of the same edge, so
 /// many letters may be of few kinds. Time: for each kind a set operation for each state, and a look
@@ -23,68 +41,72 @@ pub(crate) fn columns<L: LabelSet>(
     let mut columns = Vec::new(alloc);
     let mut rest = dfa.over().copy(alloc)?;
     while let Some(letter) = rest.least() {
-        let block = alike(alloc, dfa, &rest, letter)?;
-        rest = rest.minus(alloc, &block)?;
-        columns.push(column(alloc, dfa, letter)?)?;
+        let kind = kind_of(alloc, dfa, &rest, letter)?;
+        let Kind { letters, column } = kind;
+        rest = rest.minus(alloc, &letters)?;
+        columns.push(column)?;
     }
     Ok(columns)
 }
 
-/// The state to which the letter leads from each state.
-fn column<L: LabelSet>(alloc: Global, dfa: &Dfa<L>, letter: u32) -> Result<Vec<usize>, AllocError>
-    requires { has dfa.now.over letter ≡ true }
-    ensures { IfOk result (λ column. IsColumn dfa.now letter column.items) }
-{
-    let mut column = Vec::with_capacity(alloc, dfa.states())?;
-    for q in 0..dfa.states() {
-        column.push(dfa.next(q, letter))?;
-    }
-    Ok(column)
-}
-
 /// The letters of the rest that are of one kind with this one.
-fn alike<L: LabelSet>(alloc: Global, dfa: &Dfa<L>, rest: &L, letter: u32) -> Result<L, AllocError>
+fn kind_of<L: LabelSet>(
+    alloc: Global,
+    dfa: &Dfa<L>,
+    rest: &L,
+    letter: u32,
+) -> Result<Kind<L>, AllocError>
     requires deterministic { IsDeterministic dfa.now }
     requires letter { has dfa.now.over letter ≡ true }
     requires size { length (L.letters rest.now) ≡ length dfa.now.over }
-    ensures size { IfOk result (λ block. length (L.letters block) ≡ length dfa.now.over) }
-    ensures itself { IfOk result (λ block. has (L.letters rest.now) letter ≡ true →
-        has (L.letters block) letter ≡ true) }
-    ensures alike { IfOk result (λ block. (k : ℕ) → has (L.letters block) k ≡ true →
+    ensures size { IfOk result (λ kind. length (L.letters kind.letters) ≡ length dfa.now.over) }
+    ensures itself { IfOk result (λ kind. has (L.letters rest.now) letter ≡ true →
+        has (L.letters kind.letters) letter ≡ true) }
+    ensures alike { IfOk result (λ kind. (k : ℕ) → has (L.letters kind.letters) k ≡ true →
         (has (L.letters rest.now) k ≡ true) × LeadAlike dfa.now letter k) }
+    ensures column { IfOk result (λ kind. IsColumn dfa.now letter kind.column.items) }
 {
-    let mut block = rest.copy(alloc)?;
+    let mut column = Vec::with_capacity(alloc, dfa.states())?;
+    let mut letters = rest.copy(alloc)?;
     for q in 0..dfa.states() {
-        block = narrowed(alloc, dfa, q, block, letter)?;
+        let part = leading(alloc, dfa, q, letters, letter)?;
+        letters = part.letters;
+        column.push(part.to)?;
     }
-    Ok(block)
+    Ok(Kind { letters, column })
 }
 
-/// The letters of the block that are in the label of the same edge of the state `q` as this one.
-fn narrowed<L: LabelSet>(
+/// The letters of the block that are in the label of the same edge of the state `q` as this one,
+/// and where that edge leads.
+fn leading<L: LabelSet>(
     alloc: Global,
     dfa: &Dfa<L>,
     q: usize,
     block: L,
     letter: u32,
-) -> Result<L, AllocError>
+) -> Result<LabelPart<L>, AllocError>
     requires deterministic { IsDeterministic dfa.now }
     requires state { q < states dfa.now }
     requires letter { has dfa.now.over letter ≡ true }
     requires size { length (L.letters block) ≡ length dfa.now.over }
-    ensures size { IfOk result (λ narrow. length (L.letters narrow) ≡ length dfa.now.over) }
-    ensures itself { IfOk result (λ narrow. has (L.letters block) letter ≡ true →
-        has (L.letters narrow) letter ≡ true) }
-    ensures alike { IfOk result (λ narrow. (k : ℕ) → has (L.letters narrow) k ≡ true →
+    ensures size { IfOk result (λ kept. length (L.letters kept.letters) ≡ length dfa.now.over) }
+    ensures itself { IfOk result (λ kept. has (L.letters block) letter ≡ true →
+        has (L.letters kept.letters) letter ≡ true) }
+    ensures alike { IfOk result (λ kept. (k : ℕ) → has (L.letters kept.letters) k ≡ true →
         (has (L.letters block) k ≡ true) × (next dfa.now q letter ≡ next dfa.now q k)) }
+    ensures leads { IfOk result (λ kept. kept.to ≡ next dfa.now q letter) }
+    ensures state { IfOk result (λ kept. kept.to < states dfa.now) }
 {
     let edges = dfa.edges(q);
     for edge in edges {
         if let Some(label) = &edge.label {
             if label.contains(letter) {
-                return block.meet(alloc, label);
+                let letters = block.meet(alloc, label)?;
+                let to = edge.to;
+                return Ok(LabelPart { letters, to });
             }
         }
     }
-    Ok(block)
+    let to = dfa.start();
+    Ok(LabelPart { letters: block, to })
 }

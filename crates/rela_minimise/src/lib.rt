@@ -2,11 +2,14 @@
 //! comes only where memory is refused.
 #![tactic(auto)]
 
+mod class_pairs;
 mod columns;
+mod cutting;
 mod largest;
 mod lists;
 mod marking;
 mod minimising;
+mod passes;
 mod predecessors;
 mod quotient;
 mod refinement;

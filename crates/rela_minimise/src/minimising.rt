@@ -1,9 +1,12 @@
 //! The minimal automaton.
 ghost use Rattle.std.specs.Prelude.{◌≡◌, ◌≢◌, ℕ, ◌↔◌, List, IfOk};
-ghost use Rattle.rela_subset.specs.Deterministic.{IsAccepted, IsByArrival, IsOver, IsReachable, state_after};
-ghost use Rattle.rela_minimise.specs.Classes.{AreAlike, IsMinimal};
+ghost use Rattle.rela_subset.specs.Deterministic.{IsAccepted, IsByArrival, IsDeterministic, IsOver, IsReachable, state_after};
+ghost use Rattle.rela_minimise.specs.Classes.{AreAlike, AreClasses, IsMinimal};
 
+use crate::columns::columns;
+use crate::passes::by_passes;
 use crate::quotient::quotient;
+use crate::refinement::Classes;
 use crate::refining::refined;
 use rela_labels::LabelSet;
 use rela_subset::{BuildError, Dfa, determinise};
@@ -66,9 +69,22 @@ fn merged<L: LabelSet>(alloc: Global, dfa: Dfa<L>) -> Result<Dfa<L>, AllocError>
         → (state_after made v ≡ state_after made w) ↔ AreAlike dfa v w) }
 {
     prove!(dfa.start() < dfa.states());
-    let refinement = refined(alloc, &dfa)?;
-    let classes = refinement.into_classes();
+    let classes = classes_of(alloc, &dfa)?;
     quotient(alloc, &dfa, &classes.numbers, classes.count)
+}
+
+/// The classes of states that accept the same words: by passes over all states where few are needed,
+/// and else by a refinement that looks only at states whose letters lead to new classes.
+fn classes_of<L: LabelSet>(alloc: Global, dfa: &Dfa<L>) -> Result<Classes, AllocError>
+    requires { IsDeterministic dfa.now }
+    ensures { IfOk result (λ made. AreClasses dfa.now made.count made.numbers.items) }
+{
+    let columns = columns(alloc, dfa)?;
+    if let Some(classes) = by_passes(alloc, dfa, &columns)? {
+        return Ok(classes);
+    }
+    let refinement = refined(alloc, dfa, &columns)?;
+    Ok(refinement.into_classes())
 }
 
 /// The error for want of memory, which is the only one where no limit was set.

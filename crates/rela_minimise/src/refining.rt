@@ -2,10 +2,9 @@
 ghost use Rattle.std.specs.Prelude.{◌≡◌, ℕ, ◌<◌, IfOk, length, slice_index};
 ghost use Rattle.rela_subset.specs.Deterministic.{IsDeterministic};
 ghost use Rattle.rela_minimise.specs.Classes.{AreClasses};
-ghost use Rattle.rela_minimise.specs.Refining.{IsStart};
-ghost use Rattle.rela_minimise.specs.Stored.{stage_of};
+ghost use Rattle.rela_minimise.specs.Refining.{AreColumns, IsStart};
+ghost use Rattle.rela_minimise.specs.Stored.{lists_of, stage_of};
 
-use crate::columns::columns;
 use crate::marking::mark_before_new;
 use crate::predecessors::predecessors;
 use crate::refinement::Refinement;
@@ -17,19 +16,23 @@ use std::alloc::{AllocError, Global};
 /// are split by whether their states are final and by the classes to which letters lead from them,
 /// until none splits (E. F. Moore, "Gedanken-experiments on sequential machines", 1956). In each
 /// round only those states are looked at again from which a letter leads to a new class.
-pub(crate) fn refined<L: LabelSet>(alloc: Global, dfa: &Dfa<L>) -> Result<Refinement, AllocError>
-    requires { IsDeterministic dfa.now }
+pub(crate) fn refined<L: LabelSet>(
+    alloc: Global,
+    dfa: &Dfa<L>,
+    columns: &[Vec<usize>],
+) -> Result<Refinement, AllocError>
+    requires deterministic { IsDeterministic dfa.now }
+    requires columns { AreColumns dfa.now (lists_of columns.now) }
     ensures { IfOk result (λ made. AreClasses dfa.now (length made.members.items)
         made.classes.items) }
 {
-    let columns = columns(alloc, dfa)?;
     let predecessors = predecessors(alloc, dfa)?;
     let mut refinement = one_class(alloc, dfa.states())?;
     let mut waiting = numbers_below(alloc, dfa.states())?;
     let mut before = 0;
     while before < refinement.members.len() {
         before = refinement.members.len();
-        refinement.split(alloc, dfa, &columns, &waiting)?;
+        refinement.split(alloc, dfa, columns, &waiting)?;
         waiting.clear();
         mark_before_new(
             &mut refinement.stale,

@@ -11,12 +11,12 @@ loop-letter-init g c =
 
 pub loop-letter-smaller : goal.loop-letter-smaller
 loop-letter-smaller g c =
-    fewer_left (g.L.LabelSet.letters c.loop-letter.rest) (g.L.LabelSet.letters c.in_ok-block.block) (g.L.LabelSet.letters c.in_ok-rest-2.rest) c.in-Some.letter
-    c.in_ok-rest-2.ensures.size c.in_ok-rest-2.ensures.first_only c.in-Some.ensures.member (c.in_ok-block.ensures.itself c.in-Some.ensures.member)
+    fewer_left (g.L.LabelSet.letters c.loop-letter.rest) (g.L.LabelSet.letters c.in_ok-kind.kind.letters) (g.L.LabelSet.letters c.in_ok-rest-2.rest) c.in-Some.letter
+    c.in_ok-rest-2.ensures.size c.in_ok-rest-2.ensures.first_only c.in-Some.ensures.member (c.in_ok-kind.ensures.itself c.in-Some.ensures.member)
 
 pub loop-letter-preserved : goal.loop-letter-preserved
 loop-letter-preserved g c =
-    columns_more c.args.dfa.now (g.L.LabelSet.letters c.loop-letter.rest) (g.L.LabelSet.letters c.in_ok-block.block) (g.L.LabelSet.letters c.in_ok-rest-2.rest)
-    (lists_of c.loop-letter.columns.items) (lists_of c.push.new.self.items) c.in-Some.letter c.in_ok-column.field-0.items c.loop-letter.invariant c.in-Some.ensures.member c.in_ok-column.ensures
-    (ap lists_of c.in_ok-push.ensures.items ∙ map_push (λ v. v.items) c.loop-letter.columns.items c.in_ok-column.field-0) c.in_ok-block.ensures.alike
+    columns_more c.args.dfa.now (g.L.LabelSet.letters c.loop-letter.rest) (g.L.LabelSet.letters c.in_ok-kind.kind.letters) (g.L.LabelSet.letters c.in_ok-rest-2.rest)
+    (lists_of c.loop-letter.columns.items) (lists_of c.push.new.self.items) c.in-Some.letter c.in_ok-kind.kind.column.items c.loop-letter.invariant c.in-Some.ensures.member c.in_ok-kind.ensures.column
+    (ap lists_of c.in_ok-push.ensures.items ∙ map_push (λ v. v.items) c.loop-letter.columns.items c.in_ok-kind.kind.column) c.in_ok-kind.ensures.alike
     c.in_ok-rest-2.ensures.size c.in_ok-rest-2.ensures.first_only

@@ -1,7 +1,7 @@
 use Rattle.std.proofs.Common.{◌≡◌, map, drop}
 use Rattle.rela_nfa.specs.Stored.{move_of}
 use Rattle.rela_subset.specs.Deterministic.{moves_of, target}
-use Rattle.rela_minimise.proofs.columns.narrowed.Given as goal
+use Rattle.rela_minimise.proofs.columns.leading.Given as goal
 
 abbrev pub invariant-loop-edge : goal.invariant-loop-edge
 invariant-loop-edge g l =
