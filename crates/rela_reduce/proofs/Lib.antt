@@ -1,7 +1,10 @@
+pub mod Answering
+pub mod InOrder
 pub mod Labelling
 pub mod Lists
 pub mod Lowering
 pub mod Numbering
 pub mod Reduced
+pub mod Rows
 pub mod Saturating
 pub mod Stepping

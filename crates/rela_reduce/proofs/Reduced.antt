@@ -9,8 +9,9 @@ use Rattle.rela_labels.specs.Letters.{has}
 use Rattle.rela_nfa.specs.Automaton.{Automaton, IsAutomaton, IsFinal, IsMove, Move}
 use Rattle.rela_nfa.specs.Runs.{Step, StepIn, HasStep, Follow, spelled, Reach, Accepts}
 use Rattle.rela_reduce.specs.Apart.{AreApart, ReachSame}
+use Rattle.rela_reduce.specs.Bits.{HasBit}
 use Rattle.rela_reduce.specs.Numbered.{IsPlain, Plain, automaton_of, edges_by, labelled}
-use Rattle.rela_reduce.specs.Simulation.{AreClosed, AreWithin, BySilent, GoesAlong, IsAnswered, IsSet, IsWidened, Simulates, arrows_of}
+use Rattle.rela_reduce.specs.Simulation.{AreClosed, AreWithin, BySilent, GoesAlong, IsAnswered, IsWidened, Simulates, arrows_of}
 use Rattle.rela_reduce.specs.declared.arrow.Arrow.{Arrow}
 use Rattle.rela_reduce.specs.declared.arrow.Step.{Step as NumberedStep}
 use Rattle.rela_reduce.proofs.Labelling.{IsKnown}
@@ -20,7 +21,7 @@ use Rattle.rela_reduce.proofs.Saturating.{RunsTo, follow_append, saturated_accep
 use Rattle.rela_reduce.proofs.Stepping.{leads_within}
 
 -- what steps and flags say is so where these are right
-pub simulates_of : (labels : List (List Bool)) (n : Plain) (steps : List (List NumberedStep)) (finals : List Bool) (within relation : List (List Bool)) → AreClosed n steps finals → AreWithin labels within
+pub simulates_of : (labels : List (List Bool)) (n : Plain) (steps : List (List NumberedStep)) (finals : List Bool) (within : List (List Bool)) (relation : List (List ℕ)) → AreClosed n steps finals → AreWithin labels within
     → (p q : ℕ) → GoesAlong n steps finals within relation p q → Simulates labels n relation p q
 simulates_of labels n steps finals within relation closed right p q along = record {
   final = λ set. closed.final p (along.final set);
@@ -94,9 +95,9 @@ module _ (letters : ℕ) (labels : List (List Bool)) where
   no_arrow None t listed = none_listed (record { label = None; to = t }) listed
   no_arrow (Some letter) t (k, listed, in_label) = none_listed (record { label = Some k; to = t }) listed
 
-  module _ (n : Plain) (ok : IsPlain n) (lists : List (List Arrow)) (relation : List (List Bool)) (each : length lists ≡ length n.finals)
-      (widened : (p : ℕ) → p < length n.finals → IsWidened relation (length n.finals) p (arrows_of n.arrows p) (arrows_of lists p))
-      (simulation : (p q : ℕ) → p < length n.finals → q < length n.finals → IsSet relation p q → Simulates labels n relation p q) where
+  module _ (n : Plain) (ok : IsPlain n) (lists : List (List Arrow)) (relation : List (List ℕ)) (each : length lists ≡ length n.finals)
+      (widened : IsWidened relation (length n.finals) n.arrows lists)
+      (simulation : (p q : ℕ) → p < length n.finals → q < length n.finals → HasBit relation p q → Simulates labels n relation p q) where
     abbrev a : Automaton
     a = automaton_of letters labels n
 
@@ -104,7 +105,7 @@ module _ (letters : ℕ) (labels : List (List Bool)) where
     r = automaton_of letters labels (record n { arrows = lists })
 
     abbrev M : ℕ → ℕ → Type 0
-    M p q = (p < length n.finals) × (q < length n.finals) × IsSet relation p q
+    M p q = (p < length n.finals) × (q < length n.finals) × HasBit relation p q
 
     state_of : (p t : ℕ) (letter : Option ℕ) → HasArrow (arrows_of n.arrows p) letter t → p < length n.finals
     state_of p t letter listed = elim (cases_lt p (length n.finals)) [
@@ -119,8 +120,8 @@ module _ (letters : ℕ) (labels : List (List Bool)) where
     into : (p q : ℕ) (letter : Option ℕ) → HasStep a p letter q → HasStep r p letter q
     into p q letter step = step_at (record n { arrows = lists }) p letter q (by letter (arrow_at n p letter q step)) where
       by : (k : Option ℕ) → HasArrow (arrows_of n.arrows p) k q → HasArrow (arrows_of lists p) k q
-      by None listed = (widened p (state_of p q None listed) (record { label = None; to = q })).1 (inl listed)
-      by (Some j) (k, listed, in_label) = (k, (widened p (state_of p q (Some j) (k, listed, in_label)) (record { label = Some k; to = q })).1 (inl listed), in_label)
+      by None listed = (widened.lowered p).own (record { label = None; to = q }) listed
+      by (Some j) (k, listed, in_label) = (k, (widened.lowered p).own (record { label = Some k; to = q }) listed, in_label)
 
     from : (p q : ℕ) (letter : Option ℕ) → HasStep r p letter q → HasStep a p letter q ⊎ ((letter ≡ None) × M p q)
     from p q letter step = elim (cases_lt p (length n.finals)) [
@@ -130,21 +131,17 @@ module _ (letters : ℕ) (labels : List (List Bool)) where
     ]
       where
         by : (k : Option ℕ) → p < length n.finals → HasArrow (arrows_of lists p) k q → HasStep a p k q ⊎ ((k ≡ None) × M p q)
-        by None within listed = elim ((widened p within (record { label = None; to = q })).0 listed) [
+        by None within listed = elim ((widened.lowered p).added (record { label = None; to = q }) listed) [
           | inl own ↦ inl (step_at n p None q own)
           | inr low ↦ inr (refl, (within, low.state, low.simulated))
         ]
-        by (Some j) within (k, listed, in_label) = elim ((widened p within (record { label = Some k; to = q })).0 listed) [
+        by (Some j) within (k, listed, in_label) = elim ((widened.lowered p).added (record { label = Some k; to = q }) listed) [
           | inl own ↦ inl (step_at n p (Some j) q (k, own, in_label))
           | inr low ↦ absurd (none_some k (sym low.silent))
         ]
 
-    lowers : (p q : ℕ) → M p q → (p ≡ q) ⊎ HasStep r p None q
-    lowers p q (p_in, q_in, set) = elim (cases_same p q) [
-      | inl same ↦ inl same
-      | inr differ ↦
-          inr (step_at (record n { arrows = lists }) p None q ((widened p p_in (record { label = None; to = q })).1 (inr (record { silent = refl; other = λ own. differ (sym own); state = q_in; simulated = set }))))
-    ]
+    lowers : (p q : ℕ) → M p q → (steps : List Step) × Follow r p steps q × (spelled steps ≡ [])
+    lowers p q (p_in, q_in, set) = let (path, leads) = widened.leads p q p_in q_in set in silent_run (record n { arrows = lists }) path p q leads
 
     simulates : (p q t : ℕ) (letter : Option ℕ) → M p q → HasStep a q letter t → RunsTo a p (option_to_list letter) (λ u. M u t)
     simulates p q t letter (p_in, q_in, set) step = by letter (arrow_at n q letter t step) where
@@ -188,7 +185,7 @@ module _ (letters : ℕ) (labels : List (List Bool)) where
           let p_list : p < length lists = omega (arith, length-map lists (map edge_of)) in
           let p_in : p < length n.finals = omega (arith, each) in
           let fit : (arrow : Arrow) → Contains (arrows_of lists p) arrow → IsMove letters (length n.finals) (edge_of arrow) =
-          λ arrow listed. elim ((widened p p_in arrow).0 listed) [
+          λ arrow listed. elim ((widened.lowered p).added arrow listed) [
             | inl own ↦ arrow_move a fits labels n.arrows refl p (let same = ok.each in omega arith) arrow own
             | inr low ↦ record { sized = λ set is. absurd (none_some set (sym (ap (option_map (λ (k : ℕ). get_or labels k [])) low.silent) ∙ is)); leads = low.state }
           ] in
@@ -200,7 +197,7 @@ module _ (letters : ℕ) (labels : List (List Bool)) where
     -- labels are numbered as before
     pub reduced_known : All (All (IsKnown n.labels)) lists
     reduced_known =
-        All-from_get_or (All (IsKnown n.labels)) lists [] (λ p within. all_from_listed (IsKnown n.labels) (arrows_of lists p) (λ arrow listed. elim ((widened p (omega (arith, each)) arrow).0 listed) [
+        All-from_get_or (All (IsKnown n.labels)) lists [] (λ p within. all_from_listed (IsKnown n.labels) (arrows_of lists p) (λ arrow listed. elim ((widened.lowered p).added arrow listed) [
           | inl own ↦ (leads_within n ok p arrow own).known
           | inr low ↦ (λ k is. absurd (none_some k (sym low.silent ∙ is)))
         ]))
@@ -221,9 +218,9 @@ pub record Reduces (a x : Automaton) : Type 0 where
   pub same : (v w : List ℕ) → ReachSame a v w → ReachSame x v w
   pub apart : (v w : List ℕ) → AreApart x v w → AreApart a v w
 
-pub reduces : (a x : Automaton) (labels : List (List Bool)) (n : Plain) → IsPlain n → (lists : List (List Arrow)) (relation : List (List Bool)) → length lists ≡ length n.finals
-    → ((p : ℕ) → p < length n.finals → IsWidened relation (length n.finals) p (arrows_of n.arrows p) (arrows_of lists p))
-    → ((p q : ℕ) → p < length n.finals → q < length n.finals → IsSet relation p q → Simulates labels n relation p q)
+pub reduces : (a x : Automaton) (labels : List (List Bool)) (n : Plain) → IsPlain n → (lists : List (List Arrow)) (relation : List (List ℕ)) → length lists ≡ length n.finals
+    → IsWidened relation (length n.finals) n.arrows lists
+    → ((p q : ℕ) → p < length n.finals → q < length n.finals → HasBit relation p q → Simulates labels n relation p q)
     → automaton_of a.letters labels n ≡ a → x.letters ≡ a.letters → x.start ≡ n.start → x.finals ≡ n.finals → x.edges ≡ edges_by labels lists → Reduces a x
 reduces a x labels n ok lists relation each widened simulation same l s f e =
     subst (λ b. Reduces b x) same (subst (Reduces (automaton_of a.letters labels n)) (sym (same_parts x a.letters n.start n.finals (edges_by labels lists) l s f e)) (record {

@@ -25,7 +25,7 @@ module _ (a r : Automaton) (M : ℕ → ℕ → Type 0)
     (same_start : r.start ≡ a.start) (same_finals : r.finals ≡ a.finals)
     (from : (p q : ℕ) (letter : Option ℕ) → HasStep r p letter q → HasStep a p letter q ⊎ ((letter ≡ None) × M p q))
     (into : (p q : ℕ) (letter : Option ℕ) → HasStep a p letter q → HasStep r p letter q)
-    (lowers : (p q : ℕ) → M p q → (p ≡ q) ⊎ HasStep r p None q) where
+    (lowers : (p q : ℕ) → M p q → (steps : List Step) × Follow r p steps q × (spelled steps ≡ [])) where
   -- p can go along with a run from what it simulates
   run_along : (steps : List Step) (p q t : ℕ) → M p q → Follow a q steps t → RunsTo a p (spelled steps) (λ u. M u t)
   run_along [] p q t m here = (p, [], refl, refl, subst (M p) here m)
@@ -88,14 +88,13 @@ module _ (a r : Automaton) (M : ℕ → ℕ → Type 0)
 
   reach_chain : (path : List ℕ) (p q : ℕ) (w : List ℕ) → Chain p path q → Reach r p w → Reach r q w
   reach_chain [] p q w here reach = subst (λ (n : ℕ). Reach r n w) here reach
-  reach_chain (x ∷ path) p q w (first, rest) reach = reach_chain path x q w rest (elim (lowers p x first) [
-    | inl same ↦ subst (λ (n : ℕ). Reach r n w) same reach
-    | inr step ↦ (
-      reach.0 ++ record { letter = None; to = x } ∷ [],
-      follow_append r reach.0 (record { letter = None; to = x } ∷ []) r.start p x reach.1 (step, refl),
-      spelled_append reach.0 (record { letter = None; to = x } ∷ []) ∙ append-nil (spelled reach.0) ∙ reach.2,
-    )
-  ])
+  reach_chain (x ∷ path) p q w (first, rest) reach =
+      let (silent, leads, spells) = lowers p x first in
+      reach_chain path x q w rest (
+        reach.0 ++ silent,
+        follow_append r reach.0 silent r.start p x reach.1 leads,
+        spelled_append reach.0 silent ∙ ap (λ (s : List ℕ). spelled reach.0 ++ s) spells ∙ append-nil (spelled reach.0) ∙ reach.2,
+      )
 
   -- what r reaches is what is below what a reaches
   back : (q : ℕ) (w : List ℕ) → Reach r q w → (p : ℕ) × Reach a p w × Lower p q

@@ -1,4 +1,5 @@
 pub mod Apart
+pub mod Bits
 pub mod Numbered
 pub mod Simulation
 pub mod Stored

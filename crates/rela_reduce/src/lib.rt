@@ -2,13 +2,17 @@
 //! An `AllocError` comes only where memory is refused.
 #![tactic(auto)]
 
+mod answers;
 mod arrow;
+mod bits;
 mod closed;
 mod containment;
 mod edges;
 mod flags;
 mod labels;
+mod looks;
 mod numbered;
+mod ranking;
 mod reducing;
 mod simulation;
 mod widening;

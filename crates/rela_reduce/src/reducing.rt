@@ -3,8 +3,9 @@ ghost use Rattle.std.specs.Prelude.{◌≡◌, ℕ, ◌<◌, ◌↔◌, List, If
 ghost use Rattle.rela_nfa.specs.Automaton.{states};
 ghost use Rattle.rela_nfa.specs.Runs.{Accepts, Reach};
 ghost use Rattle.rela_reduce.specs.Apart.{AreApart, ReachSame};
+ghost use Rattle.rela_reduce.specs.Bits.{HasBit};
 ghost use Rattle.rela_reduce.specs.Numbered.{IsPlain};
-ghost use Rattle.rela_reduce.specs.Simulation.{IsSet, Simulates};
+ghost use Rattle.rela_reduce.specs.Simulation.{Simulates};
 ghost use Rattle.rela_reduce.specs.Stored.{lists_of, plain};
 
 use crate::closed::closed_steps;
@@ -27,16 +28,18 @@ const MOST_LABELS: usize = 256;
 /// The most steps, in all its states, of an automaton whose states are compared.
 const MOST_STEPS: usize = 4_096;
 
-/// The automaton with the same states and edges, and a silent edge from each state to each that it
-/// simulates (R. Milner, "An algebraic definition of simulation between programs", 1971), which
-/// adds no word to the language. A word so reaches, with a state, all that it simulates: of sets
-/// that differ in these alone, which there may be by the thousand, one is left. Words that reached
-/// the same states still do, and a state tells no two words apart that none told apart before.
+/// The automaton with the same states and edges, and silent edges that lead from each state to each
+/// that it simulates (R. Milner, "An algebraic definition of simulation between programs", 1971),
+/// which adds no word to the language. A word so reaches, with a state, all that it simulates: of
+/// sets that differ in these alone, which there may be by the thousand, one is left. Words that
+/// reached the same states still do, and a state tells no two words apart that none told apart
+/// before. No edge is added where others lead on so.
 ///
 /// States are compared where the automaton is small, and else none is said to simulate another.
-/// Time: for each round, of which there are at most 256, a look at each pair of states, with pairs
-/// of their edges, and a copy of each edge; space: a flag for each pair of states, and the edges. An
-/// automaton that isn't small costs the copy alone, with a look at each letter for each label.
+/// Time: for each round, of which there are at most 256, a look at the edges of each pair of states
+/// at most, then a look at each pair, and a copy of each edge; space: a bit for each pair of states,
+/// and the edges. An automaton that isn't small costs the copy alone, with a look at each pair of
+/// states, and at each letter for each label.
 pub fn reduce<L: LabelSet>(alloc: Global, a: &Nfa<L>) -> Result<Nfa<L>, AllocError>
     ensures letters { IfOk result (λ nfa. nfa.letters ≡ a.now.letters) }
     ensures states { IfOk result (λ nfa. states nfa ≡ states a.now) }
@@ -59,16 +62,16 @@ pub fn reduce<L: LabelSet>(alloc: Global, a: &Nfa<L>) -> Result<Nfa<L>, AllocErr
     Ok(Nfa::from_lists(a.letters(), start, finals, edges))
 }
 
-/// For each state a flag for each that it simulates; no row of flags where the automaton isn't
+/// For each state a bit for each that it simulates; no row of bits where the automaton isn't
 /// small, which says that no state simulates another.
 fn relation_of<L: LabelSet>(
     alloc: Global,
     whole: &Numbered,
     labels: &Labels<'_, L>,
-) -> Result<Vec<Vec<bool>>, AllocError>
+) -> Result<Vec<Vec<u64>>, AllocError>
     requires { IsPlain (plain whole.now) }
     ensures { IfOk result (λ rows. (p q : ℕ) → p < length whole.now.finals.items →
-        q < length whole.now.finals.items → IsSet (lists_of rows.items) p q
+        q < length whole.now.finals.items → HasBit (lists_of rows.items) p q
         → Simulates labels.now (plain whole.now) (lists_of rows.items) p q) }
 {
     if whole.finals.len() > MOST_STATES || labels.len() > MOST_LABELS {

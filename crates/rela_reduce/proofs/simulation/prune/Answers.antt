@@ -1,6 +1,7 @@
 use Rattle.std.proofs.Common.{◌≡◌, ◌+◌, ◌-◌, length, sym, ◌∙◌, subst, inl, inr, arith}
 use Rattle.std.proofs.lemmas.Bool.{cases_lt, false≢true}
-use Rattle.rela_reduce.specs.Simulation.{GoesAlong, IsSet}
+use Rattle.rela_reduce.specs.Bits.{HasBit}
+use Rattle.rela_reduce.specs.Simulation.{GoesAlong}
 use Rattle.rela_reduce.specs.Stored.{lists_of, plain}
 use Rattle.rela_reduce.proofs.simulation.prune.Goals as goal
 use Rattle.rela_reduce.proofs.simulation.prune.Goals.{then-prune_row, else-prune_row}
@@ -22,7 +23,7 @@ loop-later-preserved c = elim c.if-prune_row.branch [
               subst (λ m. GoesAlong (plain c.args.whole.now) (lists_of c.args.closed.now.steps.items) c.args.closed.now.finals.items (lists_of c.args.within.now) (lists_of c.args.relation.now) m q) at
               (subst (λ rel. GoesAlong (plain c.args.whole.now) (lists_of c.args.closed.now.steps.items) c.args.closed.now.finals.items (lists_of c.args.within.now) (lists_of rel) (c.len.result - 1 - c.loop-later.later) q) same
               (c.prune_row.ensures.along w.if-prune_row.false q q_in
-              (subst (λ m. IsSet (lists_of c.loop-later.relation) m q) (sym at) (subst (λ rel. IsSet (lists_of rel) p q) (sym same) set))))
+              (subst (λ m. HasBit (lists_of c.loop-later.relation) m q) (sym at) (subst (λ rel. HasBit (lists_of rel) p q) (sym same) set))))
           | inr more ↦ c.loop-later.invariant.along before p q p_in more q_in set
         ];
   }
