@@ -1,5 +1,5 @@
 -- What stands at the front of a text, by its first byte: the piece's token and length, or nothing where no piece begins.
-use Rattle.std.specs.Prelude.{ℕ, ◌+◌, Bool, false, ◌==◌, if◌then◌else◌, List, [], ◌∷◌, take, drop, Option, Some, None, slice_index}
+use Rattle.std.specs.Prelude.{ℕ, ◌+◌, Bool, false, ◌==◌, if◌then◌else◌, List, [], ◌∷◌, take, drop, Option, Some, None, is_some, slice_index}
 use Rattle.std.specs.List.{prefix_len}
 use Rattle.rela_names.specs.Name.{is_name_byte, is_name}
 use Rattle.rela_lex.specs.declared.front.Front.{Front}
@@ -44,3 +44,8 @@ front_of (byte ∷ rest) =
     else if is_name_byte byte then bare_front (byte ∷ rest)
     else if is_mark byte then Some (record { token = Some (Mark byte); len = 1 })
     else None
+
+-- the piece is a token
+abbrev pub has_token : Option Front → Bool
+has_token None = false
+has_token (Some front) = is_some front.token

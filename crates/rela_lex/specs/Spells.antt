@@ -103,8 +103,15 @@ pub record IsBadToken (text : List ℕ) (at : ℕ) : Type 0 where
   pub none : (piece : Piece) (after : List ℕ) → rest ≡ spelling piece ++ after →
       ¬ Stands piece after
 
--- memory ran out, or this is the text's fault
+-- a cut reaches a token
+pub record ReachesToken (text : List ℕ) : Type 0 where
+  pub pieces : List Piece
+  pub kind : TokenKind
+  pub rest : List ℕ
+  pub cut : IsCut text (pieces ++ Lexeme kind ∷ []) rest
+
+-- memory ran out at a token, or this is the text's fault
 abbrev pub IsFault : List ℕ → SpecError → Type 0
 IsFault text (BadToken at) = IsBadToken text at
-IsFault text Memory = ⊤
+IsFault text Memory = ReachesToken text
 IsFault text _ = ⊥

@@ -1,6 +1,6 @@
 //! The cut of a text into tokens.
 
-ghost use Rattle.std.specs.Prelude.{◌≡◌, ◌≤◌, ◌⊎◌, ℕ, List, ◌++◌, length, IfOk, IfErr, OnOk, MatchResult};
+ghost use Rattle.std.specs.Prelude.{◌≡◌, ◌≤◌, ◌⊎◌, ℕ, List, ◌++◌, length, is_some, IsTrue, IfOk, IfErr, OnOk, OnErr, MatchResult};
 ghost use Rattle.rela_lex.specs.declared.token.Token.{Token};
 ghost use Rattle.rela_lex.specs.Spells.{tokens_at, Spells, IsBadToken, IsFault};
 
@@ -20,7 +20,8 @@ pub const MAX_TEXT_LEN: usize = 33_554_432;
 ///
 /// # Errors
 ///
-/// `BadToken` at the first byte where no token, blank or comment begins; `Memory`.
+/// `BadToken` at the first byte where no token, blank or comment begins; `Memory` where memory runs
+/// out, and so only at a token.
 pub fn tokens(alloc: Global, bytes: &[u8]) -> Result<Vec<Token>, SpecError>
     requires { length bytes.now ≤ MAX_TEXT_LEN }
     // What is read is spelled so, and what is refused has its fault there.
@@ -47,7 +48,8 @@ pub fn tokens(alloc: Global, bytes: &[u8]) -> Result<Vec<Token>, SpecError>
 
 /// Appends the token, if there is one.
 fn keep(tokens: &mut Vec<Token>, at: u32, token: Option<TokenKind>) -> Result<(), AllocError>
-    ensures { OnOk result (tokens.new.items ≡ tokens.old.items ++ tokens_at at token) }
+    ensures kept { OnOk result (tokens.new.items ≡ tokens.old.items ++ tokens_at at token) }
+    ensures some { OnErr result (IsTrue (is_some token)) }
 {
     if let Some(kind) = token {
         tokens.push(Token { at, kind })?;

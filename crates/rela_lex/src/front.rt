@@ -1,10 +1,10 @@
 //! The piece at the front of a text.
 
-ghost use Rattle.std.specs.Prelude.{◌≡◌, ◌<◌, ◌≤◌, length, if◌then◌else◌, IfOk, Some, None};
+ghost use Rattle.std.specs.Prelude.{◌≡◌, ◌<◌, ◌≤◌, length, if◌then◌else◌, IsTrue, IfOk, OnErr, Some, None};
 ghost use Rattle.std.specs.List.{prefix_len};
-ghost use Rattle.rela_names.specs.Name.{is_name_byte, is_name};
+ghost use Rattle.rela_names.specs.Name.{is_name_byte, is_name, IsName};
 ghost use Rattle.rela_lex.specs.Spells.{is_blank, is_mark, is_lone_mark, is_within_line};
-ghost use Rattle.rela_lex.specs.Front.{begins_with, quoted_front, reference_front, bare_front, front_of};
+ghost use Rattle.rela_lex.specs.Front.{begins_with, quoted_front, reference_front, bare_front, front_of, has_token};
 
 use crate::token::TokenKind;
 use rela_names::{Name, NameError, is_name_byte};
@@ -19,10 +19,12 @@ pub(crate) struct Front {
     pub(crate) len: usize,
 }
 
-/// The piece at the front of a text, or `None` where none begins there.
+/// The piece at the front of a text, or `None` where none begins there. Memory is wanted only for a
+/// token.
 #[tactic(auto, unfolding(crate::specs::Front::front_of))]
 pub(crate) fn read_front(alloc: Global, text: &[u8]) -> Result<Option<Front>, AllocError>
-    ensures { IfOk result (λ found. found ≡ front_of text.now) }
+    ensures piece { IfOk result (λ found. found ≡ front_of text.now) }
+    ensures token { OnErr result (IsTrue (has_token (front_of text.now))) }
 {
     let Some((first, rest)) = text.split_first() else {
         return Ok(None);
@@ -52,7 +54,8 @@ pub(crate) fn read_front(alloc: Global, text: &[u8]) -> Result<Option<Front>, Al
 #[tactic(auto, unfolding(crate::specs::Front::quoted_front))]
 fn read_quoted(alloc: Global, rest: &[u8]) -> Result<Option<Front>, AllocError>
     requires { length rest.now < usize.MAX }
-    ensures { IfOk result (λ found. found ≡ quoted_front rest.now) }
+    ensures piece { IfOk result (λ found. found ≡ quoted_front rest.now) }
+    ensures token { OnErr result (IsTrue (has_token (quoted_front rest.now))) }
 {
     let len = run_len(rest);
     let (name, after) = rest.split_at(len);
@@ -71,7 +74,8 @@ fn read_quoted(alloc: Global, rest: &[u8]) -> Result<Option<Front>, AllocError>
 /// The reference behind a `$`, or `None` where no name follows. Its length counts the `$`.
 #[tactic(auto, unfolding(crate::specs::Front::reference_front))]
 fn read_reference(alloc: Global, rest: &[u8]) -> Result<Option<Front>, AllocError>
-    ensures { IfOk result (λ found. found ≡ reference_front rest.now) }
+    ensures piece { IfOk result (λ found. found ≡ reference_front rest.now) }
+    ensures token { OnErr result (IsTrue (has_token (reference_front rest.now))) }
 {
     let len = run_len(rest);
     let Some(name) = name_of(alloc, &rest[..len])? else {
@@ -87,7 +91,8 @@ fn read_reference(alloc: Global, rest: &[u8]) -> Result<Option<Front>, AllocErro
 /// `.` or `:`. `None` where the run is longer than a name may be.
 #[tactic(auto, unfolding(crate::specs::Front::bare_front))]
 fn read_bare(alloc: Global, text: &[u8]) -> Result<Option<Front>, AllocError>
-    ensures { IfOk result (λ found. found ≡ bare_front text.now) }
+    ensures piece { IfOk result (λ found. found ≡ bare_front text.now) }
+    ensures token { OnErr result (IsTrue (has_token (bare_front text.now))) }
 {
     let len = run_len(text);
     let run = &text[..len];
@@ -106,9 +111,12 @@ fn read_bare(alloc: Global, text: &[u8]) -> Result<Option<Front>, AllocError>
     }))
 }
 
-/// The name of these bytes, or `None` where they are none. The only error is want of memory.
+/// The name of these bytes, or `None` where they are none. The only error is want of memory, for a
+/// name.
 fn name_of(alloc: Global, bytes: &[u8]) -> Result<Option<Name>, AllocError>
-    ensures { IfOk result (λ found. found ≡ (if is_name bytes.now then Some bytes.now else None)) }
+    ensures found { IfOk result (λ found.
+        found ≡ (if is_name bytes.now then Some bytes.now else None)) }
+    ensures name { OnErr result (IsName bytes.now) }
 {
     match Name::from_bytes(alloc, bytes) {
         Ok(name) => Ok(Some(name)),
