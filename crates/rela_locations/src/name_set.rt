@@ -1,6 +1,6 @@
 //! The names of one kind that a walk of the file has come by.
 
-ghost use Rattle.std.specs.Prelude.{◌≡◌, ◌≢◌, ◌<◌, [], length, Ok, Err, IfOk, IfErr, OnOk};
+ghost use Rattle.std.specs.Prelude.{◌≡◌, ◌≢◌, ◌<◌, [], length, Ok, Err, IfOk, IfErr, OnOk, IsErrOf};
 ghost use Rattle.rela_locations.specs.Names.{with_name, next_row, location_name, new_name};
 ghost use Rattle.rela_names.specs.Name.{IsLocationName};
 
@@ -60,13 +60,15 @@ impl NameSet {
     /// # Errors
     ///
     /// `BadName` where the bytes are no name; else `ReservedName` where no location may have it;
-    /// else `RepeatedEntry` where an earlier entry has it; `Memory`.
+    /// else `RepeatedEntry` where an earlier entry has it; `Memory` where memory runs out, and so
+    /// only for a name that a location may have.
     pub(crate) fn add(&mut self, alloc: Global, bytes: &[u8], row: u32) -> Result<Name, LoadError>
         requires { length self.old < 100000 }
         ensures name { IfOk result (λ name. new_name self.old row bytes.now ≡ Ok name) }
         ensures added { IfOk result (λ name. self.new ≡ with_name self.old name) }
         ensures fault { IfErr result (λ e. e ≢ LoadError.Memory →
             new_name self.old row bytes.now ≡ Err e) }
+        ensures memory { IsErrOf result LoadError.Memory → IsLocationName bytes.now }
     {
         let name = location_name(alloc, bytes, row)?;
         let is_new = self.names.insert(name.copy(alloc)?)?;
@@ -94,13 +96,14 @@ impl NameSet {
 ///
 /// # Errors
 ///
-/// `BadName` where the bytes are no name; else `ReservedName` where they are `drop` or `loop`;
-/// `Memory`.
+/// `BadName` where the bytes are no name; else `ReservedName` where they are `drop` or `loop`; else
+/// `Memory` where memory runs out.
 fn location_name(alloc: Global, bytes: &[u8], row: u32) -> Result<Name, LoadError>
     ensures name { IfOk result (λ name. location_name row bytes.now ≡ Ok name) }
     ensures same { IfOk result (λ name. name ≡ bytes.now) }
     ensures location { OnOk result (IsLocationName bytes.now) }
     ensures fault { IfErr result (λ e. e ≢ LoadError.Memory → location_name row bytes.now ≡ Err e) }
+    ensures memory { IsErrOf result LoadError.Memory → IsLocationName bytes.now }
 {
     match Name::location(alloc, bytes) {
         Ok(name) => Ok(name),

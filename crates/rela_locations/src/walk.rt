@@ -1,7 +1,7 @@
 //! The walk of the file: groups in order, in each its devices, in each device its tags and then its
 //! interfaces. The first fault of the walk is the answer.
 
-ghost use Rattle.std.specs.Prelude.{◌≡◌, ◌≢◌, Ok, Err, [], ◌∷◌, map, option_map, IfOk, IfErr};
+ghost use Rattle.std.specs.Prelude.{◌≡◌, ◌≢◌, Ok, Err, [], ◌∷◌, map, option_map, is_ok, IsTrue, IfOk, IfErr, IsErrOf};
 ghost use Rattle.std.specs.List.{flat_map};
 ghost use Rattle.serde_json.specs.View.{view};
 ghost use Rattle.rela_names.specs.declared.level.Level.TheVariants as level;
@@ -237,6 +237,8 @@ fn read_tag(alloc: Global, value: &Value, row: u32) -> Result<Name, LoadError>
     ensures tag { IfOk result (λ tag. load_tag row (view value.now) ≡ Ok tag) }
     ensures fault { IfErr result (λ e. e ≢ LoadError.Memory →
         load_tag row (view value.now) ≡ Err e) }
+    ensures memory { IsErrOf result LoadError.Memory →
+        IsTrue (is_ok (load_tag row (view value.now))) }
 {
     match Name::from_bytes(alloc, bytes(Some(value), 10, row)?) {
         Ok(tag) => Ok(tag),
