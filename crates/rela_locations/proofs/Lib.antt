@@ -3,6 +3,7 @@ pub mod LoadLaws
 pub mod Loops
 pub mod WalkLaws
 pub mod NameOrder
+pub mod RisingNames
 pub mod NameSets
 pub mod PairLaws
 pub mod Writes

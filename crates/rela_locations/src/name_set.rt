@@ -1,31 +1,41 @@
 //! The names of one kind that a walk of the file has come by.
 
-ghost use Rattle.std.specs.Prelude.{◌≡◌, ◌≢◌, ◌<◌, [], length, Ok, Err, IfOk, IfErr, OnOk, IsErrOf};
-ghost use Rattle.rela_locations.specs.Names.{with_name, next_row, location_name, new_name};
-ghost use Rattle.rela_names.specs.Name.{IsLocationName};
+ghost use Rattle.std.specs.Prelude.{◌≡◌, ◌≢◌, ◌<◌, ◌⊎◌, ◌++◌, [], length, Ok, Err, IfOk, IfErr, OnOk, OnErr, IsErrOf, IsTrue, not};
+ghost use Rattle.std.specs.List.{All};
+ghost use Rattle.std.specs.declared.cmp.Ordering.TheVariants.{Greater};
+ghost use Rattle.rela_locations.specs.Names.{with_name, has_name, next_row, location_name, new_name};
+ghost use Rattle.rela_names.specs.Name.{bytes_cmp, IsAscending, IsLocationName};
 
 use rela_json::LoadError;
 use rela_names::{Alphabet, MAX_LOCATIONS, Name, NameError};
 use std::alloc::{AllocError, Global};
 use std::collections::BTreeSet;
 use std::marker::Model;
+use std::mem::replace;
 
-/// The names of all entries of one kind so far, in the order of their bytes.
+/// The names of all entries of one kind so far, in the order of their bytes; each may be that of a
+/// location. Most files list their entries in this order: as long as each name comes after the one
+/// before it, the names stand in a vector, and from the first one on that doesn't in an ordered set.
 #[derive(Drop)]
 pub(crate) struct NameSet {
-    /// The names, of which each may be that of a location.
-    names: BTreeSet<Name>,
+    /// The names, as long as each came after the one before it; none from then on.
+    rising: Vec<Name>,
+    /// All names, once one came before another; none until then.
+    mixed: BTreeSet<Name>,
 }
 
 impl Model for NameSet {
-    ghost use Rattle.std.specs.Prelude.{List, ℕ};
+    ghost use Rattle.std.specs.Prelude.{◌≡◌, ◌⊎◌, ◌++◌, List, [], ℕ};
+    ghost use Rattle.rela_names.specs.Name.{IsAscending};
     ghost use Rattle.rela_locations.specs.Names.{AreLocationNames};
 
     ghost Value = { List (List ℕ) };
 
-    ghost view = { λ set. set.names.keys };
+    ghost view = { λ set. set.rising.items ++ set.mixed.keys };
 
-    ghost invariant = { λ set. AreLocationNames set.names.keys };
+    ghost invariant = { λ set. AreLocationNames (set.rising.items ++ set.mixed.keys)
+        × IsAscending set.rising.items
+        × ((set.rising.items ≡ []) ⊎ (set.mixed.keys ≡ [])) };
 }
 
 impl NameSet {
@@ -34,7 +44,8 @@ impl NameSet {
         ensures { result ≡ [] }
     {
         NameSet {
-            names: BTreeSet::new(alloc),
+            rising: Vec::new(alloc),
+            mixed: BTreeSet::new(alloc),
         }
     }
 
@@ -46,7 +57,7 @@ impl NameSet {
     pub(crate) fn next_row(&self) -> Result<u32, LoadError>
         ensures { result ≡ next_row self.now }
     {
-        let row = self.names.len() as u32;
+        let row = (self.rising.len() + self.mixed.len()) as u32;
         if (row as usize) < MAX_LOCATIONS {
             Ok(row)
         } else {
@@ -55,7 +66,8 @@ impl NameSet {
     }
 
     /// The name of these bytes, which is added to the set. `row` is that of the entry, for the
-    /// errors. Time: a search in an ordered set.
+    /// errors. Time: a comparison as long as each name comes after the one before it, and then a
+    /// search in an ordered set, which is made once.
     ///
     /// # Errors
     ///
@@ -71,14 +83,31 @@ impl NameSet {
         ensures memory { IsErrOf result LoadError.Memory → IsLocationName bytes.now }
     {
         let name = location_name(alloc, bytes, row)?;
-        let is_new = self.names.insert(name.copy(alloc)?)?;
+        let is_new = self.insert(alloc, name.copy(alloc)?)?;
         if !is_new {
             return Err(LoadError::RepeatedEntry { row });
         }
         Ok(name)
     }
 
-    /// The names as an alphabet. Time: linear in their number.
+    /// Adds the name of a location, and says whether it is new.
+    fn insert(&mut self, alloc: Global, name: Name) -> Result<bool, AllocError>
+        requires room { length self.old < 100000 }
+        requires location { IsLocationName name }
+        ensures new { IfOk result (λ is_new. is_new ≡ not (has_name self.old name)) }
+        ensures added { OnOk result (self.new ≡ with_name self.old name) }
+    {
+        if self.mixed.is_empty() && is_after_all(&self.rising, &name) {
+            self.rising.push(name)?;
+            return Ok(true);
+        }
+        mix(alloc, &mut self.rising, &mut self.mixed)?;
+        let is_new = self.mixed.insert(name)?;
+        Ok(is_new)
+    }
+
+    /// The names as an alphabet. Time: linear in their number, and constant where each came after
+    /// the one before it.
     ///
     /// # Errors
     ///
@@ -86,10 +115,52 @@ impl NameSet {
     pub(crate) fn into_alphabet(self, alloc: Global) -> Result<Alphabet, AllocError>
         ensures { IfOk result (λ alphabet. alphabet ≡ self) }
     {
-        let NameSet { names } = self;
-        let names = names.into_iter().collect(alloc)?;
+        let NameSet { rising, mixed } = self;
+        if mixed.is_empty() {
+            return Ok(Alphabet::new(rising));
+        }
+        let names = mixed.into_iter().collect(alloc)?;
         Ok(Alphabet::new(names))
     }
+}
+
+/// Whether the name comes after all of these, each of which comes after the one before it.
+fn is_after_all(names: &[Name], name: &Name) -> bool
+    requires { IsAscending names.now }
+    ensures { IsTrue result → All (λ other. bytes_cmp name.now other ≡ Greater) names.now }
+{
+    match names.last() {
+        Some(last) => name > last,
+        None => true,
+    }
+}
+
+/// Moves the names, each of which comes after the one before it, into the set, which has none where
+/// there are any. Where memory is wanted for it, they are dropped.
+fn mix(alloc: Global, rising: &mut Vec<Name>, mixed: &mut BTreeSet<Name>) -> Result<(), AllocError>
+    requires rising { IsAscending rising.old.items }
+    requires one_kind { (rising.old.items ≡ []) ⊎ (mixed.old.keys ≡ []) }
+    ensures none { rising.new.items ≡ [] }
+    ensures moved { OnOk result (mixed.new.keys ≡ rising.old.items ++ mixed.old.keys) }
+    ensures unchanged { OnErr result (mixed.new.keys ≡ mixed.old.keys) }
+{
+    if !rising.is_empty() {
+        let names = replace(rising, Vec::new(alloc));
+        *mixed = set_of(alloc, names)?;
+    }
+    Ok(())
+}
+
+/// The set of these names, each of which comes after the one before it.
+fn set_of(alloc: Global, names: Vec<Name>) -> Result<BTreeSet<Name>, AllocError>
+    requires { IsAscending names.items }
+    ensures { IfOk result (λ set. set.keys ≡ names.items) }
+{
+    let mut set = BTreeSet::new(alloc);
+    for name in names {
+        set.insert(name)?;
+    }
+    Ok(set)
 }
 
 /// The name of these bytes, which a location may have. `row` is that of the entry, for the errors.
