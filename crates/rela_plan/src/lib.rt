@@ -3,8 +3,12 @@
 #![tactic(auto)]
 
 mod alike;
+mod flow_bits;
+mod known;
 mod laws;
+mod leaf;
 mod planning;
+mod selection;
 
 pub use alike::alike_flows;
 pub use laws::plans_are_equal;

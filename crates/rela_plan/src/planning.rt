@@ -1,19 +1,26 @@
 //! Which rows a report has.
 
-ghost use Rattle.std.specs.Prelude.{◌≡◌, ◌≤◌, IfOk, All, length, map};
-ghost use Rattle.rela_flows.specs.Plan.{Plan};
-ghost use Rattle.rela_flows.specs.Selects.{depth};
+ghost use Rattle.std.specs.Prelude.{◌≡◌, ◌≢◌, ◌-◌, ◌%◌, ◌≤◌, ◌<◌, ◌++◌, ℕ, List, IfOk, OnOk, All, length, map};
+ghost use Rattle.std.specs.List.{HoldsAt};
+ghost use Rattle.rela_flows.specs.Plan.{ArePlaces, Plan, rows_of_flow};
+ghost use Rattle.rela_plan.specs.Selection.{HasFlow, AreSelections, block_at};
 ghost use Rattle.rela_plan.specs.Within.{IsWithin};
 
-use rela_flows::{FlowClass, PlannedRow, Predicate, plan};
+use crate::flow_bits::{BLOCK, has_flow};
+use crate::selection::{room_for_leaves, selections_of};
+use rela_flows::PlannedRow;
 use rela_snapshot::FlowPair;
 use rela_translate::Check;
 use std::alloc::{AllocError, Global};
 
 /// The rows to be made for these flows under these checks, each with the indexes of its flow and
 /// its check: flow after flow, one for each check that selects it, in the order of the checks, or
-/// one alone where none does. Time: linear in the flows times the sizes of the predicates; space:
-/// linear in the flows, the checks and the rows.
+/// one alone where none does.
+///
+/// Predicates are asked of 64 flows at once, and a leaf that stands in several is asked of each
+/// flow once. Time: expected linear in the flows times the distinct leaves, in the rows, and in
+/// the flows times the sizes of the predicates by 64; space: linear in the checks with their
+/// predicates, and the rows.
 ///
 /// # Errors
 ///
@@ -28,42 +35,62 @@ pub fn plan_rows(
     ensures within { IfOk result (λ planned.
         All (IsWithin (length pairs.now) (length checks.now)) planned.items) }
 {
-    let classes = classes_of(alloc, pairs)?;
-    let predicates = predicates_of(alloc, checks)?;
-    plan(alloc, &classes, &predicates)
-}
-
-/// What is said of each flow, lent in their order.
-fn classes_of<'a>(alloc: Global, pairs: &'a [FlowPair]) -> Result<Vec<&'a FlowClass>, AllocError>
-    ensures { IfOk result (λ classes. map (λ c. c.now) classes.items
-        ≡ map (λ pair. pair.class) pairs.now) }
-{
-    let mut classes = Vec::with_capacity(alloc, pairs.len())?;
-    for pair in pairs {
-        classes.push(&pair.class)?;
+    let room = room_for_leaves(checks);
+    let mut selections = Vec::new(alloc);
+    let mut rows = Vec::new(alloc);
+    for flow in 0..pairs.len() {
+        selections = selections_at(alloc, selections, flow, pairs, checks, room)?;
+        push_rows_of_flow(&mut rows, flow, (flow % BLOCK) as u32, &selections)?;
     }
-    Ok(classes)
+    Ok(rows)
 }
 
-/// The predicate of each check, lent in their order.
-fn predicates_of<'a>(alloc: Global, checks: &'a [Check]) -> Result<Vec<&'a Predicate>, AllocError>
-    ensures predicates { IfOk result (λ predicates. map (λ p. p.now) predicates.items
-        ≡ map (λ check. check.when) checks.now) }
-    ensures shallow { IfOk result (λ predicates. All (λ p. depth p.now ≤ 1000) predicates.items) }
+/// The selections of the block of a flow: those that are kept, or new ones at the first flow of a
+/// block.
+fn selections_at(
+    alloc: Global,
+    kept: Vec<u64>,
+    flow: usize,
+    pairs: &[FlowPair],
+    checks: &[Check],
+    room: usize,
+) -> Result<Vec<u64>, AllocError>
+    requires flow { flow < length pairs.now }
+    requires room { 0 < room }
+    requires kept { flow % 64 ≢ 0 →
+        AreSelections (block_at (flow - flow % 64) pairs.now) checks.now kept.items }
+    ensures { IfOk result (λ selections.
+        AreSelections (block_at (flow - flow % 64) pairs.now) checks.now selections.items) }
 {
-    let mut predicates = Vec::with_capacity(alloc, checks.len())?;
-    for check in checks {
-        predicates.push(predicate_of(check))?;
+    if flow % BLOCK != 0 {
+        return Ok(kept);
     }
-    Ok(predicates)
+    let end = flow + (pairs.len() - flow).min(BLOCK);
+    selections_of(alloc, checks, &pairs[flow..end], room)
 }
 
-/// The predicate by which a check selects flows, which is at most 1,000 deep.
-fn predicate_of(check: &Check) -> &Predicate
-    ensures predicate { result.now ≡ check.now.when }
-    ensures shallow { depth result.now ≤ 1000 }
+/// Appends the rows of the flow at a place of a block: one for each check whose selection has it,
+/// or one alone.
+fn push_rows_of_flow(
+    rows: &mut Vec<PlannedRow>,
+    flow: usize,
+    place: u32,
+    selections: &[u64],
+) -> Result<(), AllocError>
+    requires { place < 64 }
+    ensures { OnOk result ((places : List ℕ)
+        × ArePlaces (λ k. HoldsAt (λ flows. HasFlow flows place) selections.now k)
+        (length selections.now) places
+        × (rows.new.items ≡ rows.old.items ++ rows_of_flow flow places)) }
 {
-    // The contract of the body tells the limits of the check.
-    let _body = check.body();
-    check.when()
+    let before = rows.len();
+    for (check, flows) in selections.iter().enumerate() {
+        if has_flow(*flows, place) {
+            rows.push(PlannedRow::Checked { flow, check })?;
+        }
+    }
+    if rows.len() == before {
+        rows.push(PlannedRow::Unselected { flow })?;
+    }
+    Ok(())
 }
