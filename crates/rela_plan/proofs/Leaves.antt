@@ -61,9 +61,6 @@ selects_or ps c = ap (λ p. Selects p c) (sym (V.rolls-Or ps)) ∙ selects_roll 
 depth_roll : (x : Predicate-F Predicate) → depth (roll-Predicate x) ≡ layer_depth (map-Predicate Predicate ℕ depth x)
 depth_roll x = fold-roll-Predicate ℕ layer_depth x
 
-pub depth_not : (p : Predicate) → depth (V.Not p) ≡ depth p + 1
-depth_not p = ap depth (sym (V.rolls-Not p)) ∙ depth_roll (Not p)
-
 depth_and : (ps : List Predicate) → depth (V.And ps) ≡ greatest (map depth ps) + 1
 depth_and ps = ap depth (sym (V.rolls-And ps)) ∙ depth_roll (And ps)
 
@@ -75,9 +72,6 @@ parts_depth : (n : ℕ) (ps : List Predicate) → greatest (map depth ps) ≤ n 
 parts_depth n [] fits k d inside = absurd (omega arith)
 parts_depth n (p ∷ ps) fits zero d inside = omega arith
 parts_depth n (p ∷ ps) fits (suc k) d inside = parts_depth n ps (omega arith) k d (omega arith)
-
-pub part_of_not : (p q : Predicate) → depth p ≤ 1000 → p ≡ V.Not q → depth q ≤ 1000
-part_of_not p q fits is = omega (arith, ap depth is, depth_not q, fits)
 
 pub parts_of_and : (p : Predicate) (ps : List Predicate) → depth p ≤ 1000 → p ≡ V.And ps → EachHas (λ q. depth q ≤ 1000) ps
 parts_of_and p ps fits is = parts_depth 1000 ps (omega (arith, ap depth is, depth_and ps, fits))

@@ -114,10 +114,6 @@ selections_push block checks n check words word is inside zip one =
     (sym (take_more checks n check inside ∙ ap (λ (c : Checked). take n checks ++ c ∷ []) (sym is)))
     (zip_push (λ (c : Checked) (w : ℕ). IsSelection block c.when w) (take n checks) words check word zip one)
 
-pub selections_all : (block : List FlowPair) (checks : List Checked) (n : ℕ) (words : List ℕ) → length checks ≤ n
-    → AreSelections block (take n checks) words → AreSelections block checks words
-selections_all block checks n words past zip = subst (λ (cs : List Checked). AreSelections block cs words) (take_all n checks past) zip
-
 -- ---- flows and their blocks
 
 abbrev pub classes : List FlowPair → List FlowClass
@@ -142,9 +138,6 @@ block_from pairs block flow end begins inside last is =
       | inl short ↦ take_all n xs (omega (arith, is, short)) ∙ sym (take_all 64 xs (omega (arith, short)))
       | inr long ↦ let same : n ≡ 64 = omega (arith, is, long) in ap (λ (m : ℕ). take m xs) same
     ]
-
-pub block_few : (pairs block : List FlowPair) (first : ℕ) → block ≡ block_at first pairs → length block ≤ 64
-block_few pairs block first is = omega (arith, ap length is, length-take 64 (drop first pairs))
 
 -- the bit of a flow in the selection of a check
 tells : (pairs : List FlowPair) (checks : List Checked) (words : List ℕ) (flow k : ℕ) (pair : FlowPair) → flow < length pairs → ((d : FlowPair) → get_or pairs flow d ≡ pair)
@@ -199,9 +192,6 @@ abbrev pub Planned : List FlowPair → List Checked → ℕ → List PlannedRow 
 Planned pairs checks flow rows = (selecting : List (List ℕ))
     × AllZip (Selecting checks) (take flow (classes pairs)) selecting
     × (rows ≡ rows_from 0 selecting)
-
-pub nothing_planned : (pairs : List FlowPair) (checks : List Checked) → Planned pairs checks 0 []
-nothing_planned pairs checks = ([], tt, refl)
 
 pub flow_planned : (pairs : List FlowPair) (checks : List Checked) (flow : ℕ) (rows new : List PlannedRow) (words places : List ℕ) → flow < length pairs
     → AreSelections (block_at (flow - flow % 64) pairs) checks words

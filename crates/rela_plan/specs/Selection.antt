@@ -21,12 +21,18 @@ abbrev pub IsSelection : List FlowPair → Predicate → ℕ → Type 0
 IsSelection block predicate flows = (place : ℕ) (d : FlowPair) → place < length block →
     HasFlow flows place ↔ Selects predicate (slice_index_or block place d).class
 
+-- of the flows of the block that are asked, the bits of those are 1 that the predicate selects
+abbrev pub IsAnswer : List FlowPair → ℕ → Predicate → ℕ → Type 0
+IsAnswer block asked predicate flows = (place : ℕ) (d : FlowPair) → place < length block →
+    HasFlow flows place
+    ↔ (HasFlow asked place × Selects predicate (slice_index_or block place d).class)
+
 -- for each check the flows of the block that it selects
 abbrev pub AreSelections : List FlowPair → List Checked → List ℕ → Type 0
 AreSelections block checks = AllZip (λ check flows. IsSelection block check.when flows) checks
 
--- a block of flows that have bits, with room for leaves, and those that are there are known rightly
+-- the flows of the block have bits, there is room for a leaf, and what is known of leaves is right
 pub record AreKnown (block : List FlowPair) (known : List (Option Known)) : Type 0 where
   pub few : length block ≤ 64
   pub room : 0 < length known
-  pub right : All (λ slot. IfSome slot (λ one. IsSelection block one.leaf.now one.flows)) known
+  pub right : All (λ slot. IfSome slot (λ one. IsAnswer block one.asked one.leaf.now one.flows)) known

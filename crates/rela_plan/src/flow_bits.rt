@@ -1,6 +1,6 @@
 //! Sets of the flows of a block of at most 64, as the bits of one word: flow `k` is bit `k`.
 
-ghost use Rattle.std.specs.Prelude.{◌≡◌, ◌≢◌, ℕ, ◌⊎◌, ◌<◌, ◌↔◌, IsTrue};
+ghost use Rattle.std.specs.Prelude.{◌≡◌, ◌≢◌, ℕ, ◌⊎◌, ◌<◌, ◌≤◌, ◌↔◌, IsTrue, IfNone, IfSome};
 ghost use Rattle.rela_plan.specs.Selection.{HasFlow};
 
 /// How many flows a block has at most.
@@ -25,12 +25,40 @@ pub(crate) fn with_flow(flows: u64, place: u32) -> u64
     flows | 1 << place
 }
 
-/// The set of all flows.
-#[tactic(auto, using(crate::proofs::FlowBits::all_bits))]
-pub(crate) fn all_flows() -> u64
-    ensures { (k : ℕ) → k < 64 → HasFlow result k }
+/// The set without the flow at the place, which is in it.
+pub(crate) fn without_flow(flows: u64, place: u32) -> u64
+    requires place { place < 64 }
+    requires member { HasFlow flows place }
+    ensures removed { ¬ HasFlow result place }
+    ensures others { (k : ℕ) → k < 64 → k ≢ place → HasFlow result k ↔ HasFlow flows k }
+    ensures smaller { result < flows }
 {
-    u64::MAX
+    flows & !(1 << place)
+}
+
+/// The place of the first flow of the set, and `None` where it has none.
+pub(crate) fn first_flow(flows: u64) -> Option<u32>
+    ensures none { IfNone result ((k : ℕ) → ¬ HasFlow flows k) }
+    ensures place { IfSome result (λ place. place < 64) }
+    ensures member { IfSome result (λ place. HasFlow flows place) }
+{
+    if flows == 0 {
+        None
+    } else {
+        Some(flows.trailing_zeros())
+    }
+}
+
+/// The set of the first flows, as many as are counted.
+pub(crate) fn first_flows(count: usize) -> u64
+    requires { count ≤ 64 }
+    ensures { (k : ℕ) → k < count → HasFlow result k }
+{
+    if count == 0 {
+        0
+    } else {
+        u64::MAX >> (64 - count) as u32
+    }
 }
 
 /// The flows that both sets have.
@@ -49,10 +77,10 @@ pub(crate) fn in_either(flows: u64, others: u64) -> u64
     flows | others
 }
 
-/// The flows that the set doesn't have.
-#[tactic(auto, using(crate::proofs::FlowBits::other_bits))]
-pub(crate) fn not_in(flows: u64) -> u64
-    ensures { (k : ℕ) → k < 64 → HasFlow result k ↔ (¬ HasFlow flows k) }
+/// The flows that the first set has and the other doesn't.
+#[tactic(auto, using(crate::proofs::FlowBits::but_bits))]
+pub(crate) fn but_not(flows: u64, others: u64) -> u64
+    ensures { (k : ℕ) → k < 64 → HasFlow result k ↔ (HasFlow flows k × (¬ HasFlow others k)) }
 {
-    !flows
+    flows & !others
 }

@@ -1,23 +1,37 @@
-//! What is known of leaves for the flows of a block: each is found out once.
+//! What is known of leaves for the flows of a block, so that none is asked of a flow twice.
 
-ghost use Rattle.std.specs.Prelude.{◌≡◌, ◌<◌, ◌≤◌, All, IfOk, IfErr, List, None, length};
-ghost use Rattle.rela_flows.specs.Selects.{depth};
-ghost use Rattle.rela_plan.specs.Selection.{IsSelection, AreKnown};
+ghost use Rattle.std.specs.Prelude.{◌≡◌, ◌<◌, ◌≤◌, ◌↔◌, ℕ, All, IfOk, IsTrue, List, None, length, slice_index_or};
+ghost use Rattle.rela_flows.specs.Selects.{Selects, depth};
+ghost use Rattle.rela_flows.specs.declared.predicate.Predicate.{Predicate};
+ghost use Rattle.rela_plan.specs.Selection.{IsAnswer, AreKnown};
 ghost use Rattle.rela_snapshot.specs.declared.pairing.FlowPair.{FlowPair};
 
-use crate::flow_bits::with_flow;
+use crate::flow_bits::{but_not, first_flow, in_both, in_either, with_flow, without_flow};
 use crate::leaf::{fingerprint, same_leaf};
 use rela_flows::{Predicate, selects};
 use rela_snapshot::FlowPair;
 use std::alloc::{AllocError, Global};
 
-/// A leaf, with the flows of a block that it selects.
+/// A leaf, with what is known of it for the flows of a block.
 #[derive(Clone, Copy)]
 pub(crate) struct Known<'a> {
     /// The leaf, which is lent.
     pub(crate) leaf: &'a Predicate,
-    /// The flows, as the bits of a word.
+    /// The flows that it was asked of, as the bits of a word.
+    pub(crate) asked: u64,
+    /// Of these flows, those that it selects.
     pub(crate) flows: u64,
+}
+
+/// Where a leaf stands among those that are known, or may be put.
+#[derive(Clone, Copy)]
+struct Found {
+    /// The place.
+    place: usize,
+    /// The flows that the leaf was asked of: none where it is new.
+    asked: u64,
+    /// Of these flows, those that it selects.
+    flows: u64,
 }
 
 /// Room for leaves, none of which is known.
@@ -31,61 +45,98 @@ pub(crate) fn nothing_known<'a>(
     vec![in alloc; None; room]
 }
 
-/// The flows of the block that the leaf selects. They are looked up among those of the leaves that
-/// are known, and put there where they are new.
+/// Of the flows of the block that are asked, those that the leaf selects. It is asked of those
+/// alone for which it isn't known yet, and is known for them afterwards.
 ///
-/// Time: expected constant where the leaf is known, else linear in the block.
-pub(crate) fn selection_of_leaf<'a>(
-    known: &mut [Option<Known<'a>>],
+/// Time: expected linear in the flows for which it isn't known.
+pub(crate) fn selected_by_leaf<'a>(
     leaf: &'a Predicate,
+    asked: u64,
     block: &[FlowPair],
+    known: &mut [Option<Known<'a>>],
 ) -> u64
     requires shallow { depth leaf.now ≤ 1000 }
     requires known { AreKnown block.now known.old }
-    ensures selection { IsSelection block.now leaf.now result }
+    ensures answer { IsAnswer block.now asked leaf.now result }
     ensures known { AreKnown block.now known.new }
 {
-    match find(known, leaf) {
-        Ok(flows) => flows,
-        Err(place) => {
-            let flows = selected_flows(leaf, block);
-            known[place] = Some(Known { leaf, flows });
-            flows
-        }
-    }
+    let found = find(known, leaf);
+    let missing = but_not(asked, found.asked);
+    let flows = in_either(found.flows, asked_one_by_one(leaf, missing, block));
+    known[found.place] = Some(Known {
+        leaf,
+        asked: in_either(found.asked, missing),
+        flows,
+    });
+    in_both(flows, asked)
 }
 
-/// The flows that the leaf is known to select, or the place that it may take where it isn't known.
-fn find(known: &[Option<Known>], leaf: &Predicate) -> Result<u64, usize>
+/// What is known of the leaf, with its place, or the place that it may take. Where no place is free,
+/// it takes that of another, of which nothing is known then. Time: expected constant where half of
+/// the places are free.
+fn find(known: &[Option<Known>], leaf: &Predicate) -> Found
     requires { 0 < length known.now }
-    ensures flows { IfOk result (λ flows. (block : List FlowPair) → AreKnown block known.now →
-        IsSelection block leaf.now flows) }
-    ensures place { IfErr result (λ place. place < length known.now) }
+    ensures place { result.place < length known.now }
+    ensures right { (block : List FlowPair) → AreKnown block known.now →
+        IsAnswer block result.asked leaf.now result.flows }
 {
     let mut place = fingerprint(leaf) as usize % known.len();
     for _ in 0..known.len() {
         let Some(one) = known[place] else {
-            return Err(place);
+            return new_at(place);
         };
         if same_leaf(one.leaf, leaf) {
-            return Ok(one.flows);
+            return Found {
+                place,
+                asked: one.asked,
+                flows: one.flows,
+            };
         }
         place = (place + 1) % known.len();
     }
-    Err(place)
+    new_at(place)
 }
 
-/// The flows of the block that the predicate selects, each asked by itself.
-fn selected_flows(predicate: &Predicate, block: &[FlowPair]) -> u64
+/// The place, with no flow that a leaf was asked of.
+fn new_at(place: usize) -> Found
+    ensures place { result.place ≡ place }
+    ensures right { (block : List FlowPair) (leaf : Predicate) →
+        IsAnswer block result.asked leaf result.flows }
+{
+    Found {
+        place,
+        asked: 0,
+        flows: 0,
+    }
+}
+
+/// Of the flows of the block that are asked, those that the predicate selects.
+///
+/// Time: linear in the flows that are asked.
+fn asked_one_by_one(predicate: &Predicate, asked: u64, block: &[FlowPair]) -> u64
     requires shallow { depth predicate.now ≤ 1000 }
     requires few { length block.now ≤ 64 }
-    ensures { IsSelection block.now predicate.now result }
+    ensures { IsAnswer block.now asked predicate.now result }
 {
     let mut flows = 0;
-    for (place, pair) in block.iter().enumerate() {
-        if selects(predicate, &pair.class) {
-            flows = with_flow(flows, place as u32);
+    let mut left = asked;
+    while let Some(place) = first_flow(left) {
+        left = without_flow(left, place);
+        if selects_at(predicate, block, place) {
+            flows = with_flow(flows, place);
         }
     }
     flows
+}
+
+/// Whether the predicate selects the flow at the place of the block.
+fn selects_at(predicate: &Predicate, block: &[FlowPair], place: u32) -> bool
+    requires shallow { depth predicate.now ≤ 1000 }
+    ensures { (d : FlowPair) → place < length block.now →
+        IsTrue result ↔ Selects predicate.now (slice_index_or block.now place d).class }
+{
+    match block.get(place as usize) {
+        Some(pair) => selects(predicate, &pair.class),
+        None => false,
+    }
 }

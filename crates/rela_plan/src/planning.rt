@@ -17,10 +17,11 @@ use std::alloc::{AllocError, Global};
 /// its check: flow after flow, one for each check that selects it, in the order of the checks, or
 /// one alone where none does.
 ///
-/// Predicates are asked of 64 flows at once, and a leaf that stands in several is asked of each
-/// flow once. Time: expected linear in the flows times the distinct leaves, in the rows, and in
-/// the flows times the sizes of the predicates by 64; space: linear in the checks with their
-/// predicates, and the rows.
+/// Predicates are asked of 64 flows at once. A leaf is asked of a flow at most once, however often
+/// it stands in the predicates, and only where some predicate that has it is still open for the
+/// flow. Time: expected linear in the flows times the checks and the distinct leaves, and in the
+/// nodes of the predicates for each 64 flows; space: linear in the checks with their predicates,
+/// and the rows.
 ///
 /// # Errors
 ///
@@ -45,8 +46,8 @@ pub fn plan_rows(
     Ok(rows)
 }
 
-/// The selections of the block of a flow: those that are kept, or new ones at the first flow of a
-/// block.
+/// What each check selects of the block that has the flow: what is kept, or at the first flow of a
+/// block what is found anew.
 fn selections_at(
     alloc: Global,
     kept: Vec<u64>,
