@@ -3,12 +3,16 @@ ghost use Rattle.std.specs.Prelude.{◌≡◌, ◌<◌, ◌≤◌, ◌^◌, [], 
 ghost use Rattle.rela_letter_image.specs.Growth.{IsFoundIn};
 
 use rela_letter_nfa::MAX_STATES;
-use rela_pairs::{BuildError, Pair};
+use rela_pairs::{BuildError, Pair, Shape};
 use std::alloc::{AllocError, Global};
 use std::marker::Model;
 
 /// What stands at a place where there is no number: that of no pair.
 const FREE: u32 = u32::MAX;
+
+/// For how many places of a table of all pairs there may be room at first for each pair, so that it
+/// costs little beside the pairs to fill it.
+const PLACES_FOR_EACH: usize = 16;
 
 /// The fewest pairs for which there is room at first.
 const LEAST_ROOM: usize = 32;
@@ -16,16 +20,32 @@ const LEAST_ROOM: usize = 32;
 /// The most pairs for which there is room at first.
 pub(crate) const MOST_ROOM: usize = 4096;
 
-/// The pairs of states that were found, numbered from 0 in the order in which they came, and looked
-/// up by their hash. Contracts see them as a list.
+/// Where among the places the number of a pair is looked for.
+#[derive(Clone, Copy, Debug)]
+enum Addressing {
+    /// At a place that no other pair has, since there are as many places as pairs of states: that of
+    /// `left * rights + right`.
+    Direct {
+        /// How many states the right machine has.
+        rights: usize,
+    },
+    /// At the place of its hash, or at the next one that was free.
+    Hashed,
+}
+
+/// The pairs of states that were found, numbered from 0 in the order in which they came. They are
+/// looked up at places of their own where the machines have few pairs of states, and else by their
+/// hash. Contracts see them as a list.
 #[derive(Drop)]
 pub(crate) struct Found {
     /// The pairs, in the order of their numbers.
     pairs: Vec<Pair>,
-    /// At each place the number of a pair, or `FREE`. The places are a power of two, at least twice
-    /// as many as the pairs. The number of a pair stands at the place of its hash, or at the next
-    /// one that was free.
+    /// At each place the number of a pair, or `FREE`. The places are a power of two: at least as
+    /// many as all pairs of states under direct addressing, and else at least twice as many as the
+    /// pairs that were found.
     places: Vec<u32>,
+    /// Where among the places a number is looked for.
+    addressing: Addressing,
 }
 
 impl Model for Found {
@@ -41,15 +61,24 @@ impl Model for Found {
 }
 
 impl Found {
-    /// No pair, with room for so many, but at least for `LEAST_ROOM` and at most for `MOST_ROOM`.
-    /// Time: linear in the room.
-    pub(crate) fn with_capacity(alloc: Global, pairs: usize) -> Result<Found, AllocError>
+    /// No pair of machines of this shape, with room for so many pairs, but at least for `LEAST_ROOM`
+    /// and at most for `MOST_ROOM`. Time: linear in the room.
+    pub(crate) fn with_capacity(
+        alloc: Global,
+        shape: Shape,
+        pairs: usize,
+    ) -> Result<Found, AllocError>
         ensures { IfOk result (λ found. found ≡ []) }
     {
         let room = pairs.clamp(LEAST_ROOM, MOST_ROOM);
         let pairs = Vec::with_capacity(alloc, room)?;
-        let places = vec![in alloc; FREE; (2 * room).next_power_of_two()]?;
-        Ok(Found { pairs, places })
+        let (addressing, count) = addressing_of(shape, room);
+        let places = vec![in alloc; FREE; count.next_power_of_two()]?;
+        Ok(Found {
+            pairs,
+            places,
+            addressing,
+        })
     }
 
     /// The pairs, in the order of their numbers.
@@ -60,7 +89,8 @@ impl Found {
         self.pairs.as_slice()
     }
 
-    /// The number of the pair, which is put in unless it is found. Time: constant in expectation.
+    /// The number of the pair, which is put in unless it is found. Time: constant, under hashing in
+    /// expectation.
     ///
     /// # Errors
     ///
@@ -70,7 +100,7 @@ impl Found {
         ensures numbered { IfOk result (λ number. slice_get self.new number ≡ Some pair) }
         ensures found { IsFoundIn self.old self.new pair }
     {
-        match look_up(&self.pairs, &self.places, pair) {
+        match look_up(&self.pairs, &self.places, self.addressing, pair) {
             Ok(number) => Ok(number),
             Err(place) => {
                 let number = self.pairs.len();
@@ -85,13 +115,13 @@ impl Found {
         }
     }
 
-    /// Doubles the places where more than half of them are taken. Time: linear in the pairs, where
-    /// they are doubled.
+    /// Doubles the places where pairs are hashed and more than half of the places are taken. Time:
+    /// linear in the pairs, where they are doubled.
     fn make_room(&mut self) -> Result<(), AllocError>
         ensures { self.new ≡ self.old }
     {
         let count = self.places.len();
-        if count / 2 < self.pairs.len() {
+        if matches!(self.addressing, Addressing::Hashed) && count / 2 < self.pairs.len() {
             self.places.resize(count.saturating_mul(2), FREE)?;
             place_all(&self.pairs, &mut self.places);
         }
@@ -99,17 +129,41 @@ impl Found {
     }
 }
 
-/// The first place at which the number of the pair may stand, of a power of two of places: a hash of
-/// it.
-fn first_place(pair: Pair, count: usize) -> usize
-    requires { 0 < count }
-    ensures { result < count }
+/// How pairs are looked up, where there is room for so many of them, and how many places are wanted:
+/// one for each pair of states, if these are at most `PLACES_FOR_EACH` for each pair for which there
+/// is room, and else two for each of these.
+fn addressing_of(shape: Shape, room: usize) -> (Addressing, usize)
+    requires { room ≤ 2 ^ 12 }
+    ensures { result.1 ≤ 2 ^ 16 }
 {
+    match shape.lefts.checked_mul(shape.rights) {
+        Some(all) if all <= PLACES_FOR_EACH * room => {
+            let rights = shape.rights;
+            (Addressing::Direct { rights }, all)
+        }
+        _ => (Addressing::Hashed, 2 * room),
+    }
+}
+
+/// A hash of the pair.
+fn hash_of(pair: Pair) -> usize {
     let mixed = (pair.left as u64)
         .wrapping_mul(0x9e37_79b9_7f4a_7c15)
         .wrapping_add(pair.right as u64)
         .wrapping_mul(0xff51_afd7_ed55_8ccd);
-    (mixed >> 32) as usize & (count - 1)
+    (mixed >> 32) as usize
+}
+
+/// The first place at which the number of the pair may stand, of a power of two of places.
+fn first_place(addressing: Addressing, pair: Pair, count: usize) -> usize
+    requires { 0 < count }
+    ensures { result < count }
+{
+    let place = match addressing {
+        Addressing::Direct { rights } => pair.left.wrapping_mul(rights).wrapping_add(pair.right),
+        Addressing::Hashed => hash_of(pair),
+    };
+    place & (count - 1)
 }
 
 /// The place behind it, and behind the last one the first, of a power of two of places.
@@ -122,12 +176,12 @@ fn next_place(place: usize, count: usize) -> usize
 
 /// The number of the pair, or as an error the place where it can be put. A number counts only where
 /// the pair stands that it tells.
-fn look_up(pairs: &[Pair], places: &[u32], pair: Pair) -> Result<u32, usize>
+fn look_up(pairs: &[Pair], places: &[u32], addressing: Addressing, pair: Pair) -> Result<u32, usize>
     requires { 0 < length places.now }
     ensures held { IfOk result (λ number. slice_get pairs.now number ≡ Some pair) }
     ensures free { IfErr result (λ place. place < length places.now) }
 {
-    let mut place = first_place(pair, places.len());
+    let mut place = first_place(addressing, pair, places.len());
     for _ in 0..places.len() {
         let number = places[place];
         match pairs.get(number as usize) {
@@ -139,14 +193,15 @@ fn look_up(pairs: &[Pair], places: &[u32], pair: Pair) -> Result<u32, usize>
     Err(place)
 }
 
-/// Puts the number of each pair at a place of its own, and `FREE` at all others.
+/// Puts the number of each pair at the place of its hash, or at the next one that is free, and
+/// `FREE` at all others.
 fn place_all(pairs: &[Pair], places: &mut [u32])
     requires few { length pairs.now ≤ 2 ^ 31 }
     requires some { 0 < length places.old }
 {
     places.fill(FREE);
     for number in 0..pairs.len() {
-        if let Err(place) = look_up(pairs, places, pairs[number]) {
+        if let Err(place) = look_up(pairs, places, Addressing::Hashed, pairs[number]) {
             places[place] = number as u32;
         }
     }

@@ -55,7 +55,7 @@ impl Growing {
         ensures parts { IfOk result (λ growing. growing.parts ≡ no_parts) }
     {
         let room = first_room(shape, most);
-        let found = Found::with_capacity(alloc, room)?;
+        let found = Found::with_capacity(alloc, shape, room)?;
         let built = CountedBuilder::with_capacity(alloc, most, room, room, room)?;
         Ok(Growing {
             shape,

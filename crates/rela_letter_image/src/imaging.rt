@@ -19,7 +19,7 @@ use std::alloc::{AllocError, Global};
 /// No set of letters is made. Time: for each pair of states that is found, a constant for each edge
 /// with each move that reads, where a move that reads one letter costs no more than that two numbers
 /// are compared; for each move that reads nothing a constant, and if it writes a step for each fine
-/// letter. Space: linear in the image.
+/// letter. Space: linear in the image, and in the states of the paths.
 pub fn letter_image(
     alloc: Global,
     paths: &LetterNfa,
