@@ -79,6 +79,7 @@ impl CountedBuilder {
 
     /// The next state has an edge by the letter to this state too. It fails as
     /// [`push_silent`](CountedBuilder::push_silent) does.
+    #[inline(always)]
     pub(crate) fn push_edge(&mut self, letter: u32, to: u32) -> Result<(), BuildError>
         ensures { OnOk result (self.new ≡ with_edge self.old (edge_to letter to)) }
     {

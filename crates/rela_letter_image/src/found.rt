@@ -96,6 +96,7 @@ impl Found {
     ///
     /// - `Limit` where there would be more than `most` pairs, or than an automaton can have states.
     /// - `Memory` where there isn't memory for it.
+    #[inline(always)]
     pub(crate) fn number(&mut self, pair: Pair, most: usize) -> Result<u32, BuildError>
         ensures numbered { IfOk result (λ number. slice_get self.new number ≡ Some pair) }
         ensures found { IsFoundIn self.old self.new pair }
@@ -103,30 +104,57 @@ impl Found {
         match look_up(&self.pairs, &self.places, self.addressing, pair) {
             Ok(number) => Ok(number),
             Err(place) => {
-                let number = self.pairs.len();
-                if number >= most || number >= MAX_STATES {
-                    return Err(BuildError::Limit);
-                }
-                self.pairs.push(pair)?;
-                self.places[place] = number as u32;
+                let number = put(&mut self.pairs, pair, most)?;
+                self.places[place] = number;
                 self.make_room()?;
-                Ok(number as u32)
+                Ok(number)
             }
         }
     }
 
     /// Doubles the places where pairs are hashed and more than half of the places are taken. Time:
     /// linear in the pairs, where they are doubled.
+    #[inline(always)]
     fn make_room(&mut self) -> Result<(), AllocError>
         ensures { self.new ≡ self.old }
     {
         let count = self.places.len();
         if matches!(self.addressing, Addressing::Hashed) && count / 2 < self.pairs.len() {
-            self.places.resize(count.saturating_mul(2), FREE)?;
-            place_all(&self.pairs, &mut self.places);
+            double(&self.pairs, &mut self.places)?;
         }
         Ok(())
     }
+}
+
+/// Puts the pair behind the others, of which there may be at most `most`, and tells its number. It
+/// is called once for a pair, and [`Found::number`] much oftener, so it isn't inlined there.
+#[inline(never)]
+fn put(pairs: &mut Vec<Pair>, pair: Pair, most: usize) -> Result<u32, BuildError>
+    requires { length pairs.old.items ≤ 2 ^ 31 }
+    ensures numbered { IfOk result (λ number. slice_get pairs.new.items number ≡ Some pair) }
+    ensures found { IsFoundIn pairs.old.items pairs.new.items pair }
+    ensures few { length pairs.new.items ≤ 2 ^ 31 }
+{
+    let number = pairs.len();
+    if number >= most || number >= MAX_STATES {
+        return Err(BuildError::Limit);
+    }
+    pairs.push(pair)?;
+    Ok(number as u32)
+}
+
+/// Twice as many places, with the number of each pair at one of its own. Time: linear in both.
+#[cold]
+#[inline(never)]
+fn double(pairs: &[Pair], places: &mut Vec<u32>) -> Result<(), AllocError>
+    requires few { length pairs.now ≤ 2 ^ 31 }
+    requires some { 0 < length places.old.items }
+    ensures { 0 < length places.new.items }
+{
+    let count = places.len();
+    places.resize(count.saturating_mul(2), FREE)?;
+    place_all(pairs, places);
+    Ok(())
 }
 
 /// How pairs are looked up, where there is room for so many of them, and how many places are wanted:

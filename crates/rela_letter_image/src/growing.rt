@@ -87,6 +87,7 @@ impl Growing {
     ///
     /// - `Limit` where there would be more states than there may be.
     /// - `Memory` where there isn't memory for it.
+    #[inline(always)]
     pub(crate) fn number(&mut self, pair: Pair) -> Result<u32, BuildError>
         requires { Fits self.old.shape pair }
         ensures numbered { IfOk result (λ number. slice_get self.new.pairs number ≡ Some pair) }
@@ -103,6 +104,7 @@ impl Growing {
     ///
     /// - `Limit` where there would be more edges than there may be.
     /// - `Memory` where there isn't memory for it.
+    #[inline(always)]
     pub(crate) fn add_edge_to(&mut self, letter: u32, number: u32) -> Result<(), BuildError>
         ensures { OnOk result (self.new
             ≡ with_parts self.old (with_edge self.old.parts (edge_to letter number))) }
@@ -112,6 +114,7 @@ impl Growing {
 
     /// The next state has an edge by the letter to the pair. It fails as
     /// [`number`](Growing::number) and [`add_edge_to`](Growing::add_edge_to) do.
+    #[inline(always)]
     pub(crate) fn add_edge(&mut self, letter: u32, to: Pair) -> Result<(), BuildError>
         requires { Fits self.old.shape to }
         ensures { OnOk result (Grows (step_to (Some letter) to ∷ []) self.old self.new) }

@@ -48,6 +48,7 @@ fn add_edge_if(
 }
 
 /// Adds what both do by an edge of this letter and a move that reads it, to the pair.
+#[inline(always)]
 fn add_read(growing: &mut Growing, letter: u32, writes: bool, to: Pair) -> Result<(), BuildError>
     requires { Fits growing.old.shape to }
     ensures { OnOk result (Grows (step_to (written_by letter writes) to ∷ [])
@@ -61,6 +62,7 @@ fn add_read(growing: &mut Growing, letter: u32, writes: bool, to: Pair) -> Resul
 }
 
 /// Adds what both do by an edge of this letter and a move to the pair, if the move reads it.
+#[inline(always)]
 fn add_read_if(
     growing: &mut Growing,
     is_read: bool,
