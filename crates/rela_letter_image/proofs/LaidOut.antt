@@ -13,8 +13,9 @@ use Rattle.rela_nfa.specs.Meeting.{pair_of}
 use Rattle.rela_letter_nfa.specs.declared.edge.LetterEdge.{LetterEdge}
 use Rattle.rela_trans.specs.Machine.{Machine, IsMachine, IsMove, machine_states}
 use Rattle.rela_trans.specs.declared.moves.Move.{Move}
+use Rattle.rela_letter_image.specs.Coarse.{coarse_of}
 use Rattle.rela_letter_image.specs.LetterMoves.{AreLettersOf, LeadBelow, all_moves, alone_move, letter_move, only_letter, reading, set_move, writing}
-use Rattle.rela_letter_image.specs.Steps.{JointStep, alone_by, alone_steps, laid_out_steps, letter_steps, read_by, read_steps, step_if, step_to, written_by}
+use Rattle.rela_letter_image.specs.Steps.{JointStep, alone_by, alone_steps, edge_steps, laid_out_steps, letter_steps, read_by, read_steps, step_if, step_to, written_by}
 use Rattle.rela_letter_image.specs.declared.letter_moves.LetterMove.{LetterMove}
 use Rattle.rela_letter_image.specs.declared.letter_moves.StateMoves.{StateMoves}
 
@@ -95,6 +96,13 @@ read_all letters c edge state below =
     sym
     (flat_map-append f (alone ++ by_set) by_letter ∙ ap (λ l. l ++ flat_map f by_letter) (flat_map-append f alone by_set) ∙ ap (λ l. l ++ flat_map f by_set ++ flat_map f by_letter) no_alone
     ∙ ap (λ l. flat_map f by_set ++ l) (letters_read letters c edge state.by_letter.items below))
+
+-- where no move reads, nothing is done by edges
+pub none_read : (letters : ℕ) (coarse : List ℕ) (edges : List LetterEdge) (state : StateMoves) → AreLettersOf letters state → state.by_set.items ≡ [] → state.by_letter.items ≡ []
+    → edge_steps letters coarse (all_moves letters state) edges ≡ []
+none_read letters coarse edges state below no_set no_letter =
+    nothing_flat (λ e. read_steps (coarse_of letters coarse e.letter) e (all_moves letters state)) edges
+    (λ e. sym (read_all letters (coarse_of letters coarse e.letter) e state below) ∙ (λ i. read_steps (coarse_of letters coarse e.letter) e (map set_move (no_set i)) ++ letter_steps (coarse_of letters coarse e.letter) e (no_letter i)))
 
 -- ---- where they lead
 

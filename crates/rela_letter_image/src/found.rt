@@ -10,8 +10,11 @@ use std::marker::Model;
 /// What stands at a place where there is no number: that of no pair.
 const FREE: u32 = u32::MAX;
 
-/// For how many places of a table of all pairs there may be room at first for each pair, so that it
-/// costs little beside the pairs to fill it.
+/// Up to how many pairs of states each has a place of its own, however few of them are found.
+const FEW_PLACES: usize = 1 << 14;
+
+/// How many places of its own, of pairs of states, there may be for each pair for which there is
+/// room at first, so that to fill them costs little beside the pairs.
 const PLACES_FOR_EACH: usize = 16;
 
 /// The fewest pairs for which there is room at first.
@@ -158,14 +161,14 @@ fn double(pairs: &[Pair], places: &mut Vec<u32>) -> Result<(), AllocError>
 }
 
 /// How pairs are looked up, where there is room for so many of them, and how many places are wanted:
-/// one for each pair of states, if these are at most `PLACES_FOR_EACH` for each pair for which there
-/// is room, and else two for each of these.
+/// one for each pair of states, if these are at most `FEW_PLACES`, or at most `PLACES_FOR_EACH` for
+/// each pair for which there is room, and else two for each of these.
 fn addressing_of(shape: Shape, room: usize) -> (Addressing, usize)
     requires { room ≤ 2 ^ 12 }
     ensures { result.1 ≤ 2 ^ 16 }
 {
     match shape.lefts.checked_mul(shape.rights) {
-        Some(all) if all <= PLACES_FOR_EACH * room => {
+        Some(all) if all <= FEW_PLACES.max(PLACES_FOR_EACH * room) => {
             let rights = shape.rights;
             (Addressing::Direct { rights }, all)
         }

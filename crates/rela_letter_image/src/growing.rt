@@ -13,10 +13,15 @@ use rela_pairs::{BuildError, Pair, Shape};
 use std::alloc::{AllocError, Global};
 use std::marker::Model;
 
-/// For how many states there is room at first, where there may be at most `most`: twice as many as
-/// the left machine has, since a product is seldom much larger than that, and at most `MOST_ROOM`.
+/// The most states for which there is room at first for each state of the left machine.
+const ROOM_FOR_EACH: usize = 8;
+
+/// For how many states there is room at first, where there may be at most `most`: for all pairs of
+/// states, but at most for `ROOM_FOR_EACH` for each state of the left machine, since a product is
+/// seldom much larger than that, and at most for `MOST_ROOM`.
 fn first_room(shape: Shape, most: usize) -> usize {
-    shape.lefts.saturating_mul(2).min(most).min(MOST_ROOM)
+    let rights = shape.rights.min(ROOM_FOR_EACH);
+    shape.lefts.saturating_mul(rights).min(most).min(MOST_ROOM)
 }
 
 /// A product of two machines as it grows. Its states are pairs of theirs, in the order in which

@@ -258,6 +258,27 @@ fn add_edges(
     Ok(())
 }
 
+/// Adds what both do by one of the edges and one of the moves, of a transducer with this number of
+/// letters. Where no move reads, no edge is looked at.
+fn add_reads(
+    growing: &mut Growing,
+    edges: &[LetterEdge],
+    letters: u32,
+    coarse: &[u32],
+    moves: &StateMoves,
+) -> Result<(), BuildError>
+    requires lefts { All (λ edge. edge.to < growing.old.shape.lefts) edges.now }
+    requires rights { LeadBelow growing.old.shape.rights moves.now }
+    requires below { AreLettersOf letters moves.now }
+    ensures { OnOk result (Grows (edge_steps letters coarse.now (all_moves letters moves.now)
+        edges.now) growing.old growing.new) }
+{
+    if moves.by_set.is_empty() && moves.by_letter.is_empty() {
+        return Ok(());
+    }
+    add_edges(growing, edges, letters, coarse, moves)
+}
+
 /// Adds the states to which the automaton goes silently, while the transducer stays.
 fn add_silents(growing: &mut Growing, ends: &[u32], right: usize) -> Result<(), BuildError>
     requires lefts { All (λ q. q < growing.old.shape.lefts) ends.now }
@@ -293,7 +314,7 @@ fn add_steps(
     let moves = relation.moves(pair.right);
     add_silents(growing, paths.silent(left), pair.right)?;
     add_moves(growing, &moves.alone, pair.left, coarse)?;
-    add_edges(
+    add_reads(
         growing,
         paths.edges(left),
         relation.letters(),

@@ -15,7 +15,7 @@ returns c =
     let pair = c.args.pair in
     let alone = subst (λ l. Grows l c.add_silents.new.growing c.add_moves.new.growing) (ap (λ l. alone_steps coarse pair.left (map alone_move l)) c.deref.ensures.value ∙ alone_all coarse pair.left letters state) c.in_ok-add_moves.ensures in
     let moves_are = ap (λ n. all_moves n state) c.letters.ensures.letters ∙ c.moves-moves.ensures.moves in
-    on_ok_weaker c.add_edges.result
+    on_ok_weaker c.add_reads.result
     (λ reads.
     grows_steps coarse c.args.paths.now c.args.relation.now pair letters c.silent.result.now (all_moves letters state) c.edges.result.now c.silent.ensures.silent moves_are c.edges.ensures.edges c.letters.ensures.letters
-    c.args.growing.now c.add_silents.new.growing c.add_moves.new.growing c.add_edges.new.growing c.in_ok-add_silents.ensures alone reads) c.add_edges.ensures
+    c.args.growing.now c.add_silents.new.growing c.add_moves.new.growing c.add_reads.new.growing c.in_ok-add_silents.ensures alone reads) c.add_reads.ensures
