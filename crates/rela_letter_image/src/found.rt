@@ -10,11 +10,11 @@ use std::marker::Model;
 /// What stands at a place where there is no number: that of no pair.
 const FREE: u32 = u32::MAX;
 
-/// Up to how many pairs of states each has a place of its own, however few of them are found.
+/// Where all pairs of states are at most this many, each has a place of its own.
 const FEW_PLACES: usize = 1 << 14;
 
-/// How many places of its own, of pairs of states, there may be for each pair for which there is
-/// room at first, so that to fill them costs little beside the pairs.
+/// Each pair of states has a place of its own too where they are at most this many for each pair for
+/// which there is room at first: then filling the places costs little beside the pairs.
 const PLACES_FOR_EACH: usize = 16;
 
 /// The fewest pairs for which there is room at first.
@@ -24,7 +24,7 @@ const LEAST_ROOM: usize = 32;
 pub(crate) const MOST_ROOM: usize = 4096;
 
 /// Where among the places the number of a pair is looked for.
-#[derive(Clone, Copy, Debug)]
+#[derive(Clone, Copy)]
 enum Addressing {
     /// At a place that no other pair has, since there are as many places as pairs of states: that of
     /// `left * rights + right`.
@@ -43,9 +43,9 @@ enum Addressing {
 pub(crate) struct Found {
     /// The pairs, in the order of their numbers.
     pairs: Vec<Pair>,
-    /// At each place the number of a pair, or `FREE`. The places are a power of two: at least as
-    /// many as all pairs of states under direct addressing, and else at least twice as many as the
-    /// pairs that were found.
+    /// At each place the number of a pair, or `FREE`. There is a place for each pair of states under
+    /// direct addressing. Else the places are a power of two, at least twice as many as the pairs
+    /// that were found.
     places: Vec<u32>,
     /// Where among the places a number is looked for.
     addressing: Addressing,
@@ -76,7 +76,7 @@ impl Found {
         let room = pairs.clamp(LEAST_ROOM, MOST_ROOM);
         let pairs = Vec::with_capacity(alloc, room)?;
         let (addressing, count) = addressing_of(shape, room);
-        let places = vec![in alloc; FREE; count.next_power_of_two()]?;
+        let places = vec![in alloc; FREE; count]?;
         Ok(Found {
             pairs,
             places,
@@ -160,19 +160,19 @@ fn double(pairs: &[Pair], places: &mut Vec<u32>) -> Result<(), AllocError>
     Ok(())
 }
 
-/// How pairs are looked up, where there is room for so many of them, and how many places are wanted:
+/// How pairs are looked up, where there is room for so many of them, and how many places there are:
 /// one for each pair of states, if these are at most `FEW_PLACES`, or at most `PLACES_FOR_EACH` for
-/// each pair for which there is room, and else two for each of these.
+/// each pair for which there is room, and else at least two for each of these.
 fn addressing_of(shape: Shape, room: usize) -> (Addressing, usize)
     requires { room ≤ 2 ^ 12 }
-    ensures { result.1 ≤ 2 ^ 16 }
+    ensures { 0 < result.1 }
 {
     match shape.lefts.checked_mul(shape.rights) {
         Some(all) if all <= FEW_PLACES.max(PLACES_FOR_EACH * room) => {
             let rights = shape.rights;
-            (Addressing::Direct { rights }, all)
+            (Addressing::Direct { rights }, all.max(1))
         }
-        _ => (Addressing::Hashed, 2 * room),
+        _ => (Addressing::Hashed, (2 * room).next_power_of_two()),
     }
 }
 
@@ -185,19 +185,29 @@ fn hash_of(pair: Pair) -> usize {
     (mixed >> 32) as usize
 }
 
-/// The first place at which the number of the pair may stand, of a power of two of places.
+/// The first place at which the number of the pair may stand, of this many.
 fn first_place(addressing: Addressing, pair: Pair, count: usize) -> usize
     requires { 0 < count }
     ensures { result < count }
 {
-    let place = match addressing {
-        Addressing::Direct { rights } => pair.left.wrapping_mul(rights).wrapping_add(pair.right),
-        Addressing::Hashed => hash_of(pair),
-    };
-    place & (count - 1)
+    match addressing {
+        Addressing::Direct { rights } => direct_place(rights, pair, count),
+        Addressing::Hashed => hash_of(pair) & (count - 1),
+    }
 }
 
-/// The place behind it, and behind the last one the first, of a power of two of places.
+/// The place that no other pair has, where the right machine has this many states. It is among the
+/// places for pairs of the shape for which these were made, and for others it is the first place.
+fn direct_place(rights: usize, pair: Pair, count: usize) -> usize
+    requires { 0 < count }
+    ensures { result < count }
+{
+    let place = pair.left.wrapping_mul(rights).wrapping_add(pair.right);
+    if place < count { place } else { 0 }
+}
+
+/// The place behind it, and behind the last one the first, where pairs are hashed and the places are
+/// a power of two.
 fn next_place(place: usize, count: usize) -> usize
     requires { place < count }
     ensures { result < count }
