@@ -69,6 +69,7 @@ impl CountedBuilder {
     ///
     /// - `Limit` where there would be more edges and silent steps than there may be.
     /// - `Memory` where there isn't memory for it.
+    #[inline(always)]
     pub(crate) fn push_silent(&mut self, to: u32) -> Result<(), BuildError>
         ensures { OnOk result (self.new ≡ with_silent self.old to) }
     {

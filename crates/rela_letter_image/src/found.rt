@@ -107,10 +107,14 @@ impl Found {
         match look_up(&self.pairs, &self.places, self.addressing, pair) {
             Ok(number) => Ok(number),
             Err(place) => {
-                let number = put(&mut self.pairs, pair, most)?;
-                self.places[place] = number;
+                let number = self.pairs.len();
+                if number >= most || number >= MAX_STATES {
+                    return Err(BuildError::Limit);
+                }
+                self.pairs.push(pair)?;
+                self.places[place] = number as u32;
                 self.make_room()?;
-                Ok(number)
+                Ok(number as u32)
             }
         }
     }
@@ -127,23 +131,6 @@ impl Found {
         }
         Ok(())
     }
-}
-
-/// Puts the pair behind the others, of which there may be at most `most`, and tells its number. It
-/// is called once for a pair, and [`Found::number`] much oftener, so it isn't inlined there.
-#[inline(never)]
-fn put(pairs: &mut Vec<Pair>, pair: Pair, most: usize) -> Result<u32, BuildError>
-    requires { length pairs.old.items ≤ 2 ^ 31 }
-    ensures numbered { IfOk result (λ number. slice_get pairs.new.items number ≡ Some pair) }
-    ensures found { IsFoundIn pairs.old.items pairs.new.items pair }
-    ensures few { length pairs.new.items ≤ 2 ^ 31 }
-{
-    let number = pairs.len();
-    if number >= most || number >= MAX_STATES {
-        return Err(BuildError::Limit);
-    }
-    pairs.push(pair)?;
-    Ok(number as u32)
 }
 
 /// Twice as many places, with the number of each pair at one of its own. Time: linear in both.

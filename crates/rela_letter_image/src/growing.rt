@@ -130,6 +130,7 @@ impl Growing {
 
     /// The next state goes silently to the state of this number. It fails as
     /// [`add_edge_to`](Growing::add_edge_to) does.
+    #[inline(always)]
     fn add_silent_to(&mut self, number: u32) -> Result<(), BuildError>
         ensures { OnOk result (self.new
             ≡ with_parts self.old (with_silent self.old.parts number)) }
@@ -139,6 +140,7 @@ impl Growing {
 
     /// The next state goes silently to the pair. It fails as [`number`](Growing::number) and
     /// [`add_edge_to`](Growing::add_edge_to) do.
+    #[inline(always)]
     pub(crate) fn add_silent(&mut self, to: Pair) -> Result<(), BuildError>
         requires { Fits self.old.shape to }
         ensures { OnOk result (Grows (step_to None to ∷ []) self.old self.new) }
