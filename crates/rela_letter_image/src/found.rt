@@ -65,7 +65,8 @@ impl Model for Found {
 
 impl Found {
     /// No pair of machines of this shape, with room for so many pairs, but at least for `LEAST_ROOM`
-    /// and at most for `MOST_ROOM`. Time: linear in the room.
+    /// and at most for `MOST_ROOM`. Time: linear in the room, or in the places where each pair of
+    /// states has its own.
     pub(crate) fn with_capacity(
         alloc: Global,
         shape: Shape,
