@@ -12,6 +12,9 @@ use rela_flows::{Predicate, selects};
 use rela_snapshot::FlowPair;
 use std::alloc::{AllocError, Global};
 
+/// How many places are looked at for a leaf.
+const NEAR: usize = 16;
+
 /// A leaf, with what is known of it for the flows of a block.
 #[derive(Clone, Copy)]
 pub(crate) struct Known<'a> {
@@ -71,9 +74,9 @@ pub(crate) fn selected_by_leaf<'a>(
     in_both(flows, asked)
 }
 
-/// What is known of the leaf, with its place, or the place that it may take. Where no place is free,
-/// it takes that of another, of which nothing is known then. Time: expected constant where half of
-/// the places are free.
+/// What is known of the leaf, with its place, or the place that it may take. Where none of `NEAR`
+/// places is free, it takes that of another, of which nothing is known then: so time is constant,
+/// also where many leaves have one fingerprint.
 fn find(known: &[Option<Known>], leaf: &Predicate) -> Found
     requires { 0 < length known.now }
     ensures place { result.place < length known.now }
@@ -81,7 +84,7 @@ fn find(known: &[Option<Known>], leaf: &Predicate) -> Found
         IsAnswer block result.asked leaf.now result.flows }
 {
     let mut place = fingerprint(leaf) as usize % known.len();
-    for _ in 0..known.len() {
+    for _ in 0..NEAR {
         let Some(one) = known[place] else {
             return new_at(place);
         };
