@@ -1,14 +1,15 @@
 -- Reports on a change agree, whichever of the flows and checks that no file can tell apart stand for it.
-use Rattle.std.proofs.Common.{◌≡◌, ◌∙◌, ℕ, Bool, List, Result, Ok, Err, sym, ap, subst}
+use Rattle.std.proofs.Common.{◌≡◌, ◌∙◌, ℕ, Bool, List, Result, Ok, Err, true, false, cond, sym, ap, subst, arith}
 use Rattle.rela_locations.specs.Network.{Network, alphabet_of}
 use Rattle.rela_names.specs.declared.level.Level.{Level}
-use Rattle.rela_report.specs.Status.{status_of}
+use Rattle.std.specs.List.{list_any}
+use Rattle.rela_report.specs.Status.{is_undecided, is_violated, status_of}
 use Rattle.rela_report.specs.Text.{report_text}
 use Rattle.rela_report.specs.declared.rows.ReportRow.{ReportRow}
 use Rattle.rela_same_flows.specs.SameFlows.{SamePairs}
 use Rattle.rela_snapshot.specs.declared.pairing.FlowPair.{FlowPair}
 use Rattle.rela_translate.specs.Checked.{Checked as Check}
-use Rattle.rela_inputs.specs.Answer.{Answer}
+use Rattle.rela_inputs.specs.Answer.{Answer, IsOutcomeStatus}
 use Rattle.rela_inputs.specs.Given.{Agrees}
 use Rattle.rela_inputs.specs.Loaded.{Loaded, SameLoaded, names_of}
 use Rattle.rela_inputs.specs.Specified.{SameSpecified, Specified}
@@ -78,3 +79,12 @@ rows_reported states change names pairs checks rows text status named flows all 
     subst (λ (ps : List FlowPair). AreRowsOf (names_of change) states change.specified.checks ps rows) flows by_checks in
     let text_is : text ≡ report_text (names_of change) rows = subst (λ (ns : List (List ℕ)). text ≡ report_text ns rows) named is_text in
     (rows, by_pairs, ap (λ (t : List ℕ). reporting t status) text_is ∙ ap (λ (n : ℕ). reporting (report_text (names_of change) rows) n) is_status)
+
+outcome : (violated undecided : Bool) (status : ℕ) → status ≡ cond violated 1 (cond undecided 3 0) → IsOutcomeStatus status
+outcome true undecided status is = (omega (arith, is), λ two. omega (arith, is, two))
+outcome false true status is = (omega (arith, is), λ two. omega (arith, is, two))
+outcome false false status is = (omega (arith, is), λ two. omega (arith, is, two))
+
+-- the status of rows says what they are
+pub is_outcome : (rows : List ReportRow) (status : ℕ) → status ≡ status_of rows → IsOutcomeStatus status
+is_outcome rows status is = outcome (list_any is_violated rows) (list_any is_undecided rows) status is

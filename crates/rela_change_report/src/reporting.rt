@@ -7,11 +7,11 @@ ghost use Rattle.rela_inputs.specs.Loaded.{loaded_by, names_of};
 ghost use Rattle.rela_rows.specs.Rows.{AreChecksAt};
 
 use rela_inputs::{Answer, Loaded};
-use rela_report::{status, text};
-use rela_rows::rows_of;
+use rela_rows::write_rows;
 use std::alloc::{AllocError, Global};
 
-/// The report on a loaded change, made whole. `states` is the state limit of each verdict.
+/// The report on a loaded change, made whole. `states` is the state limit of each verdict. Rows are
+/// written as they are decided, so of a row only its lines are kept.
 ///
 /// # Errors
 ///
@@ -25,8 +25,8 @@ pub fn report_on(alloc: Global, loaded: &Loaded, states: usize) -> Result<Answer
     ensures status { IfOk result (λ answer. IsOutcomeStatus answer.status) }
 {
     let names = loaded.locations.alphabet(loaded.asked.level);
-    let rows = rows_of(alloc, &loaded.pairs, &loaded.asked.checks, names, states)?;
-    let text = text(alloc, &rows, names)?;
-    let status = status(&rows);
+    let writer = write_rows(alloc, &loaded.pairs, &loaded.asked.checks, names, states)?;
+    let status = writer.status();
+    let text = writer.finish(alloc)?;
     Ok(Answer { text, status })
 }

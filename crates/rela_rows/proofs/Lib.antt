@@ -8,3 +8,4 @@ pub mod AgreeLaws
 pub mod OneShape
 pub mod SameAsked
 pub mod Deciding
+pub mod Judging

@@ -24,7 +24,7 @@ use Rattle.rela_rows.proofs.SameAsked.{asks_there, check_of, row_of_same}
 use Rattle.rela_same_checks.specs.SameChecks.{AreAskedAt, AskTheSame}
 use Rattle.rela_translate.specs.Checked.{Checked as Check}
 use Rattle.rela_plan.specs.Alike.{look_of, LooksAs, AreAlike}
-use Rattle.rela_rows.specs.Sharing.{IsVerdict, IsVerdictOf, IsVerdictOn, IsRowBy, same_numbers, AreVerdicts}
+use Rattle.rela_rows.specs.Sharing.{IsVerdict, IsVerdictBy, IsVerdictOf, IsVerdictOn, IsRowBy, same_numbers, AreVerdicts}
 
 -- what `==` calls equal is equal
 equal_numbers : (x y : ℕ × ℕ) → same_numbers x y ≡ true → x ≡ y
@@ -94,18 +94,38 @@ module _ (names : List (List ℕ)) (pairs : List FlowPair) (compiled : List Comp
       (subst (λ o. IsSomeAnd o (λ (p : FlowPair). IsSomeAnd (slice_get compiled k) (λ (c : Compiled). IsVerdict names c p row)))
       (slice_get_read pairs (length pairs) flow pair refl flow_inside pair_is) verdict)
 
--- the row of a flow under a check, from its verdict by a compiled check that asks for the same
-pub shown_row : (names : List (List ℕ)) (pairs : List FlowPair) (checks : List Check) (compiled : List Compiled) (places : List ℕ) (flow k : ℕ) (pair : FlowPair) (check : Check)
-    (by : Compiled) (planned_row : PlannedRow) (row : Row) → flow < length pairs → k < length checks → AreAskedAt (map check_of compiled) checks places
-    → pair ≡ get_or pairs flow pair → check ≡ get_or checks k check → by ≡ get_or compiled (get_or places k 0) by → planned_row ≡ planned.Checked flow k → IsVerdict names by pair row
-    → IsRowBy names checks compiled pairs planned_row (Checked pair.class.name check.name row)
-shown_row names pairs checks compiled places flow k pair check by planned_row row flow_inside check_inside asked pair_is check_is by_is is verdict = λ states limits.
+-- the verdict by a check, from one by a compiled check that asks for the same
+pub verdict_by : (names : List (List ℕ)) (pairs : List FlowPair) (checks : List Check) (compiled : List Compiled) (places : List ℕ) (flow k : ℕ) (pair : FlowPair)
+    (by : Compiled) (row : Row) → flow < length pairs → k < length checks → AreAskedAt (map check_of compiled) checks places
+    → pair ≡ get_or pairs flow pair → by ≡ get_or compiled (get_or places k 0) by → IsVerdict names by pair row
+    → IsVerdictBy names checks compiled pairs flow k row
+verdict_by names pairs checks compiled places flow k pair by row flow_inside check_inside asked pair_is by_is verdict = λ states limits.
+    let check : Check = get_or checks k by.check in
+    let check_is : check ≡ get_or checks k check = get_or_default checks k by.check check check_inside in
     let there = asks_there compiled checks places k check asked check_inside in
     let same : AskTheSame check by.check =
     subst (λ (c : Check). AskTheSame c by.check) (sym check_is) (subst (λ (b : Compiled). AskTheSame (get_or checks k check) b.check) (sym by_is) (there.1 by)) in
     let limit : by.states ≡ states = ap (λ (b : Compiled). b.states) by_is ∙ limits (get_or places k 0) by there.0 in
+    subst (λ o. IsSomeAnd o (λ (p : FlowPair). IsSomeAnd (slice_get checks k) (λ (c : Check). RowOf c (length names) (paths_of c.level names p.before p.after) states row)))
+    (sym (slice_get_read pairs (length pairs) flow pair refl flow_inside pair_is))
+    (subst (λ o. IsSomeAnd o (λ (c : Check). RowOf c (length names) (paths_of c.level names pair.before pair.after) states row))
+    (sym (slice_get_read checks (length checks) k check refl check_inside check_is))
+    (row_of_same check by.check (length names) by.states states names pair row same limit verdict.right))
+
+-- the row of a flow under a check, from its verdict
+pub shown_row : (names : List (List ℕ)) (pairs : List FlowPair) (checks : List Check) (compiled : List Compiled) (flow k : ℕ) (pair : FlowPair) (check : Check)
+    (planned_row : PlannedRow) (row : Row) → flow < length pairs → k < length checks → pair ≡ get_or pairs flow pair → check ≡ get_or checks k check
+    → planned_row ≡ planned.Checked flow k → IsVerdictBy names checks compiled pairs flow k row
+    → IsRowBy names checks compiled pairs planned_row (Checked pair.class.name check.name row)
+shown_row names pairs checks compiled flow k pair check planned_row row flow_inside check_inside pair_is check_is is verdict = λ states limits.
+    let of_flow : IsSomeAnd (slice_get checks k) (λ (c : Check). RowOf c (length names) (paths_of c.level names pair.before pair.after) states row) =
+    subst (λ o. IsSomeAnd o (λ (p : FlowPair). IsSomeAnd (slice_get checks k) (λ (c : Check). RowOf c (length names) (paths_of c.level names p.before p.after) states row)))
+    (slice_get_read pairs (length pairs) flow pair refl flow_inside pair_is) (verdict states limits) in
+    let right : RowOf check (length names) (paths_of check.level names pair.before pair.after) states row =
+    subst (λ o. IsSomeAnd o (λ (c : Check). RowOf c (length names) (paths_of c.level names pair.before pair.after) states row))
+    (slice_get_read checks (length checks) k check refl check_inside check_is) of_flow in
     under_row names states pairs checks flow k pair check planned_row (Checked pair.class.name check.name row) is flow_inside check_inside pair_is check_is
-    (record { flow_name = refl; check_name = refl; verdict = row_of_same check by.check (length names) by.states states names pair row same limit verdict.right })
+    (record { flow_name = refl; check_name = refl; verdict = right })
 
 -- two flows that look the same, by their numbers
 pub same_looks : (level : Level) (pairs : List FlowPair) (flow other : ℕ) (pair another : FlowPair) → pair ≡ get_or pairs flow pair

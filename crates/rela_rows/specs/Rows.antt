@@ -8,6 +8,7 @@ use Rattle.rela_expand.specs.Listed.{ListsPathSymbols}
 use Rattle.rela_flows.specs.Plan.{Plan}
 use Rattle.rela_flows.specs.declared.planning.PlannedRow.{PlannedRow}
 use Rattle.rela_flows.specs.declared.planning.PlannedRow.TheVariants as planned
+use Rattle.rela_report.specs.Written.{Written, written_of}
 use Rattle.rela_report.specs.declared.rows.ReportRow.{ReportRow}
 use Rattle.rela_report.specs.declared.rows.ReportRow.TheVariants.{Unselected, Checked}
 use Rattle.rela_report.specs.declared.rows.Row.{Row}
@@ -50,6 +51,12 @@ pub record AreRowsOf (names : List (List ℕ)) (states : ℕ) (checks : List Che
   pub planned : List PlannedRow
   pub plan : Plan (map (λ pair. pair.class) pairs) (map (λ check. check.when) checks) planned
   pub each : AllZip (IsRowOf names states checks pairs) planned rows
+
+-- what is written are the lines of such rows
+abbrev pub AreRowsWritten : List (List ℕ) → ℕ → List Check → List FlowPair → Written → Type 0
+AreRowsWritten names states checks pairs written =
+    (rows : List ReportRow) × AreRowsOf names states checks pairs rows
+    × (written ≡ written_of names rows)
 
 -- the classes of each check list path symbols of these locations, and at its level each node of the flows stands at
 -- one of them

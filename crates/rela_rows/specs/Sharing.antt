@@ -31,6 +31,14 @@ IsVerdictOf names compiled pairs flow check row =
     IsSomeAnd (slice_get pairs flow) (λ pair. IsSomeAnd (slice_get compiled check) (λ by.
     IsVerdict names by pair row))
 
+-- the verdict is right for the flow and the check of these numbers, under the state limit that the compiled checks have
+abbrev pub IsVerdictBy : List (List ℕ) → List Checked → List Compilation → List FlowPair → ℕ →
+    ℕ → Row → Type 0
+IsVerdictBy names checks compiled pairs flow check row =
+    (states : ℕ) → All (λ by. by.states ≡ states) compiled →
+    IsSomeAnd (slice_get pairs flow) (λ pair. IsSomeAnd (slice_get checks check) (λ check.
+    RowOf check (length names) (paths_of check.level names pair.before pair.after) states row))
+
 -- the row of the report that a planned row becomes, under the state limit that the compiled checks have
 abbrev pub IsRowBy : List (List ℕ) → List Checked → List Compilation → List FlowPair →
     PlannedRow → ReportRow → Type 0

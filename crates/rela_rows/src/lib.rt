@@ -8,4 +8,4 @@ mod sharing;
 mod verdict;
 
 pub use laws::right_rows_agree;
-pub use rows::rows_of;
+pub use rows::{rows_of, write_rows};
