@@ -1,4 +1,4 @@
--- Which flows of a block predicates select: the bit at the place of a flow is 1 where it is selected.
+-- Which flows of a block predicates select: the bit at the place of a flow is 1 where they do.
 use Rattle.std.specs.Prelude.{◌≡◌, ℕ, ◌<◌, ◌≤◌, ◌↔◌, List, length, take, drop, slice_index_or, Option, IfSome}
 use Rattle.std.specs.Int.{bit_at}
 use Rattle.std.specs.List.{All, AllZip}
@@ -35,4 +35,5 @@ AreSelections block checks = AllZip (λ check flows. IsSelection block check.whe
 pub record AreKnown (block : List FlowPair) (known : List (Option Known)) : Type 0 where
   pub few : length block ≤ 64
   pub room : 0 < length known
-  pub right : All (λ slot. IfSome slot (λ one. IsAnswer block one.asked one.leaf.now one.flows)) known
+  pub right : All (λ slot. IfSome slot (λ one.
+      IsAnswer block one.asked one.leaf.now one.flows)) known

@@ -10,7 +10,8 @@ use std::hash::{FoldHasher, Hash, Hasher};
 
 /// Whether the two predicates are the same leaf. Two that have parts never are.
 pub(crate) fn same_leaf(one: &Predicate, other: &Predicate) -> bool
-    ensures { IsTrue result → (class : FlowClass) → Selects one.now class ↔ Selects other.now class }
+    ensures { IsTrue result →
+        (class : FlowClass) → Selects one.now class ↔ Selects other.now class }
 {
     match (one, other) {
         (Predicate::All, Predicate::All) => true,
