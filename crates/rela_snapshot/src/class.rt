@@ -1,7 +1,8 @@
 //! What is said of a flow besides its graph: its name, its prefixes and its class.
 
-ghost use Rattle.std.specs.Prelude.{◌≡◌, ◌≢◌, ◌<◌, [], ◌∷◌, ◌++◌, Ok, Err, IfOk, IfErr, OnOk, length, option_map};
+ghost use Rattle.std.specs.Prelude.{◌≡◌, ◌≢◌, ◌<◌, [], ◌∷◌, ◌++◌, Ok, Err, IfOk, IfErr, OnOk, IsErrOf, length, option_map};
 ghost use Rattle.serde_json.specs.View.{view};
+ghost use Rattle.rela_names.specs.Name.{IsName};
 ghost use Rattle.rela_snapshot.specs.Class as spec;
 ghost use Rattle.rela_snapshot.specs.Flows.{IsDst, IsSrc};
 ghost use Rattle.rela_snapshot.specs.Names.{AreDistinct};
@@ -63,7 +64,7 @@ pub(crate) fn read_name<'a>(
 /// # Errors
 ///
 /// `BadName` where they are not 1 to 64 name bytes; else `RepeatedEntry` where an earlier flow has
-/// the name; `Memory`.
+/// the name; `Memory` where memory runs out, and so only for a name.
 #[tactic(auto, unfolding(crate::specs::Class::unused_name_of))]
 pub(crate) fn add_name<'a>(
     alloc: Global,
@@ -75,6 +76,7 @@ pub(crate) fn add_name<'a>(
     ensures name { IfOk result (λ name. spec.unused_name_of names.old row bytes.now ≡ Ok name) }
     ensures fault { IfErr result (λ e. e ≢ LoadError.Memory →
         spec.unused_name_of names.old row bytes.now ≡ Err e) }
+    ensures memory { IsErrOf result LoadError.Memory → IsName bytes.now }
     ensures names { IfOk result (λ name. names.new ≡ names.old ++ name ∷ []) }
     ensures distinct { OnOk result (AreDistinct names.new) }
 {
@@ -244,12 +246,13 @@ fn class_name(
 ///
 /// # Errors
 ///
-/// `BadName` where they are not 1 to 64 name bytes; `Memory`.
+/// `BadName` where they are not 1 to 64 name bytes; else `Memory` where memory runs out.
 #[tactic(auto, unfolding(crate::specs::Class::name_of))]
 pub(crate) fn name_of(alloc: Global, bytes: &[u8], row: u32) -> Result<Name, LoadError>
     ensures name { IfOk result (λ name. spec.name_of row bytes.now ≡ Ok name) }
     ensures same { IfOk result (λ name. name ≡ bytes.now) }
     ensures fault { IfErr result (λ e. e ≢ LoadError.Memory → spec.name_of row bytes.now ≡ Err e) }
+    ensures memory { IsErrOf result LoadError.Memory → IsName bytes.now }
 {
     match Name::from_bytes(alloc, bytes) {
         Ok(name) => Ok(name),
