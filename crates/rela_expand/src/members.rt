@@ -1,7 +1,6 @@
 //! Whether the members of a class name some symbols.
 
-ghost use Rattle.std.specs.Prelude.{◌≡◌, ◌≢◌, Err, IfErr, OnOk};
-ghost use Rattle.rela_lex.specs.declared.error.SpecError.TheVariants.{Memory};
+ghost use Rattle.std.specs.Prelude.{◌≡◌, Err, IfErr, OnOk};
 ghost use Rattle.rela_locations.specs.Network.{by_level};
 ghost use Rattle.rela_expand.specs.Numbered.{Succeeds};
 ghost use Rattle.rela_expand.specs.Places.{listed, located, symbols_of};
@@ -27,7 +26,7 @@ pub(crate) fn look_at_all(
       network = locations.now;
       level = level;
     }) members.now)) }
-    ensures refused { IfErr result (λ e. e ≢ Memory →
+    ensures refused { IfErr result (λ e.
         listed (record { network = locations.now; level = level }) members.now ≡ Err e) }
 {
     for member in members {
@@ -43,7 +42,7 @@ fn look_at(locations: &Locations, level: Level, member: &Member) -> Result<(), S
       network = locations.now;
       level = level;
     }) member.now)) }
-    ensures refused { IfErr result (λ e. e ≢ Memory →
+    ensures refused { IfErr result (λ e.
         symbols_of (record { network = locations.now; level = level }) member.now ≡ Err e) }
 {
     match member {
@@ -81,13 +80,14 @@ fn look_for(
       network = locations.now;
       level = level;
     }) by name.now at)) }
-    ensures refused { IfErr result (λ e. e ≢ Memory →
+    ensures refused { IfErr result (λ e.
         located (record { network = locations.now; level = level }) by name.now at ≡ Err e) }
 {
     match locations.find(level, by, name) {
         Ok(()) => Ok(()),
         Err(MemberError::Finer) => Err(SpecError::FinerLevel { at }),
         Err(MemberError::Unknown) => Err(SpecError::UnknownLocation { at }),
-        Err(MemberError::Memory) => Err(SpecError::Memory),
+        // Looking a name up wants no memory.
+        Err(MemberError::Memory) => unreachable!(),
     }
 }

@@ -11,9 +11,8 @@ returns-in_err-look_at-clause-refused c =
     let e = c.in_err-look_at.field-0.0 in
     let fault : c.from_residual.result ≡ Err e = grind arith in
     rw fault
-    (λ apart.
-    members_stop place c.args.members.now c.loop-member.member-index c.member-item.result _ e c.loop-member-test.true c.loop-member.invariant
-    (subst (λ (m : Member). symbols_of place m ≡ Err e) c.member-item.is (c.in_err-look_at.ensures.refused apart)))
+    (members_stop place c.args.members.now c.loop-member.member-index c.member-item.result _ e c.loop-member-test.true c.loop-member.invariant
+    (subst (λ (m : Member). symbols_of place m ≡ Err e) c.member-item.is (c.in_err-look_at.ensures.refused)))
 
 pub loop-member-preserved : goal.loop-member-preserved
 loop-member-preserved c =
