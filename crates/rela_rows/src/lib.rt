@@ -2,6 +2,7 @@
 #![tactic(auto)]
 
 mod laws;
+mod repeats;
 mod rows;
 mod shapes;
 mod sharing;

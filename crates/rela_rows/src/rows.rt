@@ -179,7 +179,7 @@ fn decide_all(
         judges.now.compiled.now pairs.now) planned.now rows.items) }
     ensures texts { IfOk result (λ rows. All (RowHasTexts alphabet.now) rows.items) }
 {
-    let mut kept = Kept::new(alloc, alphabet)?;
+    let mut kept = Kept::new(alloc, alphabet, judges.others, judges.places)?;
     let mut rows = Vec::with_capacity(alloc, planned.len())?;
     for row in planned {
         rows.push(row_of(alloc, row, pairs, judges, alphabet, &mut kept)?)?;
@@ -202,7 +202,7 @@ fn write_all(
     ensures { IfOk result (AreWritten (IsRowBy alphabet.now judges.now.checks.now
         judges.now.compiled.now pairs.now) alphabet.now planned.now) }
 {
-    let mut kept = Kept::new(alloc, alphabet)?;
+    let mut kept = Kept::new(alloc, alphabet, judges.others, judges.places)?;
     let mut writer = ReportWriter::new(alloc);
     for row in planned {
         write_row(alloc, row, pairs, judges, alphabet, &mut kept, &mut writer)?;

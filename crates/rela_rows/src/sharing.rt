@@ -12,6 +12,7 @@ ghost use Rattle.rela_plan.specs.Alike.{look_of};
 ghost use Rattle.rela_rows.specs.Kept.{AreKept};
 ghost use Rattle.rela_rows.specs.Sharing.{IsVerdict, IsVerdictOf};
 
+use crate::repeats::Repeats;
 use crate::shapes::{ByShape, verdict_by_shape};
 use rela_engine::{Compiled, TwoPathSets, rows_carry_over};
 use rela_names::Alphabet;
@@ -24,21 +25,35 @@ use std::marker::Brand;
 /// What is known of the flows that have been decided.
 #[derive(Drop)]
 pub(crate) struct Kept {
-    /// Their verdicts, by the indexes of the flow and the compiled check.
+    /// Their verdicts, by the indexes of the flow and the compiled check, where they may be asked for
+    /// again.
     verdicts: HashMap<(usize, usize), Row>,
+    /// Which flows others look like.
+    flows: Repeats,
+    /// Which compiled checks serve for several.
+    checks: Repeats,
     /// The shapes of those that are compliant, and what decides the others.
     by_shape: ByShape,
 }
 
 impl Kept {
-    /// Nothing is known of flows whose locations are those of the alphabet. Time and space: linear in
-    /// the symbols. The only error is want of memory.
-    pub(crate) fn new(alloc: Global, alphabet: &Alphabet) -> Result<Kept, AllocError>
+    /// Nothing is known of flows whose locations are those of the alphabet. For each flow `others` has
+    /// the index of one that looks the same, and `places` for each check that of the compiled one that
+    /// serves for it. Time and space: linear in the symbols, the flows and the checks. The only error
+    /// is want of memory.
+    pub(crate) fn new(
+        alloc: Global,
+        alphabet: &Alphabet,
+        others: &[usize],
+        places: &[usize],
+    ) -> Result<Kept, AllocError>
         ensures { IfOk result (λ kept. (compiled : List Compilation) (pairs : List FlowPair) →
             AreKept alphabet.now compiled pairs kept) }
     {
         Ok(Kept {
             verdicts: HashMap::new(alloc),
+            flows: Repeats::of(alloc, others)?,
+            checks: Repeats::of(alloc, places)?,
             by_shape: ByShape::new(alloc, alphabet)?,
         })
     }
@@ -78,8 +93,8 @@ fn carry_over<P: TwoPathSets, Q: TwoPathSets>(
     rows_carry_over::<P, Q>();
 }
 
-/// The verdict of a compiled check on a flow, by their indexes: a kept one, or else it is decided and
-/// kept.
+/// The verdict of a compiled check on a flow, by their indexes: a kept one, or else it is decided, and
+/// kept where it may be asked for again.
 ///
 /// # Errors
 ///
@@ -107,6 +122,9 @@ pub(crate) fn verdict_on(
     }
     let by_shape = &mut kept.by_shape;
     let row = verdict_by_shape(alloc, by_shape, flow, check, pairs, compiled, alphabet)?;
+    if !kept.flows.has(flow) && !kept.checks.has(check) {
+        return Ok(row);
+    }
     kept.verdicts.insert((flow, check), row.copy(alloc)?)?;
     Ok(row)
 }
