@@ -12,4 +12,3 @@ pub mod SamePrefix
 pub mod PrefixTexts
 pub mod OwnText
 pub mod SelectionLemmas
-pub mod PlanLemmas

@@ -6,7 +6,7 @@ mod predicate;
 mod prefix;
 mod selection;
 
-pub use planning::{PlannedRow, plan};
+pub use planning::PlannedRow;
 pub use predicate::{FlowClass, Predicate};
 pub use prefix::{Ipv4Prefix, Ipv6Prefix, Prefix};
 pub use selection::selects;

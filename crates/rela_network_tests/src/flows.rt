@@ -1,9 +1,9 @@
-//! Prefixes, predicates and the planning of rows.
+//! Prefixes and predicates.
 
 ghost use Rattle.std.specs.Prelude.{◌≤◌, IfOk};
 ghost use Rattle.rela_flows.specs.Selects.{depth};
 
-use rela_flows::{FlowClass, Ipv4Prefix, Ipv6Prefix, PlannedRow, Predicate, Prefix, plan, selects};
+use rela_flows::{FlowClass, Ipv4Prefix, Ipv6Prefix, Predicate, Prefix, selects};
 use rela_names::{List, Name, NameError};
 use std::alloc::{AllocError, Global};
 use std::test::Fail;
@@ -170,46 +170,5 @@ fn is_copied(alloc: Global, predicate: &Predicate) -> bool {
 fn copies_a_predicate(rt: HostRuntime) -> Result<(), Fail> {
     let other = other(rt.alloc())?;
     assert!(rt; is_copied(rt.alloc(), &other));
-    Ok(())
-}
-
-/// Whether the first class is planned under the second of two predicates, and the second under
-/// none.
-fn is_planned(alloc: Global, classes: &[&FlowClass], one: &Predicate, two: &Predicate) -> bool
-    requires one { depth one.now ≤ 10 }
-    requires two { depth two.now ≤ 10 }
-{
-    let expected = [
-        PlannedRow::Checked { flow: 0, check: 1 },
-        PlannedRow::Unselected { flow: 1 },
-    ];
-    match plan(alloc, classes, &[one, two]) {
-        Ok(rows) => rows.as_slice() == expected.as_slice(),
-        Err(_) => false,
-    }
-}
-
-/// Whether it is so of the predicates on the name f3 and on destinations in the prefix.
-fn plans_for(alloc: Global, classes: &[&FlowClass], prefix: Prefix) -> bool {
-    let within = to(prefix);
-    match named(alloc, b"f3") {
-        Ok(absent) => is_planned(alloc, classes, &absent, &within),
-        Err(_) => false,
-    }
-}
-
-/// A flow f1 to 10.1.0.0/16, and a flow f2 to 192.168.0.0/16.
-fn two_classes(alloc: Global) -> Result<[FlowClass; 2], Fail> {
-    let first = class_to(alloc, b"f1", b"10.1.0.0/16")?;
-    let second = class_to(alloc, b"f2", b"192.168.0.0/16")?;
-    Ok([first, second])
-}
-
-/// A flow has a row for each check that selects it, and one alone where none does.
-#[test]
-fn plans_rows(rt: HostRuntime) -> Result<(), Fail> {
-    let prefix = prefix(b"10.0.0.0/8")?;
-    let classes = two_classes(rt.alloc())?;
-    assert!(rt; plans_for(rt.alloc(), &[&classes[0], &classes[1]], prefix));
     Ok(())
 }
