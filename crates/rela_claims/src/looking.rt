@@ -1,8 +1,7 @@
 //! Whether the classes that are mentioned name some symbols.
 
-ghost use Rattle.std.specs.Prelude.{◌≡◌, ◌≢◌, Ok, Err, IfErr, OnOk, map};
+ghost use Rattle.std.specs.Prelude.{◌≡◌, Ok, Err, IfErr, OnOk, map};
 ghost use Rattle.rela_json.specs.Results.{try_map};
-ghost use Rattle.rela_lex.specs.declared.error.SpecError.TheVariants.{Memory};
 ghost use Rattle.rela_claims.specs.Classes.{located, resolved_class, Within};
 ghost use Rattle.rela_claims.specs.Written.{class_of, classes_of, mentioned};
 
@@ -26,7 +25,7 @@ pub(crate) fn look_at_all(
       network = locations.now;
       level = level;
     })) (map mentioned mentions.now) ≡ Ok (classes_of mentions.now)) }
-    ensures refused { IfErr result (λ e. e ≢ Memory →
+    ensures refused { IfErr result (λ e.
         try_map (resolved_class (record { network = locations.now; level = level }))
         (map mentioned mentions.now) ≡ Err e) }
 {
@@ -42,7 +41,7 @@ fn look_at(locations: &Locations, level: Level, mention: &Mention<'_>) -> Result
       network = locations.now;
       level = level;
     }) (mentioned mention.now) ≡ Ok (class_of mention.now.class)) }
-    ensures refused { IfErr result (λ e. e ≢ Memory →
+    ensures refused { IfErr result (λ e.
         resolved_class (record { network = locations.now; level = level })
         (mentioned mention.now) ≡ Err e) }
 {
@@ -69,13 +68,14 @@ fn look_for(
       network = locations.now;
       level = level;
     }) by name.now at ≡ Ok (Within by name.now)) }
-    ensures refused { IfErr result (λ e. e ≢ Memory →
+    ensures refused { IfErr result (λ e.
         located (record { network = locations.now; level = level }) by name.now at ≡ Err e) }
 {
     match locations.find(level, by, name) {
         Ok(()) => Ok(()),
         Err(MemberError::Finer) => Err(SpecError::FinerLevel { at }),
         Err(MemberError::Unknown) => Err(SpecError::UnknownLocation { at }),
-        Err(MemberError::Memory) => Err(SpecError::Memory),
+        // Looking a name up wants no memory.
+        Err(MemberError::Memory) => unreachable!(),
     }
 }

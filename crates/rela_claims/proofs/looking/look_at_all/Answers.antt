@@ -15,10 +15,9 @@ returns-in_err-look_at-clause-refused c =
     let e = c.in_err-look_at.field-0.0 in
     let fault : c.from_residual.result ≡ Err e = grind arith in
     rw fault
-    (λ apart.
-    try_of_view (resolved_class place) mentioned c.args.mentions.now
+    (try_of_view (resolved_class place) mentioned c.args.mentions.now
     ∙ one_stops (λ m. resolved_class place (mentioned m)) (λ m. class_of m.class) c.args.mentions.now c.loop-mention.mention-index c.mention-item.result
-    c.loop-mention-test.true c.mention-item.is c.loop-mention.invariant e (c.in_err-look_at.ensures.refused apart))
+    c.loop-mention-test.true c.mention-item.is c.loop-mention.invariant e (c.in_err-look_at.ensures.refused))
 
 pub loop-mention-preserved : goal.loop-mention-preserved
 loop-mention-preserved c =
