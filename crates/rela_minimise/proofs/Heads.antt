@@ -1,6 +1,6 @@
--- Edges that lead to states, and states of each class.
-use Rattle.std.proofs.Common.{◌≡◌, ℕ, ◌<◌, ◌≤◌, Bool, List, length, get_or, map, sym, ◌∙◌, subst, arith}
-use Rattle.std.specs.List.{All, Contains}
+-- Edges that lead to states, and the first states of classes.
+use Rattle.std.proofs.Common.{◌≡◌, ℕ, ◌<◌, Bool, List, length, get_or, map, sym, ap, ◌∙◌, subst, arith}
+use Rattle.std.specs.List.{All}
 use Rattle.std.proofs.lemmas.List.{get_or-map, get_or_default, length-map}
 use Rattle.std.proofs.lemmas.List.Elements.{All-from_get_or, All-get_or}
 use Rattle.rela_nfa.specs.Automaton.{IsMove}
@@ -8,7 +8,7 @@ use Rattle.rela_nfa.specs.Stored.{move_of}
 use Rattle.rela_nfa.specs.declared.edge.Edge.{Edge}
 use Rattle.rela_subset.specs.Deterministic.{Deterministic, IsDeterministic, moves_of, states}
 use Rattle.rela_subset.proofs.Words.{moves_at}
-use Rattle.rela_minimise.specs.Classes.{AreClasses, AreHeads}
+use Rattle.rela_minimise.specs.Classes.{AreClasses, AreFirst, AreInOrder}
 
 -- the edges of a state lead to states
 pub edges_lead : {L : Type 0} (letters : L → List Bool) (edges : List (Edge L)) (d : Deterministic) → IsDeterministic d → (n q : ℕ) → n ≡ states d → q < states d
@@ -19,25 +19,31 @@ edges_lead letters edges d ok n q all below are k e within =
     let leads : (get_or edges k e).to < states d = subst (λ move. move.to < states d) (get_or-map (move_of letters) edges k e (move_of letters e) within) fits.leads in
     omega arith
 
--- a head that was written for each class that was met
-pub heads_of : (count : ℕ) (classes heads : List ℕ) (i : ℕ) → length heads ≡ count → length classes ≤ i → ((c : ℕ) → c < count → Contains classes c)
-    → ((c q : ℕ) → q < i → get_or classes q 0 ≡ c → (get_or heads c 0 < length classes) × (get_or classes (get_or heads c 0) 0 ≡ c)) → AreHeads (length classes) classes heads
-heads_of count classes heads i each all met so_far = record {
-  state = λ c below. (at c (omega arith)).0;
-  own = λ c below. (at c (omega arith)).1;
-}
-  where
-    at : (c : ℕ) → c < count → (get_or heads c 0 < length classes) × (get_or classes (get_or heads c 0) 0 ≡ c)
-    at c below = let (q, within, is) = met c below in so_far c q (omega arith) (get_or_default classes q 0 c within ∙ is)
-
-pub met_contains : (d : Deterministic) (count : ℕ) (classes : List ℕ) → AreClasses d count classes → (c : ℕ) → c < count → Contains classes c
-met_contains d count classes are c below =
-    let (q, within, is) = are.met c below in
-    let inside : q < length classes = let each = are.each in omega arith in
-    (q, inside, sym (get_or_default classes q 0 c inside) ∙ is)
-
 pub counted_all : (d : Deterministic) (count : ℕ) (classes : List ℕ) → AreClasses d count classes → All (λ c. c < count) classes
 counted_all d count classes are = All-from_get_or (λ c. c < count) classes 0 (λ q within. are.counted q (let each = are.each in omega arith))
 
-pub heads_all : (n : ℕ) (classes heads : List ℕ) → AreHeads n classes heads → All (λ q. q < n) heads
-heads_all n classes heads own = All-from_get_or (λ q. q < n) heads 0 (λ c within. own.state c within)
+-- the same classes, numbered in the order of their first states
+pub classes_in_order : (d : Deterministic) (count : ℕ) (classes numbers heads : List ℕ) → AreClasses d count classes → AreInOrder classes numbers heads → AreClasses d (length heads) numbers × AreFirst (states d) numbers heads
+classes_in_order d count classes numbers heads are order = (
+  record {
+    each = order.each ∙ are.each;
+    alike = λ p q p_in q_in.
+        let same = order.same p q (in_classes p p_in) (in_classes q q_in) in
+        let alike = are.alike p q p_in q_in in
+        (λ equal. alike.0 (same.0 equal), λ accept. same.1 (alike.1 accept));
+    counted = λ q q_in. order.counted q (in_classes q q_in);
+    met = λ c below. (get_or heads c 0, first.state c below, first.own c below);
+  },
+  first,
+)
+  where
+    first : AreFirst (states d) numbers heads
+    first = subst (λ n. AreFirst n numbers heads) are.each order.first
+
+    in_classes : (q : ℕ) → q < states d → q < length classes
+    in_classes q below = let each = are.each in omega arith
+
+-- the class of the start, as it is read
+pub start_class : (d : Deterministic) → IsDeterministic d → (count : ℕ) (classes : List ℕ) → AreClasses d count classes → (start : ℕ) → start ≡ d.start → (class : ℕ) → class ≡ get_or classes start class → class ≡ get_or classes d.start 0
+start_class d ok count classes are start same class is =
+    is ∙ ap (λ q. get_or classes q class) same ∙ get_or_default classes d.start class 0 (let starts = ok.automaton.starts in let each = are.each in omega arith)

@@ -15,5 +15,7 @@ pub mod Settling
 pub mod Putting
 pub mod LeadingAlike
 pub mod Heads
+pub mod Joined
+pub mod Ordered
 pub mod Alike
 pub mod Quotients

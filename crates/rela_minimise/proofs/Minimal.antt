@@ -1,38 +1,45 @@
--- The automaton that is determinised of the classes.
-use Rattle.std.proofs.Common.{◌≡◌, ℕ, ◌↔◌, Bool, List, ◌++◌, refl, sym, ◌∙◌, subst}
-use Rattle.rela_nfa.specs.Automaton.{Automaton}
-use Rattle.rela_nfa.specs.Runs.{Reach}
-use Rattle.rela_subset.specs.Deterministic.{Deterministic, IsAccepted, IsOver, IsReachable, LeadsTo, state_after}
-use Rattle.rela_subset.specs.Subsets.{ReachSame}
+-- What makes an automaton minimal, and the automaton of the same words.
+use Rattle.std.proofs.Common.{◌≡◌, ℕ, ◌↔◌, true, List, [], ◌∷◌, ◌++◌, refl, sym, subst, inl, inr, arith}
+use Rattle.std.proofs.lemmas.Bool.{cases_lt}
+use Rattle.std.proofs.lemmas.List.Elements.{All-nil}
+use Rattle.rela_labels.specs.Letters.{has}
+use Rattle.rela_names.specs.Shortlex.{IsBefore}
+use Rattle.rela_subset.specs.Deterministic.{Deterministic, IsAccepted, IsByArrival, IsOver, IsReachable, state_after}
 use Rattle.rela_minimise.specs.Classes.{AreAlike, IsMinimal}
 use Rattle.rela_minimise.proofs.Alike.{minimal}
 
-reach_same : (a : Automaton) (r : Deterministic) → ((q : ℕ) (word : List ℕ) → Reach a q word ↔ LeadsTo r q word) → (v w : List ℕ) → IsOver r.over v → IsOver r.over w → ReachSame a v w ↔ (state_after r v ≡ state_after r w)
-reach_same a r reach v w v_over w_over = (
-  λ same. sym (((reach (state_after r v) w).0 ((same (state_after r v)).0 ((reach (state_after r v) v).1 (v_over, refl)))).1),
-  λ same q. (
-    λ reached. (reach q w).1 (w_over, sym same ∙ ((reach q v).0 reached).1),
-    λ reached. (reach q v).1 (v_over, same ∙ ((reach q w).0 reached).1),
-  ),
+none_before : (word : List ℕ) → ¬ IsBefore word []
+none_before [] (inl less) = omega (arith, less)
+none_before [] (inr (same, smaller)) = smaller
+none_before (k ∷ rest) (inl less) = omega (arith, less)
+none_before (k ∷ rest) (inr (same, smaller)) = smaller
+
+-- the empty word arrives first
+pub starts_first : (d : Deterministic) → IsByArrival d → d.start ≡ 0
+starts_first d arrival = elim (cases_lt 0 d.start) [
+  | inl later ↦
+      let (earlier, leads, before) = arrival 0 d.start [] later (All-nil (λ k. has d.over k ≡ true), refl) in
+      absurd (none_before earlier before)
+  | inr not_later ↦ omega arith
+]
+
+-- the same continuations tell words apart in automata of the same words
+pub alike_same : (d e : Deterministic) → e.over ≡ d.over → ((word : List ℕ) → IsAccepted e word ↔ IsAccepted d word) → (v w : List ℕ) → AreAlike e v w ↔ AreAlike d v w
+alike_same d e over language v w = (
+  λ alike rest read.
+      let is = alike rest (subst (λ o. IsOver o rest) (sym over) read) in (
+        λ accepted. (language (w ++ rest)).0 (is.0 ((language (v ++ rest)).1 accepted)),
+        λ accepted. (language (v ++ rest)).0 (is.1 ((language (w ++ rest)).1 accepted)),
+      ),
+  λ alike rest read.
+      let is = alike rest (subst (λ o. IsOver o rest) over read) in (
+        λ accepted. (language (w ++ rest)).1 (is.0 ((language (v ++ rest)).0 accepted)),
+        λ accepted. (language (v ++ rest)).1 (is.1 ((language (w ++ rest)).0 accepted)),
+      ),
 )
 
-module _ (d r m : Deterministic) (a : Automaton) (over : List Bool) (r_over : r.over ≡ d.over) (over_is : over ≡ d.over) (m_over : m.over ≡ over)
-    (reach : (q : ℕ) (word : List ℕ) → Reach a q word ↔ LeadsTo r q word)
-    (alike : (v w : List ℕ) → IsOver d.over v → IsOver d.over w → (state_after r v ≡ state_after r w) ↔ AreAlike d v w)
-    (sets : (v w : List ℕ) → IsOver over v → IsOver over w → (state_after m v ≡ state_after m w) ↔ ReachSame a v w) where
-  pub word_classes : (v w : List ℕ) → IsOver d.over v → IsOver d.over w → (state_after m v ≡ state_after m w) ↔ AreAlike d v w
-  word_classes v w v_over w_over =
-      let is = sets v w (subst (λ o. IsOver o v) (sym over_is) v_over) (subst (λ o. IsOver o w) (sym over_is) w_over) in
-      let states_same = reach_same a r reach v w (subst (λ o. IsOver o v) (sym r_over) v_over) (subst (λ o. IsOver o w) (sym r_over) w_over) in
-      let words_alike = alike v w v_over w_over in (
-        λ same. words_alike.0 (states_same.0 (is.0 same)),
-        λ apart. is.1 (states_same.1 (words_alike.1 apart)),
-      )
-
-  pub made_minimal : ((word : List ℕ) → IsAccepted m word ↔ IsAccepted d word) → IsReachable m → IsMinimal m
-  made_minimal language reachable = minimal m reachable (λ v w v_over w_over m_alike.
-      (word_classes v w (subst (λ o. IsOver o v) (m_over ∙ over_is) v_over) (subst (λ o. IsOver o w) (m_over ∙ over_is) w_over)).1 (λ rest over_rest.
-      let same = m_alike rest (subst (λ o. IsOver o rest) (sym (m_over ∙ over_is)) over_rest) in (
-        λ accepted. (language (w ++ rest)).0 (same.0 ((language (v ++ rest)).1 accepted)),
-        λ accepted. (language (v ++ rest)).0 (same.1 ((language (w ++ rest)).1 accepted)),
-      )))
+-- where words lead to one state that no continuation tells apart, no two states that words reach accept the same words
+pub made_minimal : (d m : Deterministic) → m.over ≡ d.over → ((word : List ℕ) → IsAccepted m word ↔ IsAccepted d word)
+    → ((v w : List ℕ) → IsOver d.over v → IsOver d.over w → (state_after m v ≡ state_after m w) ↔ AreAlike d v w) → IsReachable m → IsMinimal m
+made_minimal d m over language classes reachable = minimal m reachable (λ v w v_over w_over alike.
+    (classes v w (subst (λ o. IsOver o v) over v_over) (subst (λ o. IsOver o w) over w_over)).1 ((alike_same d m over language v w).0 alike))

@@ -1,24 +1,17 @@
 -- The automaton whose states are classes.
-use Rattle.std.proofs.Common.{◌≡◌, ℕ, ◌+◌, ◌<◌, ◌↔◌, true, false, cond, List, [], ◌∷◌, length, get_or, map, None, Some, refl, sym, ap, ◌∙◌, subst, inl, inr, arith}
-use Rattle.std.specs.List.{All, count_by}
+use Rattle.std.proofs.Common.{◌≡◌, ℕ, ◌<◌, ◌↔◌, true, false, cond, List, [], ◌∷◌, length, get_or, map, None, Some, refl, sym, ap, ◌∙◌, subst, inl, inr, arith}
+use Rattle.std.specs.List.{All, Contains}
 use Rattle.std.specs.Option.{IsSome, unwrap_or}
 use Rattle.std.proofs.lemmas.Bool.{cases_Bool}
-use Rattle.std.proofs.lemmas.List.{get_or-map, length-map}
-use Rattle.std.proofs.lemmas.List.Elements.{All-from_get_or, All-head, All-map, All-tail, All-weaker}
-use Rattle.std.proofs.lemmas.List.Sums.{sum_by-cons}
+use Rattle.std.proofs.lemmas.List.{get_or-map, get_or_default, length-map}
+use Rattle.std.proofs.lemmas.List.Elements.{All-from_get_or, All-head, All-tail}
 use Rattle.rela_labels.specs.Letters.{has}
 use Rattle.rela_nfa.specs.Automaton.{IsMove, Move}
-use Rattle.rela_subset.specs.Deterministic.{Deterministic, IsAccepted, IsDeterministic, IsOver, IsSplit, led_from, moves_of, next, state_after, states, takes, target}
-use Rattle.rela_subset.proofs.Words.{labelled_at, led_within, moves_at, next_within, split_at, target_at}
-use Rattle.rela_minimise.specs.Classes.{AcceptSame, AreAlike, AreClasses, AreHeads, IsQuotient, finality, moves_onto, onto}
+use Rattle.rela_subset.specs.Deterministic.{Deterministic, IsAccepted, IsByArrival, IsDeterministic, IsOver, IsReachable, IsSplit, led_from, moves_of, next, state_after, states, takes, target}
+use Rattle.rela_subset.proofs.Words.{led_within, next_within, split_at, target_at}
+use Rattle.rela_minimise.specs.Classes.{AcceptSame, AreAlike, AreClasses, AreFirst, finality, onto}
+use Rattle.rela_minimise.specs.Joining.{HasSize, IsQuotient}
 use Rattle.rela_minimise.proofs.Alike.{accept_final, accept_next, alike_states}
-
-count_onto : (classes : List ℕ) (k : ℕ) (moves : List Move) → count_by (takes k) (map (onto classes) moves) ≡ count_by (takes k) moves
-count_onto classes k [] = refl
-count_onto classes k (move ∷ others) =
-    sum_by-cons (λ (m : Move). cond (takes k m) 1 0) (onto classes move) (map (onto classes) others)
-    ∙ ap (λ n. cond (takes k move) 1 0 + n) (count_onto classes k others)
-    ∙ sym (sum_by-cons (λ (m : Move). cond (takes k m) 1 0) move others)
 
 target_onto : (classes : List ℕ) (k : ℕ) (moves : List Move) (t : ℕ) → target moves k ≡ Some t → target (map (onto classes) moves) k ≡ Some (get_or classes t 0)
 target_onto classes k [] t is = let never : None ≡ Some t = is in absurd (cc)
@@ -32,54 +25,54 @@ target_onto classes k (move ∷ others) t is = elim (cases_Bool (takes k move)) 
       ∙ target_onto classes k others t (sym (ap (λ b. cond b (Some move.to) (target others k)) no') ∙ is)
 ]
 
-module _ (d : Deterministic) (ok : IsDeterministic d) (count : ℕ) (classes : List ℕ) (are : AreClasses d count classes) (heads : List ℕ) (few : length heads ≡ count) (own : AreHeads (states d) classes heads)
+module _ (d : Deterministic) (ok : IsDeterministic d) (classes heads : List ℕ) (are : AreClasses d (length heads) classes) (own : AreFirst (states d) classes heads)
     (r : Deterministic) (is : IsQuotient d classes heads r) where
   finals_len : length r.finals ≡ length heads
   finals_len = ap length is.finals ∙ length-map heads (finality d)
 
-  edges_at : (c : ℕ) → c < length heads → get_or r.edges c [] ≡ moves_onto d classes (get_or heads c 0)
-  edges_at c below = ap (λ es. get_or es c []) is.edges ∙ get_or-map (moves_onto d classes) heads c 0 [] below
-
   final_at : (c : ℕ) → c < length heads → get_or r.finals c false ≡ finality d (get_or heads c 0)
   final_at c below = ap (λ fs. get_or fs c false) is.finals ∙ get_or-map (finality d) heads c 0 false below
 
-  each_edges : (P : List Move → Type 0) → ((q : ℕ) → q < states d → P (moves_onto d classes q)) → All P r.edges
-  each_edges P holds =
-      subst (All P) (sym is.edges) (All-map P (moves_onto d classes) heads (All-from_get_or (λ q. P (moves_onto d classes q)) heads 0 (λ c below. holds (get_or heads c 0) (own.state c below))))
+  each_edges : (P : List Move → Type 0) → ((c : ℕ) → c < length heads → P (get_or r.edges c [])) → All P r.edges
+  each_edges P holds = All-from_get_or P r.edges [] (λ c below. holds c (let each = is.edges.each in omega arith))
 
-  move_onto : (move : Move) → IsMove (length d.over) (states d) move → IsMove (length r.over) (states r) (onto classes move)
-  move_onto move fits = record {
-    sized = (subst (λ o. IsMove (length o) (states d) move) (sym is.over) fits).sized;
-    leads = let counted = are.counted move.to fits.leads in let len = finals_len in omega arith;
+  class_low : (n : ℕ) → Contains classes n → n < length r.finals
+  class_low n (q, within, at) =
+      let counted = are.counted q (let each = are.each in omega arith) in
+      let same : get_or classes q 0 ≡ n = get_or_default classes q 0 n within ∙ at in
+      let len = finals_len in omega arith
+
+  fits : (c : ℕ) → c < length heads → All (IsMove (length r.over) (length r.finals)) (get_or r.edges c [])
+  fits c below k e within = let at = is.edges.onto c below in record {
+    sized = subst (λ o. HasSize (length o) (get_or (get_or r.edges c []) k e)) (sym is.over) (at.sized k e within);
+    leads = class_low (get_or (get_or r.edges c []) k e).to (at.within k e within);
   }
 
   pub quotient_deterministic : IsDeterministic r
   quotient_deterministic = record {
     automaton = record {
-      each = ap length is.edges ∙ length-map heads (moves_onto d classes) ∙ sym finals_len;
+      each = is.edges.each ∙ sym finals_len;
       starts = let counted = are.counted d.start ok.automaton.starts in let len = finals_len in let at = is.start in omega arith;
-      moves = each_edges (All (IsMove (length r.over) (states r))) (λ q below.
-          All-map (IsMove (length r.over) (states r)) (onto classes) (moves_of d q)
-          (All-weaker (IsMove (length d.over) (states d)) (λ move. IsMove (length r.over) (states r) (onto classes move)) move_onto (moves_of d q) (moves_at d ok q below)));
+      moves = each_edges (All (IsMove (length r.over) (length r.finals))) fits;
     };
-    labelled = each_edges (All (λ move. IsSome move.label)) (λ q below. All-map (λ (move : Move). IsSome move.label) (onto classes) (moves_of d q) (labelled_at d ok q below));
-    split = each_edges (IsSplit r.over) (λ q below. subst (λ o. IsSplit o (moves_onto d classes q)) (sym is.over) (λ k. count_onto classes k (moves_of d q) ∙ split_at d ok q below k));
+    labelled = each_edges (All (λ move. IsSome move.label)) (λ c below. (is.edges.onto c below).labelled);
+    split = each_edges (IsSplit r.over) (λ c below. subst (λ o. IsSplit o (get_or r.edges c [])) (sym is.over)
+        (λ k. (is.edges.onto c below).split k ∙ split_at d ok (get_or heads c 0) (own.state c below) k));
   }
 
   -- the head of a state's class accepts the same words
   head_same : (q : ℕ) → q < states d → AcceptSame d (get_or heads (get_or classes q 0) 0) q
   head_same q below =
-      let counted : get_or classes q 0 < length heads = subst (λ n. get_or classes q 0 < n) (sym few) (are.counted q below) in
+      let counted : get_or classes q 0 < length heads = are.counted q below in
       (are.alike (get_or heads (get_or classes q 0) 0) q (own.state (get_or classes q 0) counted) below).0 (own.own (get_or classes q 0) counted)
 
   next_class : (q k : ℕ) → q < states d → has d.over k ≡ true → next r (get_or classes q 0) k ≡ get_or classes (next d q k) 0
   next_class q k below over =
-      let counted : get_or classes q 0 < length heads = subst (λ n. get_or classes q 0 < n) (sym few) (are.counted q below) in
+      let counted : get_or classes q 0 < length heads = are.counted q below in
       let head : ℕ = get_or heads (get_or classes q 0) 0 in
       let head_in : head < states d = own.state (get_or classes q 0) counted in
-      let leads : target (moves_onto d classes head) k ≡ Some (get_or classes (next d head k) 0) = target_onto classes k (moves_of d head) (next d head k) (target_at d ok head k head_in over) in
-      ap (λ ms. unwrap_or (target ms k) 0) (edges_at (get_or classes q 0) counted)
-      ∙ ap (λ o. unwrap_or o 0) leads
+      let leads : target (map (onto classes) (moves_of d head)) k ≡ Some (get_or classes (next d head k) 0) = target_onto classes k (moves_of d head) (next d head k) (target_at d ok head k head_in over) in
+      ap (λ o. unwrap_or o 0) ((is.edges.onto (get_or classes q 0) counted).leads k ∙ leads)
       ∙ (are.alike (next d head k) (next d q k) (next_within d ok head k head_in over) (next_within d ok q k below over)).1 (accept_next d head q k over (head_same q below))
 
   led_class : (word : List ℕ) (q : ℕ) → q < states d → IsOver d.over word → led_from r (get_or classes q 0) word ≡ get_or classes (led_from d q word) 0
@@ -94,7 +87,7 @@ module _ (d : Deterministic) (ok : IsDeterministic d) (count : ℕ) (classes : L
 
   final_class : (q : ℕ) → q < states d → finality r (get_or classes q 0) ≡ finality d q
   final_class q below =
-      let counted : get_or classes q 0 < length heads = subst (λ n. get_or classes q 0 < n) (sym few) (are.counted q below) in
+      let counted : get_or classes q 0 < length heads = are.counted q below in
       final_at (get_or classes q 0) counted ∙ accept_final d (get_or heads (get_or classes q 0) 0) q (head_same q below)
 
   after_final : (word : List ℕ) → IsOver d.over word → finality r (state_after r word) ≡ finality d (state_after d word)
@@ -115,4 +108,24 @@ module _ (d : Deterministic) (ok : IsDeterministic d) (count : ℕ) (classes : L
       let words_alike = alike_states d v w v_over w_over in (
         λ same. words_alike.0 (classes_alike.0 (sym (after_class v v_over) ∙ same ∙ after_class w w_over)),
         λ alike. after_class v v_over ∙ classes_alike.1 (words_alike.1 alike) ∙ sym (after_class w w_over),
+      )
+
+  pub quotient_reachable : IsReachable d → IsReachable r
+  quotient_reachable reach c below =
+      let c_in : c < length heads = let len = finals_len in omega arith in
+      let (word, (over, leads)) = reach (get_or heads c 0) (own.state c c_in) in
+      (word, (subst (λ o. IsOver o word) (sym is.over) over, after_class word over ∙ ap (λ q. get_or classes q 0) leads ∙ own.own c c_in))
+
+  -- a word that leads to a class leads to one of its states, and an earlier one to the first state of an earlier class
+  pub quotient_arrival : IsByArrival d → IsByArrival r
+  quotient_arrival arrival p q word less (over, leads) =
+      let read : IsOver d.over word = subst (λ o. IsOver o word) is.over over in
+      let state : ℕ = state_after d word in
+      let state_in : state < states d = led_within d ok word d.start ok.automaton.starts read in
+      let class : get_or classes state 0 ≡ q = sym (after_class word read) ∙ leads in
+      let p_in : p < length heads = let counted = are.counted state state_in in omega arith in
+      let (earlier, (earlier_over, earlier_leads), before) = arrival (get_or heads p 0) state word (own.before state p state_in (omega arith)) (read, refl) in (
+        earlier,
+        (subst (λ o. IsOver o earlier) (sym is.over) earlier_over, after_class earlier earlier_over ∙ ap (λ n. get_or classes n 0) earlier_leads ∙ own.own p p_in),
+        before,
       )

@@ -1,7 +1,7 @@
 -- States and words that are told apart, and the classes of states that are not.
-use Rattle.std.specs.Prelude.{◌≡◌, ℕ, ◌<◌, ◌↔◌, Bool, false, List, ◌++◌, length, map, slice_index, slice_index_or}
+use Rattle.std.specs.Prelude.{◌≡◌, ℕ, ◌<◌, ◌↔◌, Bool, false, List, ◌++◌, length, slice_index, slice_index_or}
 use Rattle.rela_nfa.specs.Automaton.{Move}
-use Rattle.rela_subset.specs.Deterministic.{Deterministic, IsAccepted, IsFinal, IsOver, led_from, moves_of, states}
+use Rattle.rela_subset.specs.Deterministic.{Deterministic, IsAccepted, IsFinal, IsOver, led_from, states}
 
 -- no word over the letters that follows tells the two words apart
 abbrev pub AreAlike : Deterministic → List ℕ → List ℕ → Type 0
@@ -26,10 +26,20 @@ pub record AreClasses (d : Deterministic) (count : ℕ) (classes : List ℕ) : T
   pub counted : (q : ℕ) → q < states d → slice_index classes q < count
   pub met : (c : ℕ) → c < count → (q : ℕ) × (q < states d) × (slice_index classes q ≡ c)
 
--- one state of each class
-pub record AreHeads (n : ℕ) (classes heads : List ℕ) : Type 0 where
+-- the first state of each class, where classes are numbered in the order of their first states
+pub record AreFirst (n : ℕ) (classes heads : List ℕ) : Type 0 where
   pub state : (c : ℕ) → c < length heads → slice_index heads c < n
   pub own : (c : ℕ) → c < length heads → slice_index classes (slice_index heads c) ≡ c
+  pub before : (q c : ℕ) → q < n → c < slice_index classes q → slice_index heads c < q
+
+-- the same classes, numbered in the order of their first states
+pub record AreInOrder (classes numbers heads : List ℕ) : Type 0 where
+  pub each : length numbers ≡ length classes
+  pub same : (p q : ℕ) → p < length classes → q < length classes →
+      (slice_index numbers p ≡ slice_index numbers q) ↔
+      (slice_index classes p ≡ slice_index classes q)
+  pub counted : (q : ℕ) → q < length classes → slice_index numbers q < length heads
+  pub first : AreFirst (length classes) numbers heads
 
 -- whether the state is final
 abbrev pub finality : Deterministic → ℕ → Bool
@@ -38,15 +48,3 @@ finality d q = slice_index_or d.finals q false
 -- the edge, to the class of the state to which it leads
 abbrev pub onto : List ℕ → Move → Move
 onto classes move = record { label = move.label; to = slice_index classes move.to }
-
--- the edges of the state, to classes
-abbrev pub moves_onto : Deterministic → List ℕ → ℕ → List Move
-moves_onto d classes q = map (onto classes) (moves_of d q)
-
--- one state for each class, which is final and has edges as the head of its class
-pub record IsQuotient (d : Deterministic) (classes heads : List ℕ)
-    (r : Deterministic) : Type 0 where
-  pub over : r.over ≡ d.over
-  pub start : r.start ≡ slice_index classes d.start
-  pub finals : r.finals ≡ map (finality d) heads
-  pub edges : r.edges ≡ map (moves_onto d classes) heads

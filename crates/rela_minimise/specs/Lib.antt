@@ -1,4 +1,5 @@
 pub mod Cutting
 pub mod Classes
+pub mod Joining
 pub mod Refining
 pub mod Stored

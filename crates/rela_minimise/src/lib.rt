@@ -5,10 +5,12 @@
 mod class_pairs;
 mod columns;
 mod cutting;
+mod joining;
 mod largest;
 mod lists;
 mod marking;
 mod minimising;
+mod ordering;
 mod passes;
 mod predecessors;
 mod quotient;
@@ -17,4 +19,4 @@ mod refining;
 mod signature;
 mod signatures;
 
-pub use minimising::{into_minimal, minimise};
+pub use minimising::{into_minimal, merge_equivalent, minimise};
