@@ -8,7 +8,7 @@ ghost use Rattle.rela_complement.specs.Least.{IsLeast};
 ghost use Rattle.rela_complement.specs.Telling.{TellsWords};
 
 use rela_labels::WideSet;
-use rela_minimise::into_minimal;
+use rela_minimise::merge_equivalent;
 use rela_nfa::{BuildError, Nfa};
 use rela_reduce::reduce;
 use rela_subset::{Dfa, determinise};
@@ -91,6 +91,6 @@ fn least_by_sets(
     ensures past { IfErr result (λ e. e ≡ BuildError.Limit → ReachSets a.now over.now (limit + 1)) }
 {
     let sets = determinise(alloc, a, over, limit)?;
-    let least = into_minimal(alloc, sets)?;
+    let least = merge_equivalent(alloc, &sets)?;
     Ok(least)
 }
