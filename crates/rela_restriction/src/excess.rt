@@ -11,7 +11,7 @@ use crate::acts::acts_on;
 use crate::emptiness::accepts_none;
 use crate::letters::letters_between;
 use rela_labels::LabelSet;
-use rela_minimise::into_minimal;
+use rela_minimise::merge_equivalent;
 use rela_nfa::{BuildError, Nfa};
 use rela_subset::determinise;
 use rela_trans::Transducer;
@@ -135,7 +135,7 @@ fn minimal<L: LabelSet>(alloc: Global, nfa: &Nfa<L>, limit: usize) -> Result<Nfa
     let size = nfa.letters();
     let over: L = letters_between(alloc, size, 0, size)?;
     let dfa = determinise(alloc, nfa, &over, limit)?;
-    let least = into_minimal(alloc, dfa)?;
+    let least = merge_equivalent(alloc, &dfa)?;
     let made = least.into_nfa(alloc)?;
     Ok(made)
 }
