@@ -1,6 +1,6 @@
 //! The audit of a certificate.
 
-ghost use Rattle.std.specs.Prelude.{◌≡◌, ℕ, ◌<◌, ◌≤◌, ◌^◌, IfOk, length};
+ghost use Rattle.std.specs.Prelude.{◌≡◌, ℕ, ◌<◌, ◌≤◌, ◌^◌, IfOk, OnErr, length};
 ghost use Rattle.rela_certfile.specs.Listed.{AreListed};
 ghost use Rattle.rela_cert.specs.Audited.{Finds, IsAudited};
 ghost use Rattle.rela_cert.specs.Inputs.{subject_of};
@@ -64,8 +64,9 @@ pub fn audit(
 
 /// The answer to a text that wasn't read. The only error is want of memory.
 fn unread(error: CertificateError) -> Result<Audit, AllocError>
-    ensures { IfOk result (λ audit. (line : ℕ) × (error ≡ CertificateError.Broken line)
+    ensures rejected { IfOk result (λ audit. (line : ℕ) × (error ≡ CertificateError.Broken line)
         × (audit ≡ Audit.Rejected line)) }
+    ensures memory { OnErr result (error ≡ CertificateError.Memory) }
 {
     match error {
         CertificateError::Broken { line } => Ok(Audit::Rejected { line }),

@@ -1,6 +1,6 @@
 //! The judgement of one listed row.
 
-ghost use Rattle.std.specs.Prelude.{◌≡◌, ℕ, ◌<◌, ◌⊎◌, true, List, IfOk, OnOk, Some, All, length, map};
+ghost use Rattle.std.specs.Prelude.{◌≡◌, ℕ, ◌<◌, ◌⊎◌, true, List, IfOk, OnOk, OnErr, Some, All, length, map};
 ghost use Rattle.std.specs.List.{slice_get};
 ghost use Rattle.rela_blocks.specs.RowBlocks.{AreRowBlocks};
 ghost use Rattle.rela_certfile.specs.Listed.{IsBlock};
@@ -79,10 +79,11 @@ pub(crate) fn audit_row(
 
 /// What is found of a row of which the relations weren't made; the error is want of memory.
 fn stopped(stop: Stop) -> Result<Judgement, AllocError>
-    ensures { IfOk result (λ judgement.
+    ensures judged { IfOk result (λ judgement.
         ((stop ≡ Stop.Limit) × (judgement ≡ Judgement.TooLarge))
         ⊎ ((number : ℕ) × (stop ≡ Stop.Refused number)
         × (judgement ≡ Judgement.OpenComplement number))) }
+    ensures memory { OnErr result (stop ≡ Stop.Memory) }
 {
     match stop {
         Stop::Limit => Ok(Judgement::TooLarge),

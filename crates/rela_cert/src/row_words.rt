@@ -1,6 +1,6 @@
 //! The words from which it can be computed that a row is met.
 
-ghost use Rattle.std.specs.Prelude.{◌≡◌, ℕ, ◌+◌, ◌<◌, ◌≤◌, Bool, true, List, [], ◌∷◌, Contains, IfNone, IfOk, IfSome, None};
+ghost use Rattle.std.specs.Prelude.{◌≡◌, ℕ, ◌+◌, ◌<◌, ◌≤◌, Bool, true, List, [], ◌∷◌, Contains, IfNone, IfOk, OnErr, IfSome, None};
 ghost use Rattle.rela_build.specs.Reading.{HoldsJust};
 ghost use Rattle.rela_closed.specs.Closed.{IsClosed};
 ghost use Rattle.rela_closed.specs.Words.{AreOrdered, words_of};
@@ -77,6 +77,7 @@ pub(crate) fn words_of_row(
 fn none_built(stop: Stop) -> Result<Option<RowWords>, AllocError>
     ensures none { IfOk result (λ found. found ≡ None) }
     ensures stop { IfOk result (λ _. ¬ (stop ≡ Stop.Memory)) }
+    ensures memory { OnErr result (stop ≡ Stop.Memory) }
 {
     match stop {
         Stop::Limit | Stop::Refused(_) => Ok(None),

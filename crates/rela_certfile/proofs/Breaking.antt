@@ -2,12 +2,12 @@
 use Rattle.std.proofs.Common.{◌≡◌, ◌≢◌, ℕ, ◌+◌, ◌^◌, ◌<◌, ◌≤◌, ⊎_elim, List, [], ◌∷◌, ◌++◌, length, map, codes, refl, sym, ◌∙◌, ap, subst, append_assoc, append-nil, length-append, arith, ◌↔◌, Some, None}
 use Rattle.std.proofs.lemmas.Bool.{cases_lt}
 use Rattle.std.proofs.lemmas.Grind.{flat_map-append}
-use Rattle.std.proofs.lemmas.List.{length-map}
+use Rattle.std.proofs.lemmas.List.{length-map, map-append}
 use Rattle.rela_names.specs.Name.{is_name_byte}
 use Rattle.rela_certfile.specs.declared.item.Item.{Item}
 use Rattle.rela_certfile.specs.declared.item.State.{State}
 use Rattle.rela_certfile.specs.declared.builder.Builder.{Builder}
-use Rattle.rela_certfile.specs.Breaks.{BreaksAt}
+use Rattle.rela_certfile.specs.Breaks.{BreaksAt, Begins, GoesOn}
 use Rattle.rela_certfile.specs.Cut.{IsCutAt, Lacks}
 use Rattle.rela_certfile.specs.Layout.{Layout, IsLayout}
 use Rattle.rela_certfile.specs.Text.{ended, header, last_line, text_of}
@@ -15,7 +15,7 @@ use Rattle.rela_certfile.specs.Items.{item_line, Allowed, after_all, start, Runs
 use Rattle.rela_certfile.proofs.Closing.{Closes}
 use Rattle.rela_certfile.proofs.Cuts.{cut_once, never_cut}
 use Rattle.rela_certfile.proofs.ItemLines.{item_lacks, never_end, bytes_lack}
-use Rattle.rela_certfile.proofs.Progress.{Read, read_few}
+use Rattle.rela_certfile.proofs.Progress.{Read, cut_more, read_few, runs_more}
 use Rattle.rela_certfile.proofs.Reading.{small_all, small_fits, small_start, MayFollow, begins_next, begins_nothing, begins_so_far, begins_whole, nothing_follows, not_whole, first_line, lines_are, whole_lines}
 use Rattle.rela_certfile.proofs.Rests.{rest_of}
 use Rattle.rela_certfile.proofs.Running.{items_of}
@@ -149,3 +149,18 @@ text_whole l text rest next others line state builder items read cut ends none e
     ∙ ap (λ o. ended (header ∷ (map (item_line l) items ++ last_line ∷ [])) ++ o) empty
     ∙ append-nil (ended (header ∷ (map (item_line l) items ++ last_line ∷ [])))
     ∙ ap ended (sym (whole_lines l items (read_closes l text rest line state builder items read none)))
+
+-- the next line may follow
+pub goes_on : (l : Layout) (text rest next others : List ℕ) (line : ℕ) (state : State) (builder : Builder) (items : List Item) (item : Item) → Read l text rest line state builder items → rest ≡ next ++ 10 ∷ others → next ≡ item_line l item → Allowed l state item → GoesOn l text
+goes_on l text rest next others line state builder items item read cut is allowed =
+    let one : List Item = item ∷ [] in
+    let lines : header ∷ map (item_line l) (items ++ one) ≡ (header ∷ map (item_line l) items) ++ item_line l item ∷ [] =
+    ap (λ (ls : List (List ℕ)). header ∷ ls) (map-append (item_line l) items one) in
+    record {
+      before = header ∷ map (item_line l) items;
+      next = item_line l item;
+      after = others;
+      cut = cut_more l text rest next others items item read.cut cut is ∙ ap (λ (ls : List (List ℕ)). ended ls ++ others) lines;
+      some = λ none. cc;
+      begins = subst (λ (ls : List (List ℕ)). Begins l ls) lines (begins_so_far l (items ++ one) (runs_more l text rest line state builder items item read allowed));
+    }

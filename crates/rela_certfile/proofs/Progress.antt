@@ -24,19 +24,28 @@ pub ended_long : (lines : List (List ℕ)) → length lines ≤ length (ended li
 ended_long [] = lit≤ tt
 ended_long (line ∷ lines) = omega (arith, ended_long lines, length-append line (10 ∷ []), length-append (line ++ 10 ∷ []) (ended lines))
 
+-- the text with one item more
+pub cut_more : (l : Layout) (text rest next others : List ℕ) (items : List Item) (item : Item) → text ≡ ended (header ∷ map (item_line l) items) ++ rest → rest ≡ next ++ 10 ∷ others → next ≡ item_line l item
+    → text ≡ ended (header ∷ map (item_line l) (items ++ item ∷ [])) ++ others
+cut_more l text rest next others items item so_far cut is =
+    let line_end : rest ≡ (item_line l item ++ 10 ∷ []) ++ others = cut ∙ ap (λ n. n ++ 10 ∷ others) is ∙ sym (append_assoc (item_line l item) (10 ∷ []) others) in
+    so_far
+    ∙ ap (λ r. ended (header ∷ map (item_line l) items) ++ r) line_end
+    ∙ sym (append_assoc (ended (header ∷ map (item_line l) items)) (item_line l item ++ 10 ∷ []) others)
+    ∙ ap (λ t. (ended (header ∷ map (item_line l) items) ++ t) ++ others) (sym (append-nil (item_line l item ++ 10 ∷ [])))
+    ∙ ap (λ t. t ++ others) (sym (flat_map-append (λ line. line ++ 10 ∷ []) (header ∷ map (item_line l) items) (item_line l item ∷ [])))
+    ∙ ap (λ lines. ended (header ∷ lines) ++ others) (sym (map-append (item_line l) items (item ∷ [])))
+
+pub runs_more : (l : Layout) (text rest : List ℕ) (line : ℕ) (state : State) (builder : Builder) (items : List Item) (item : Item) → Read l text rest line state builder items → Allowed l state item → Runs l start (items ++ item ∷ [])
+runs_more l text rest line state builder items item read allowed =
+    runs_on l start items (item ∷ []) read.runs (subst (λ s. Allowed l s item) read.reached allowed, tt)
+
 -- one item more
 pub read_more : (l : Layout) (text rest next others : List ℕ) (line : ℕ) (state : State) (old new : Builder) (items : List Item) (item : Item) → Read l text rest line state old items → rest ≡ next ++ 10 ∷ others → next ≡ item_line l item → Allowed l state item → ((is : List Item) → Gathers is old → Gathers (is ++ item ∷ []) new) → Read l text others (line + 1) (after l state item) new (items ++ item ∷ [])
 read_more l text rest next others line state old new items item read cut is allowed gathers =
-    let allows : Allowed l (after_all l start items) item = subst (λ s. Allowed l s item) read.reached allowed in
-    let line_end : rest ≡ (item_line l item ++ 10 ∷ []) ++ others = cut ∙ ap (λ n. n ++ 10 ∷ others) is ∙ sym (append_assoc (item_line l item) (10 ∷ []) others) in
     record {
-      cut = read.cut
-          ∙ ap (λ r. ended (header ∷ map (item_line l) items) ++ r) line_end
-          ∙ sym (append_assoc (ended (header ∷ map (item_line l) items)) (item_line l item ++ 10 ∷ []) others)
-          ∙ ap (λ t. (ended (header ∷ map (item_line l) items) ++ t) ++ others) (sym (append-nil (item_line l item ++ 10 ∷ [])))
-          ∙ ap (λ t. t ++ others) (sym (flat_map-append (λ line. line ++ 10 ∷ []) (header ∷ map (item_line l) items) (item_line l item ∷ [])))
-          ∙ ap (λ lines. ended (header ∷ lines) ++ others) (sym (map-append (item_line l) items (item ∷ [])));
-      runs = runs_on l start items (item ∷ []) read.runs (allows, tt);
+      cut = cut_more l text rest next others items item read.cut cut is;
+      runs = runs_more l text rest line state old items item read allowed;
       reached = ap (λ s. after l s item) read.reached ∙ sym (after_both l start items (item ∷ []));
       counted = omega (arith, read.counted, length-append items (item ∷ []));
       gathered = gathers items read.gathered;

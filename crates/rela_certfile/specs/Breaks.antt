@@ -24,3 +24,12 @@ pub record BreaksAt (l : Layout) (text : List ℕ) (number : ℕ) : Type 0 where
       ¬ Begins l (before ++ next ∷ [])
   pub unfinished : after ≡ [] → (rows : List ListedRow) → AreListed l rows →
       lines_of l rows ≢ before
+
+-- more lines of the text than its first begin a certificate
+pub record GoesOn (l : Layout) (text : List ℕ) : Type 0 where
+  pub before : List (List ℕ)
+  pub next : List ℕ
+  pub after : List ℕ
+  pub cut : text ≡ ended (before ++ next ∷ []) ++ after
+  pub some : before ≢ []
+  pub begins : Begins l (before ++ next ∷ [])

@@ -1,8 +1,8 @@
 //! Reading the text of a certificate.
 
-ghost use Rattle.std.specs.Prelude.{◌≡◌, ◌≢◌, [], ◌∷◌, ◌++◌, ◌+◌, ◌<◌, ◌^◌, ◌↔◌, ℕ, List, IfErr, IfOk, MatchOption, None, Some, length};
+ghost use Rattle.std.specs.Prelude.{◌≡◌, ◌≢◌, [], ◌∷◌, ◌++◌, ◌+◌, ◌<◌, ◌^◌, ◌↔◌, ℕ, List, IfErr, IfOk, IsErrOf, MatchOption, None, Some, length};
 ghost use Rattle.rela_certfile.specs.declared.error.CertificateError.TheVariants.{Broken};
-ghost use Rattle.rela_certfile.specs.Breaks.{BreaksAt};
+ghost use Rattle.rela_certfile.specs.Breaks.{BreaksAt, GoesOn};
 ghost use Rattle.rela_certfile.specs.Listed.{AreListed};
 ghost use Rattle.rela_certfile.specs.Text.{header, text_of};
 
@@ -20,7 +20,7 @@ use std::alloc::Global;
 /// # Errors
 ///
 /// `Broken` where the text is that of no list of rows, with the first line that breaks it; `Memory`
-/// where memory runs out.
+/// where memory runs out, and so only at a line behind the first that may follow those before it.
 pub fn parse(
     alloc: Global,
     layout: &PlanLayout,
@@ -31,6 +31,7 @@ pub fn parse(
     ensures whole { IfOk result (λ rows. text.now ≡ text_of layout.now rows) }
     ensures broken { IfErr result (λ error. (line : ℕ) → error ≡ Broken line →
         BreaksAt layout.now text.now line) }
+    ensures memory { IsErrOf result CertificateError.Memory → GoesOn layout.now text.now }
 {
     layout.is_layout();
     let Some(mut rest) = after_first_line(text) else {

@@ -27,4 +27,4 @@ returns c =
     (λ a told. subst (IsAudited s 4000000 c.args.cert.now) (sym told.2)
     (broken_audited s c.in_ok-planning.planning.rows.items c.in_ok-planning.ensures.plan c.layout-layout.result c.layout-layout.ensures c.is_layout.ensures
     4000000 c.args.cert.now c.requires.length c.breaks_once.ensures told.0 (c.in-Err.ensures.broken told.0 told.1)))
-    c.unread.ensures
+    c.unread.ensures.rejected

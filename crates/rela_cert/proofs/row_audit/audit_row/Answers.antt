@@ -46,7 +46,7 @@ returns-in-Err-clause-judged c =
       | inl one ↦ subst (λ (k : Judgement). Judges row.check.now (length row.alphabet.now) (paths_at row) 4000000 listed c.args.images.now k) (sym one.1) (c.in-Err.ensures.limit one.0)
       | inr two ↦ subst (λ (k : Judgement). Judges row.check.now (length row.alphabet.now) (paths_at row) 4000000 listed c.args.images.now k) (sym two.2) (c.in-Err.ensures.refused two.0 two.1)
     ])
-    c.stopped.ensures
+    c.stopped.ensures.judged
 
 pub returns-in-Err-clause-kept : goal.returns-in-Err-clause-kept
 returns-in-Err-clause-kept c =

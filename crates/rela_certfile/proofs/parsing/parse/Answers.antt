@@ -4,7 +4,7 @@ use Rattle.rela_certfile.specs.Breaks.{BreaksAt}
 use Rattle.rela_certfile.specs.Layout.{Layout}
 use Rattle.rela_certfile.specs.Listed.{AreListed}
 use Rattle.rela_certfile.specs.Text.{last_line, text_of}
-use Rattle.rela_certfile.proofs.Breaking.{breaks_by_end, breaks_first, breaks_line, breaks_missing, read_closes, text_whole, refused_item}
+use Rattle.rela_certfile.proofs.Breaking.{breaks_by_end, breaks_first, breaks_line, breaks_missing, goes_on, read_closes, text_whole, refused_item}
 use Rattle.rela_certfile.proofs.Gathered.{held}
 use Rattle.rela_certfile.proofs.Lookups.{held_again, held_found}
 use Rattle.rela_certfile.proofs.Progress.{Read, read_few, read_more, read_words}
@@ -114,3 +114,9 @@ returns-clause-broken c =
     let read = c.loop-next.invariant in
     named c.args.layout.now c.args.text.now c.loop-next.line
     (breaks_missing c.args.layout.now c.args.text.now c.loop-next.rest.now c.loop-next.line c.loop-next.state c.loop-next.builder read.0 c.is_layout.ensures c.requires read.1 c.in_default-cut_at.ensures)
+
+pub returns-in_err-push-clause-memory : goal.returns-in_err-push-clause-memory
+returns-in_err-push-clause-memory c = λ _.
+    let read = c.loop-next.invariant in
+    let says = (c.in-Some-item_of.ensures c.in-Some-item_of.item).0 refl in
+    goes_on c.args.layout.now c.args.text.now c.loop-next.rest.now _ _ c.loop-next.line c.loop-next.state c.loop-next.builder read.0 c.in-Some-item_of.item read.1 c.in-Some-cut_at.ensures.joined says.0 says.1
