@@ -181,6 +181,7 @@ pub(crate) fn read_demo(parts: &Parts<'_>) -> Result<Command, WordsError>
     ensures fits { IfOk result (λ c. FitJust (codes "demo") (parts_of parts.now) (command_of c)) }
     ensures bad { IfErr result (λ e. e ≡ WordsError.Bad
         → FitNothing (codes "demo") (parts_of parts.now)) }
+    ensures fault { IfErr result (λ e. e ≡ WordsError.Bad) }
 {
     if !parts.have_no_options() {
         return Err(WordsError::Bad);
