@@ -1,5 +1,5 @@
 //! Whether an assertion holds for a flow.
-ghost use Rattle.std.specs.Prelude.{◌≡◌, ◌≢◌, ◌+◌, ◌<◌, ◌≤◌, IfOk, IfErr, All, length};
+ghost use Rattle.std.specs.Prelude.{◌≡◌, ◌≢◌, ◌+◌, ◌<◌, ◌≤◌, IfOk, IfErr, OnErr, All, length};
 ghost use Rattle.rela_build.specs.Lettering.{AreLetterBlocks, IsAlone};
 ghost use Rattle.rela_build.specs.Made.{IsMade};
 ghost use Rattle.rela_build.specs.Named.{Names};
@@ -79,7 +79,8 @@ pub fn decide_assertion(
 
 /// The leaf of an assertion whose terms or comparison passed the limit; the error is want of memory.
 fn left_open(stop: Stop) -> Result<Leaf, AllocError>
-    ensures { IfOk result (λ leaf. (leaf ≡ Leaf.Undecided) × (stop ≢ Stop.Memory)) }
+    ensures open { IfOk result (λ leaf. (leaf ≡ Leaf.Undecided) × (stop ≢ Stop.Memory)) }
+    ensures memory { OnErr result (stop ≡ Stop.Memory) }
 {
     match stop {
         Stop::Limit => Ok(Leaf::Undecided),

@@ -21,7 +21,7 @@ ghost use Rattle.rela_engine.specs.ToldSides.{HasSources, TellsOfSides, TellsOnS
 
 use crate::by_letters::row_by_letters;
 use crate::case::Case;
-use crate::compiled::{Compiled, compile};
+use crate::compiled::Compiled;
 use crate::finer_blocks::{finer_blocks, push_locations};
 use crate::flow_letters::FlowLetters;
 use crate::offence::{Offence, first_offence};
@@ -35,7 +35,6 @@ use rela_names::{Alphabet, Level, Symbol};
 use rela_nfa::BuildError;
 use rela_report::{Row, Side};
 use rela_snapshot::FlowPair;
-use rela_translate::Check;
 use std::alloc::{AllocError, Global};
 
 /// The function at the narrowest sets of letters that hold so many blocks. Above 1,024 blocks these
@@ -52,36 +51,14 @@ macro_rules! by_width {
     };
 }
 
-/// The row of the check for a flow, where a construction may have at most `states` states: whether
-/// the flow's paths before and after the change have the same image, and if not the first word in
-/// shortlex order that tells, with its first source. It is undecided only where that is licensed,
-/// and always where it has to be. The images are compared over blocks of symbols: those of the
-/// check, split so that the locations of the flow's nodes stand alone.
+/// The row of a compiled check for a flow: whether the flow's paths before and after the change have
+/// the same image, and if not the first word in shortlex order that tells, with its first source. It
+/// is undecided only where that is licensed, and always where it has to be. The images are compared
+/// over blocks of symbols: those of the check, split so that the locations of the flow's nodes stand
+/// alone.
 ///
-/// The alphabet is that of the check's level, whose path symbols the class table lists, and the
-/// nodes of both graphs stand at its locations. The only error is want of memory.
-///
-/// Time and space: those of [`compile`] and [`decide_compiled`].
-pub fn decide(
-    alloc: Global,
-    check: &Check,
-    pair: &FlowPair,
-    alphabet: &Alphabet,
-    states: usize,
-) -> Result<Row, AllocError>
-    requires classes { All (λ set. All (λ s. s < path_symbols alphabet.now) set.members)
-        check.now.classes }
-    requires located { IsPairLocated alphabet.now check.now.level pair.now }
-    requires some { 1 ≤ states }
-    ensures { IfOk result (RowOf check.now (length alphabet.now)
-        (paths_of check.now.level alphabet.now pair.now.before pair.now.after) states) }
-{
-    let compiled = compile(alloc, check, alphabet, states)?;
-    decide_compiled(alloc, &compiled, pair, alphabet)
-}
-
-/// The row of a compiled check for a flow, as [`decide`] gives it. The alphabet is the one that the
-/// check was compiled with.
+/// The alphabet is the one that the check was compiled with, and the nodes of both graphs stand at
+/// its locations. The only error is want of memory.
 ///
 /// Time and space: linear in the symbols, and in the nodes and edges of the flow; where the two
 /// graphs don't look the same, or the check doesn't treat both sides alike, also those of two images

@@ -37,7 +37,7 @@ mod zone_laws;
 
 pub use assertion::decide_assertion;
 pub use compiled::{Compiled, compile};
-pub use decision::{decide, decide_compiled, decide_with_letters};
+pub use decision::{decide_compiled, decide_with_letters};
 pub use flow_letters::FlowLetters;
 pub use leaf::Leaf;
 pub use row_laws::{TwoPathSets, rows_carry_over};

@@ -17,4 +17,4 @@ returns c =
     (subst (λ (k : Lettering). MayBeLeftOpen (scene_of k flow) c.args.assertion.now c.args.complements.now)
     (lettering_is c.in_ok-letters.letters c.args.classes.now (length names) c.len.result c.in_ok-blocks.blocks c.in_ok-letters.ensures c.len.ensures.len)
     (c.in-Err.ensures.open told.1)))
-    c.left_open.ensures
+    c.left_open.ensures.open
