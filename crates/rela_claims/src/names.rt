@@ -1,6 +1,6 @@
 //! The names of assertions.
 
-ghost use Rattle.std.specs.Prelude.{◌≡◌, ◌≢◌, ◌++◌, ◌∷◌, [], Err, Ok, IfErr, OnOk};
+ghost use Rattle.std.specs.Prelude.{◌≡◌, ◌≢◌, ◌++◌, ◌∷◌, [], Err, Ok, IfErr, IsErrOf, OnOk};
 ghost use Rattle.rela_lex.specs.declared.error.SpecError.TheVariants.{Memory};
 ghost use Rattle.rela_claims.specs.Claims.{free_name};
 ghost use Rattle.rela_claims.specs.Written.{names_taken};
@@ -41,6 +41,8 @@ impl<'a> Names<'a> {
             ≡ names_taken self.old ++ name.now ∷ []) }
         ensures refused { IfErr result (λ e. e ≢ Memory →
             free_name (names_taken self.old) name.now at ≡ Err e) }
+        ensures memory { IsErrOf result Memory →
+            free_name (names_taken self.old) name.now at ≡ Ok name.now }
     {
         if self.taken.contains(name.as_bytes()) {
             return Err(SpecError::RepeatedName { at });

@@ -34,6 +34,13 @@ returns-then-len-ge-MAX_CLAIMS-clause-refused c =
     (has_lent c.args.self.now.taken.keys c.as_bytes.result.now c.args.name.now c.contains.result c.as_bytes.ensures.bytes c.contains.ensures ∙ c.if-contains.false)
     (omega (arith, length-map c.args.self.now.taken.keys now, c.len.ensures.len, c.if-len-ge-MAX_CLAIMS.true))
 
+pub returns-in_err-insert-clause-memory : goal.returns-in_err-insert-clause-memory
+returns-in_err-insert-clause-memory c =
+    λ wanted.
+    name_is_free (names_taken c.args.self.now) c.args.name.now c.args.at
+    (has_lent c.args.self.now.taken.keys c.as_bytes.result.now c.args.name.now c.contains.result c.as_bytes.ensures.bytes c.contains.ensures ∙ c.if-contains.false)
+    (omega (arith, length-map c.args.self.now.taken.keys now, c.len.ensures.len, c.if-len-ge-MAX_CLAIMS.false))
+
 pub returns-clause-free : goal.returns-clause-free
 returns-clause-free c =
     name_is_free (names_taken c.args.self.now) c.args.name.now c.args.at
