@@ -66,7 +66,8 @@ fn split_by_edges(
     splitter: &mut Splitter,
     edges: &[Edge<WideSet>],
 ) -> Result<(), AllocError>
-    requires { All (λ edge. ForSome edge.label (λ set. length set ≡ length splitter.old)) edges.now }
+    requires { All (λ edge. ForSome edge.label (λ set. length set ≡ length splitter.old))
+        edges.now }
     ensures symbols { length splitter.new ≡ length splitter.old }
     ensures refines { OnOk result (Refines splitter.new splitter.old) }
     ensures unions { OnOk result (HaveUnions splitter.new (map (move_of (λ set. set))

@@ -22,13 +22,6 @@ impl<T> Model for Boxed<T> {
 }
 
 impl<T> Boxed<T> {
-    /// The same value, behind the pointer that is given. It takes no memory.
-    pub fn from_box(inner: Box<T>) -> Boxed<T>
-        ensures { result ≡ inner.value }
-    {
-        Boxed { inner }
-    }
-
     /// The value, lent.
     pub fn get(&self) -> &T
         ensures { result.now ≡ self.now }

@@ -1,4 +1,4 @@
-//! What is known of leaves for the flows of a block, so that none is asked of a flow twice.
+//! What is known of leaves for the flows of a block, so that hardly any is asked of a flow twice.
 
 ghost use Rattle.std.specs.Prelude.{◌≡◌, ◌<◌, ◌≤◌, ◌↔◌, ℕ, All, IfOk, IsTrue, List, None, length, slice_index_or};
 ghost use Rattle.rela_flows.specs.Selects.{Selects, depth};
