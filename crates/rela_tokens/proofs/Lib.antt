@@ -2,3 +2,4 @@ pub mod Found
 pub mod Grown
 pub mod Standing
 mod Turns
+mod WholeNumbers

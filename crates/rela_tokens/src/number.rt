@@ -1,13 +1,12 @@
 //! Whole numbers.
 
-ghost use Rattle.std.specs.Prelude.{◌≡◌, ◌==◌, ◌<◌, Some, IfSome, IfOk, OnOk, IsTrue, length, slice_index, false};
+ghost use Rattle.std.specs.Prelude.{◌≡◌, ◌==◌, ◌<◌, Some, IfOk, OnOk, length, slice_index};
 ghost use Rattle.serde_json.specs.Data.{unsigned};
-ghost use Rattle.serde_json.specs.Read.{number_of, number_from};
+ghost use Rattle.serde_json.specs.Read.{number_of};
 ghost use Rattle.rela_tokens.specs.Holds.{Holds};
 ghost use Rattle.rela_tokens.specs.Pieces.{whole};
 
 use crate::unread::Unread;
-use fast_float::Numeral;
 use json::{Reader, Token};
 
 /// Takes a whole number below 2^32, written without sign, fraction or exponent. Time: linear in
@@ -30,27 +29,18 @@ pub fn read_number(reader: &mut Reader<'_>) -> Result<u32, Unread>
 pub(crate) fn whole_number(text: &str) -> Result<u32, Unread>
     ensures number { IfOk result (λ n. number_of text.now ≡ Some (unsigned n)) }
 {
-    let bytes = text.as_bytes();
-    if has_minus(bytes) {
+    if has_plus(text.as_bytes()) {
         return Err(Unread);
     }
-    match unsigned(&Numeral::scan(bytes)) {
-        Some(number) if number <= 0xffff_ffff => Ok(number as u32),
-        _ => Err(Unread),
+    match text.parse::<u32>() {
+        Ok(number) => Ok(number),
+        Err(_) => Err(Unread),
     }
 }
 
-/// The number below 2^64 that a numeral of digits alone writes.
-fn unsigned(numeral: &Numeral<'_>) -> Option<u64>
-    ensures number { IfSome result (λ n. number_from false numeral.now ≡ Some (unsigned n)) }
+/// Whether a plus comes first, which no number of JSON has and `parse` would pass over.
+fn has_plus(bytes: &[u8]) -> bool
+    ensures value { result ≡ (slice_index bytes.now 0 == 43) }
 {
-    numeral.to_u64()
-}
-
-/// Whether a minus comes first.
-fn has_minus(bytes: &[u8]) -> bool
-    ensures value { result ≡ (slice_index bytes.now 0 == 45) }
-    ensures len { IsTrue result → 0 < length bytes.now }
-{
-    !bytes.is_empty() && bytes[0] == b'-'
+    !bytes.is_empty() && bytes[0] == b'+'
 }

@@ -1,12 +1,10 @@
-use Rattle.std.proofs.Common.{◌≡◌, ◌==◌, get_or, false, sym, ap, ◌∙◌}
-use Rattle.fast_float.specs.Text.{scan}
-use Rattle.serde_json.specs.Read.{number_of, number_from}
+use Rattle.std.proofs.Common.{◌≡◌, ◌==◌, get_or, false, sym, ap, ◌∙◌, arith}
+use Rattle.rela_tokens.proofs.WholeNumbers.{number_is}
 use Rattle.rela_tokens.proofs.number.whole_number.Goals as goal
 
-pub returns-in-Some : goal.returns-in-Some
-unfolding number_of
-returns-in-Some c =
-    let s = c.as_bytes-bytes.result.now in
-    let unsigned : (get_or s 0 0 == 45) ≡ false = sym c.if-has_minus.ensures.value in
-    let read : number_from false (scan s) ≡ number_of s = rw unsigned in
-    record { number = sym (ap (number_from false) c.scan.ensures.parts ∙ read ∙ ap number_of c.as_bytes-bytes.ensures.value) ∙ c.in-Some.ensures.number }
+pub returns-in-Ok : goal.returns-in-Ok
+returns-in-Ok c =
+    let s = c.args.text.now in
+    let plain : (get_or s 0 0 == 43) ≡ false = ap (λ s. get_or s 0 0 == 43) (sym c.as_bytes.ensures.value) ∙ sym c.if-has_plus.ensures.value in
+    let parsed = c.in-Ok.ensures.value in
+    record { number = number_is s c.in-Ok.number plain parsed.0.0.0 parsed.0.1 (grind (arith, parsed)) }
