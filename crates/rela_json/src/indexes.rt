@@ -1,7 +1,8 @@
 //! Arrays of indexes.
 
-ghost use Rattle.std.specs.Prelude.{◌≡◌, ◌≢◌, Ok, Err, IfOk, IfErr};
+ghost use Rattle.std.specs.Prelude.{◌≡◌, ◌≢◌, Ok, Err, IfOk, IfErr, IsErrOf, IsSome};
 ghost use Rattle.serde_json.specs.View.{view};
+ghost use Rattle.rela_json.specs.Parts.{items_of};
 ghost use Rattle.rela_json.specs.Indexes.{index_of, indexes_of};
 
 use crate::error::ListError;
@@ -14,11 +15,12 @@ use std::alloc::Global;
 /// # Errors
 ///
 /// `Shape` where the value is no array; else the first entry at fault decides: `Shape` where it is no whole number,
-/// `Index` where it is not below the bound; `Memory` where memory runs out.
+/// `Index` where it is not below the bound; `Memory` where memory runs out, and so only for an array.
 pub fn index_list(alloc: Global, value: &Value, below: u32) -> Result<Vec<u32>, ListError>
     ensures indexes { IfOk result (λ v. indexes_of below (view value.now) ≡ Ok v.items) }
     ensures fault { IfErr result (λ e. e ≢ ListError.Memory
         → indexes_of below (view value.now) ≡ Err e) }
+    ensures memory { IsErrOf result ListError.Memory → IsSome (items_of (view value.now)) }
 {
     let entries = array(value)?;
     let mut indexes = Vec::with_capacity(alloc, entries.len())?;
