@@ -20,3 +20,4 @@ pub mod TagLaws
 pub mod NumberLists
 pub mod TagMembers
 pub mod MemberLaws
+pub mod Numbering

@@ -1,5 +1,5 @@
-pub mod Index
 pub mod Load
 pub mod Names
 pub mod Network
+pub mod Numbered
 pub mod Tables

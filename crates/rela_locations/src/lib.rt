@@ -10,6 +10,7 @@ mod members;
 mod name_index;
 mod name_set;
 mod network;
+mod numbered;
 mod pairs;
 mod parts;
 mod tables;

@@ -2,24 +2,26 @@
 
 ghost use Rattle.std.specs.Prelude.{◌≡◌, ◌≢◌, ℕ, ◌<◌, ◌≤◌, Ok, Err, Some, IfOk, IfErr, IfNone, OnOk, IsErrOf, IsTrue, true, false, length, slice_get, ◌↔◌};
 ghost use Rattle.std.specs.List.{All};
+ghost use Rattle.rela_locations.specs.Tables.{AreAlphabets, IsNamedOnce};
 
 use crate::alphabets::Alphabets;
 use crate::lookup::{devices_with, has, inside, interfaces_with, itself};
 use crate::members::{By, MemberError, is_finer};
 use crate::network::GroupEntry;
+use crate::numbered::{NumberedGroup, number_groups};
 use crate::tables::Tables;
 use crate::walk::read_network;
 use rela_json::{LoadError, read};
-use rela_names::{Alphabet, Level, List, Name, Symbol};
-use std::alloc::Global;
+use rela_names::{Alphabet, Level, Name, Symbol};
+use std::alloc::{AllocError, Global};
 use std::marker::Model;
 
 /// The locations of a network at its three levels, and the tags of its devices.
 #[derive(Drop)]
 pub struct Locations {
-    /// The groups as the file lists them. Only contracts look at them.
-    groups: List<GroupEntry>,
-    /// The names of the locations of each level.
+    /// The groups as the file lists them, told by symbols. Only contracts look at them.
+    groups: Vec<NumberedGroup>,
+    /// The names of the locations of each level, each kept once.
     alphabets: Alphabets,
     /// Which locations lie in which, and the devices with each tag.
     tables: Tables,
@@ -27,13 +29,15 @@ pub struct Locations {
 
 impl Model for Locations {
     ghost use Rattle.rela_locations.specs.Network.{Network};
+    ghost use Rattle.rela_locations.specs.Numbered.{network_of};
     ghost use Rattle.rela_locations.specs.Tables.{IsIndexed};
 
     ghost Value = { Network };
 
-    ghost view = { λ locations. locations.groups };
+    ghost view = { λ locations. network_of locations.alphabets locations.groups.items };
 
-    ghost invariant = { λ locations. IsIndexed locations.groups locations.alphabets
+    ghost invariant = { λ locations. IsIndexed
+        (network_of locations.alphabets locations.groups.items) locations.alphabets
         locations.tables };
 }
 
@@ -73,15 +77,9 @@ impl Locations {
         ensures fault { IfErr result (λ e. e ≢ LoadError.Memory → Load bytes.now ≡ Err e) }
     {
         let root = read(alloc, bytes)?;
-        let (groups, seen) = read_network(alloc, &root)?;
-        drop(root);
+        let (entries, seen) = read_network(alloc, &root)?;
         let alphabets = seen.into_alphabets(alloc)?;
-        let tables = Tables::new(alloc, &alphabets, groups.as_slice())?;
-        Ok(Locations {
-            groups: List::from_vec(groups),
-            alphabets,
-            tables,
-        })
+        Ok(locations_of(alloc, alphabets, entries.as_slice())?)
     }
 
     /// The alphabet of a level: its locations, in the order of their names by bytes.
@@ -276,4 +274,27 @@ impl Locations {
             Level::Group => Err(MemberError::Finer),
         }
     }
+}
+
+/// The locations of these groups, whose names the alphabets have.
+///
+/// # Errors
+///
+/// Only where memory is wanted.
+fn locations_of(
+    alloc: Global,
+    alphabets: Alphabets,
+    groups: &[GroupEntry<'_>],
+) -> Result<Locations, AllocError>
+    requires alphabets { AreAlphabets groups.now alphabets }
+    requires once { IsNamedOnce groups.now }
+    ensures { IfOk result (λ locations. locations ≡ groups.now) }
+{
+    let tables = Tables::new(alloc, &alphabets, groups)?;
+    let groups = number_groups(alloc, &alphabets, groups)?;
+    Ok(Locations {
+        groups,
+        alphabets,
+        tables,
+    })
 }

@@ -1,40 +1,51 @@
 //! The symbols of locations, found by a hash of their names.
 
-ghost use Rattle.std.specs.Prelude.{◌≡◌, ◌≢◌, ◌↔◌, ◌<◌, ℕ, ◌+◌, Some, length, map, take, slice_get, IfOk, IfNone, OnOk};
+ghost use Rattle.std.specs.Prelude.{◌≡◌, ◌≢◌, ◌↔◌, ◌≤◌, ℕ, Some, slice_get, IfOk, IfNone, IfSome, IsTrue};
 ghost use Rattle.std.specs.List.{All};
-ghost use Rattle.rela_names.specs.Name.{IsAscending};
-ghost use Rattle.rela_locations.specs.Index.{IsIndexOf};
 
-use indexmap::IndexSet;
 use rela_names::{Alphabet, Symbol};
 use std::alloc::{AllocError, Global};
 use std::marker::Model;
+
+/// A place that points to no location.
+const FREE: Symbol = 0xffff_ffff;
+
+/// How many places of the table a name may stand at, from the one on that its hash picks.
+const REACH: u32 = 16;
+
+/// What a hash begins with.
+const OFFSET: u64 = 0xcbf2_9ce4_8422_2325;
+
+/// What a hash is multiplied by after each byte.
+const FACTOR: u64 = 0x0000_0100_0000_01b3;
 
 /// The locations of a level, found by a hash of their names. Contracts see it as the list of the
 /// names, as they see the alphabet.
 #[derive(Drop)]
 pub(crate) struct NameIndex {
-    /// The alphabet of the level.
+    /// The alphabet of the level, which has the only copy of the names.
     alphabet: Alphabet,
-    /// The bytes of the same names, hashed. The index of a name is its symbol.
-    names: IndexSet<Vec<u8>>,
+    /// A power of two of places, at least two for each name. Each is `FREE`, or has the symbol of a
+    /// location whose hash picks it or one of the `REACH` - 1 places before it. Nothing rests on
+    /// the table but how fast a name is found: a symbol counts only where the name stands that was
+    /// looked for, and a name that the table doesn't tell is looked up in the alphabet.
+    places: Vec<Symbol>,
 }
 
 impl Model for NameIndex {
-    ghost use Rattle.std.specs.Prelude.{List, ℕ, map};
-    ghost use Rattle.rela_locations.specs.Index.{IsIndexOf};
+    ghost use Rattle.std.specs.Prelude.{List, ℕ};
+    ghost use Rattle.rela_names.specs.Alphabet.{IsAlphabet};
 
     ghost Value = { List (List ℕ) };
 
     ghost view = { λ index. index.alphabet };
 
-    ghost invariant = { λ index. IsIndexOf index.alphabet (map (λ name.
-        name.items) index.names.keys) };
+    ghost invariant = { λ index. IsAlphabet index.alphabet };
 }
 
 impl NameIndex {
-    /// The index of an alphabet's locations. Time: expected linear in the bytes of the names;
-    /// space: linear.
+    /// The index of an alphabet's locations. Time: linear in the bytes of the names; space: at most
+    /// 16 bytes for each name.
     ///
     /// # Errors
     ///
@@ -42,8 +53,9 @@ impl NameIndex {
     pub(crate) fn new(alloc: Global, alphabet: Alphabet) -> Result<NameIndex, AllocError>
         ensures { IfOk result (λ index. index ≡ alphabet) }
     {
-        let names = names_of(alloc, &alphabet)?;
-        Ok(NameIndex { alphabet, names })
+        let count = alphabet.len() - 2;
+        let places = places_of(alloc, &alphabet, count)?;
+        Ok(NameIndex { alphabet, places })
     }
 
     /// The alphabet of the level.
@@ -53,43 +65,89 @@ impl NameIndex {
         &self.alphabet
     }
 
-    /// The location of this name, and `None` where no location has it. Time: expected constant.
+    /// The location of this name, and `None` where no location has it. Time: expected constant, and
+    /// at most a binary search.
     pub(crate) fn find(&self, name: &[u8]) -> Option<Symbol>
         ensures found { (s : ℕ) → (result ≡ Some s) ↔ (slice_get self.now s ≡ Some name.now) }
         ensures absent { IfNone result (All (λ other. other ≢ name.now) self.now) }
     {
-        let place = self.names.get_index_of(name)?;
-        Some(place as Symbol)
+        match told(&self.alphabet, self.places.as_slice(), name) {
+            Some(symbol) => Some(symbol),
+            None => self.alphabet.find(name),
+        }
     }
 }
 
-/// The names of an alphabet's locations, in their order.
-fn names_of(alloc: Global, alphabet: &Alphabet) -> Result<IndexSet<Vec<u8>>, AllocError>
-    ensures { IfOk result (λ names. IsIndexOf alphabet.now (map (λ name. name.items) names.keys)) }
-{
-    let count = alphabet.len() - 2;
-    let mut names = IndexSet::with_capacity(alloc, count as usize)?;
-    for symbol in 0..count {
-        add_name(alloc, &mut names, alphabet, symbol)?;
-    }
-    Ok(names)
-}
-
-/// Adds the name of a location, where there is one.
-fn add_name(
+/// A table of places for the first `count` locations of an alphabet, with each location's symbol
+/// where there is room for it. Time: linear in the bytes of the names.
+fn places_of(
     alloc: Global,
-    names: &mut IndexSet<Vec<u8>>,
     alphabet: &Alphabet,
-    symbol: Symbol,
-) -> Result<(), AllocError>
-    requires before { map (λ name. name.items) names.old.keys ≡ take symbol alphabet.now }
-    requires ascending { IsAscending alphabet.now }
-    requires within { symbol < length alphabet.now }
-    ensures { OnOk result
-        (map (λ name. name.items) names.new.keys ≡ take (symbol + 1) alphabet.now) }
+    count: Symbol,
+) -> Result<Vec<Symbol>, AllocError>
+    requires { count ≤ 100000 }
 {
-    if let Some(name) = alphabet.name_of(symbol) {
-        names.insert(Vec::from_slice(alloc, name.as_bytes())?)?;
+    let size = (2 * count as usize).next_power_of_two();
+    let mut places = vec![in alloc; FREE; size]?;
+    for symbol in 0..count {
+        if let Some(name) = alphabet.name_of(symbol) {
+            put(&mut places, name.as_bytes(), symbol);
+        }
     }
-    Ok(())
+    Ok(places)
+}
+
+/// Puts the symbol at the first free place that its name may stand at, if there is one.
+fn put(places: &mut [Symbol], name: &[u8], symbol: Symbol) {
+    let mask = places.len().wrapping_sub(1);
+    let mut at = hash_of(name);
+    for _ in 0..REACH {
+        if let Some(place) = places.get_mut(at & mask) {
+            if *place == FREE {
+                *place = symbol;
+                return;
+            }
+        }
+        at = at.wrapping_add(1);
+    }
+}
+
+/// The location of this name, where the table tells it.
+fn told(alphabet: &Alphabet, places: &[Symbol], name: &[u8]) -> Option<Symbol>
+    ensures { IfSome result (λ symbol. slice_get alphabet.now symbol ≡ Some name.now) }
+{
+    let mask = places.len().wrapping_sub(1);
+    let mut at = hash_of(name);
+    for _ in 0..REACH {
+        let Some(symbol) = places.get(at & mask) else {
+            return None;
+        };
+        if *symbol == FREE {
+            return None;
+        }
+        if is_name_of(alphabet, *symbol, name) {
+            return Some(*symbol);
+        }
+        at = at.wrapping_add(1);
+    }
+    None
+}
+
+/// Whether the symbol is that of the location of this name.
+fn is_name_of(alphabet: &Alphabet, symbol: Symbol, name: &[u8]) -> bool
+    ensures { IsTrue result → slice_get alphabet.now symbol ≡ Some name.now }
+{
+    match alphabet.name_of(symbol) {
+        Some(other) => other.as_bytes() == name,
+        None => false,
+    }
+}
+
+/// A hash of a name's bytes (FNV-1a, with the upper half mixed into the lower).
+fn hash_of(name: &[u8]) -> usize {
+    let mut hash = OFFSET;
+    for byte in name {
+        hash = (hash ^ u64::from(*byte)).wrapping_mul(FACTOR);
+    }
+    (hash ^ (hash >> 32)) as usize
 }

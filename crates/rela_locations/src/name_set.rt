@@ -6,6 +6,7 @@ ghost use Rattle.std.specs.declared.cmp.Ordering.TheVariants.{Greater};
 ghost use Rattle.rela_locations.specs.Names.{with_name, has_name, next_row, location_name, new_name};
 ghost use Rattle.rela_names.specs.Name.{bytes_cmp, IsAscending, IsLocationName};
 
+use crate::network::LentName;
 use rela_json::LoadError;
 use rela_names::{Alphabet, MAX_LOCATIONS, Name, NameError};
 use std::alloc::{AllocError, Global};
@@ -65,8 +66,8 @@ impl NameSet {
         }
     }
 
-    /// The name of these bytes, which is added to the set. `row` is that of the entry, for the
-    /// errors. Time: a comparison as long as each name comes after the one before it, and then a
+    /// The name of these bytes, a copy of which is added to the set. `row` is that of the entry, for
+    /// the errors. Time: a comparison as long as each name comes after the one before it, and then a
     /// search in an ordered set, which is made once.
     ///
     /// # Errors
@@ -74,7 +75,12 @@ impl NameSet {
     /// `BadName` where the bytes are no name; else `ReservedName` where no location may have it;
     /// else `RepeatedEntry` where an earlier entry has it; `Memory` where memory runs out, and so
     /// only for a name that a location may have.
-    pub(crate) fn add(&mut self, alloc: Global, bytes: &[u8], row: u32) -> Result<Name, LoadError>
+    pub(crate) fn add<'a>(
+        &mut self,
+        alloc: Global,
+        bytes: &'a [u8],
+        row: u32,
+    ) -> Result<LentName<'a>, LoadError>
         requires { length self.old < 100000 }
         ensures name { IfOk result (λ name. new_name self.old row bytes.now ≡ Ok name) }
         ensures added { IfOk result (λ name. self.new ≡ with_name self.old name) }
@@ -83,11 +89,11 @@ impl NameSet {
         ensures memory { IsErrOf result LoadError.Memory → IsLocationName bytes.now }
     {
         let name = location_name(alloc, bytes, row)?;
-        let is_new = self.insert(alloc, name.copy(alloc)?)?;
+        let is_new = self.insert(alloc, name)?;
         if !is_new {
             return Err(LoadError::RepeatedEntry { row });
         }
-        Ok(name)
+        Ok(LentName::new(bytes))
     }
 
     /// Adds the name of a location, and says whether it is new.

@@ -7,8 +7,8 @@ ghost use Rattle.rela_locations.specs.Tables.{index_of, AreKnown, device_names, 
 
 use crate::alphabets::Alphabets;
 use crate::name_index::NameIndex;
-use crate::network::{DeviceEntry, GroupEntry};
-use rela_names::{Name, Symbol};
+use crate::network::{DeviceEntry, GroupEntry, LentName};
+use rela_names::Symbol;
 use std::alloc::{AllocError, Global};
 
 /// A location, and the one of a coarser level that it lies in.
@@ -19,7 +19,7 @@ pub(crate) type Pair = (Symbol, Symbol);
 pub(crate) fn interfaces_with_devices(
     alloc: Global,
     alphabets: &Alphabets,
-    groups: &[GroupEntry],
+    groups: &[GroupEntry<'_>],
 ) -> Result<Vec<Pair>, AllocError>
     requires interfaces { AreKnown alphabets.now.interfaces
         (interface_names (devices_in groups.now)) }
@@ -45,7 +45,7 @@ fn add_interfaces(
     pairs: &mut Vec<Pair>,
     interfaces: &NameIndex,
     devices: &NameIndex,
-    entries: &[DeviceEntry],
+    entries: &[DeviceEntry<'_>],
 ) -> Result<(), AllocError>
     requires interfaces { AreKnown interfaces.now (interface_names entries.now) }
     requires devices { AreKnown devices.now (device_names entries.now) }
@@ -64,7 +64,7 @@ fn add_interfaces(
 pub(crate) fn interfaces_with_groups(
     alloc: Global,
     alphabets: &Alphabets,
-    groups: &[GroupEntry],
+    groups: &[GroupEntry<'_>],
 ) -> Result<Vec<Pair>, AllocError>
     requires interfaces { AreKnown alphabets.now.interfaces
         (interface_names (devices_in groups.now)) }
@@ -90,7 +90,7 @@ pub(crate) fn interfaces_with_groups(
 fn add_all_interfaces(
     pairs: &mut Vec<Pair>,
     interfaces: &NameIndex,
-    entries: &[DeviceEntry],
+    entries: &[DeviceEntry<'_>],
     group: Symbol,
 ) -> Result<(), AllocError>
     requires { AreKnown interfaces.now (interface_names entries.now) }
@@ -107,7 +107,7 @@ fn add_all_interfaces(
 fn add_each(
     pairs: &mut Vec<Pair>,
     alphabet: &NameIndex,
-    names: &[Name],
+    names: &[LentName<'_>],
     parent: Symbol,
 ) -> Result<(), AllocError>
     requires { AreKnown alphabet.now names.now }
@@ -125,7 +125,7 @@ fn add_each(
 pub(crate) fn devices_with_groups(
     alloc: Global,
     alphabets: &Alphabets,
-    groups: &[GroupEntry],
+    groups: &[GroupEntry<'_>],
 ) -> Result<Vec<Pair>, AllocError>
     requires devices { AreKnown alphabets.now.devices (device_names (devices_in groups.now)) }
     requires groups { AreKnown alphabets.now.groups (map (λ group. group.name) groups.now) }
@@ -150,7 +150,7 @@ pub(crate) fn devices_with_groups(
 fn add_devices(
     pairs: &mut Vec<Pair>,
     alphabet: &NameIndex,
-    entries: &[DeviceEntry],
+    entries: &[DeviceEntry<'_>],
     group: Symbol,
 ) -> Result<(), AllocError>
     requires { AreKnown alphabet.now (device_names entries.now) }
@@ -164,7 +164,7 @@ fn add_devices(
 }
 
 /// The symbol of the location of this name, which the index has. Time: expected constant.
-pub(crate) fn symbol_of(alphabet: &NameIndex, name: &Name) -> Symbol
+pub(crate) fn symbol_of(alphabet: &NameIndex, name: &LentName<'_>) -> Symbol
     requires { IsTrue (has_name alphabet.now name.now) }
     ensures { result ≡ index_of alphabet.now name.now }
 {

@@ -36,7 +36,7 @@ impl Tables {
     pub(crate) fn new(
         alloc: Global,
         alphabets: &Alphabets,
-        groups: &[GroupEntry],
+        groups: &[GroupEntry<'_>],
     ) -> Result<Tables, AllocError>
         requires alphabets { AreAlphabets groups.now alphabets.now }
         requires once { IsNamedOnce groups.now }
@@ -55,7 +55,7 @@ impl Tables {
 fn interfaces_in_devices(
     alloc: Global,
     alphabets: &Alphabets,
-    groups: &[GroupEntry],
+    groups: &[GroupEntry<'_>],
 ) -> Result<Containment, AllocError>
     requires alphabets { AreAlphabets groups.now alphabets.now }
     requires once { IsNamedOnce groups.now }
@@ -71,7 +71,7 @@ fn interfaces_in_devices(
 fn interfaces_in_groups(
     alloc: Global,
     alphabets: &Alphabets,
-    groups: &[GroupEntry],
+    groups: &[GroupEntry<'_>],
 ) -> Result<Containment, AllocError>
     requires alphabets { AreAlphabets groups.now alphabets.now }
     requires once { IsNamedOnce groups.now }
@@ -87,7 +87,7 @@ fn interfaces_in_groups(
 fn devices_in_groups(
     alloc: Global,
     alphabets: &Alphabets,
-    groups: &[GroupEntry],
+    groups: &[GroupEntry<'_>],
 ) -> Result<Containment, AllocError>
     requires alphabets { AreAlphabets groups.now alphabets.now }
     requires once { IsNamedOnce groups.now }

@@ -28,7 +28,7 @@ pub(crate) type Tagged = BTreeMap<Name, Vec<Symbol>>;
 pub(crate) fn tagged_devices(
     alloc: Global,
     devices: &NameIndex,
-    groups: &[GroupEntry],
+    groups: &[GroupEntry<'_>],
 ) -> Result<Tagged, AllocError>
     requires { AreKnown devices.now (device_names (devices_in groups.now)) }
     ensures { IfOk result (λ tagged. AreTagged devices.now (devices_in groups.now) tagged) }
@@ -45,7 +45,7 @@ fn add_devices(
     alloc: Global,
     tagged: &mut Tagged,
     devices: &NameIndex,
-    entries: &[DeviceEntry],
+    entries: &[DeviceEntry<'_>],
 ) -> Result<(), AllocError>
     requires { AreKnown devices.now (device_names entries.now) }
     ensures with_tag { OnOk result ((t : List ℕ) (n : ℕ) → has_number (devices_for tagged.new t) n

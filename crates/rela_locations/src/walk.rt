@@ -12,7 +12,7 @@ ghost use Rattle.rela_locations.specs.Load.{load_interface, load_interfaces, loa
 use crate::alphabets::Alphabets;
 use crate::name_index::NameIndex;
 use crate::name_set::NameSet;
-use crate::network::{DeviceEntry, GroupEntry};
+use crate::network::{DeviceEntry, GroupEntry, LentName};
 use crate::parts::{bytes, entries, part, whole_number};
 use rela_json::{LoadError, Value};
 use rela_names::{List, Name, NameError};
@@ -80,10 +80,10 @@ fn both<T: Drop, U: Drop>(
 /// # Errors
 ///
 /// The first fault of the walk, as [`Locations::decode`](crate::Locations::decode) tells it.
-pub(crate) fn read_network(
+pub(crate) fn read_network<'a>(
     alloc: Global,
-    root: &Value,
-) -> Result<(Vec<GroupEntry>, Seen), LoadError>
+    root: &'a Value,
+) -> Result<(Vec<GroupEntry<'a>>, Seen), LoadError>
     ensures network { IfOk result (λ r. load_file (view root.now) ≡ Ok r.0.items) }
     ensures groups { IfOk result (λ r. r.1.groups ≡ alphabet_of level.Group r.0.items) }
     ensures devices { IfOk result (λ r. r.1.devices ≡ alphabet_of level.Device r.0.items) }
@@ -106,11 +106,11 @@ pub(crate) fn read_network(
 
 /// The groups of these entries, whose names and whose devices' and interfaces' names are added to
 /// `seen`.
-fn read_groups(
+fn read_groups<'a>(
     alloc: Global,
     seen: &mut Seen,
-    values: &[Value],
-) -> Result<Vec<GroupEntry>, LoadError>
+    values: &'a [Value],
+) -> Result<Vec<GroupEntry<'a>>, LoadError>
     ensures groups { IfOk result (λ groups. load_groups seen.old.groups seen.old.devices
         seen.old.interfaces (map view values.now) ≡ Ok groups.items) }
     ensures seen_groups { IfOk result (λ groups. seen.new.groups
@@ -133,7 +133,11 @@ fn read_groups(
 
 /// The group of this entry, whose name and whose devices' and interfaces' names are added to
 /// `seen`.
-fn read_group(alloc: Global, seen: &mut Seen, value: &Value) -> Result<GroupEntry, LoadError>
+fn read_group<'a>(
+    alloc: Global,
+    seen: &mut Seen,
+    value: &'a Value,
+) -> Result<GroupEntry<'a>, LoadError>
     ensures group { IfOk result (λ group. load_group seen.old.groups seen.old.devices
         seen.old.interfaces (view value.now) ≡ Ok group) }
     ensures seen_groups { IfOk result (λ group. seen.new.groups
@@ -159,12 +163,12 @@ fn read_group(alloc: Global, seen: &mut Seen, value: &Value) -> Result<GroupEntr
 
 /// The devices of these entries. Their names are added to `seen`, and those of their interfaces to
 /// `seen_interfaces`.
-fn read_devices(
+fn read_devices<'a>(
     alloc: Global,
     seen: &mut NameSet,
     seen_interfaces: &mut NameSet,
-    values: &[Value],
-) -> Result<Vec<DeviceEntry>, LoadError>
+    values: &'a [Value],
+) -> Result<Vec<DeviceEntry<'a>>, LoadError>
     ensures devices { IfOk result (λ devices. load_devices seen.old seen_interfaces.old
         (map view values.now) ≡ Ok devices.items) }
     ensures seen { IfOk result (λ devices. seen.new
@@ -184,12 +188,12 @@ fn read_devices(
 
 /// The device of this entry. Its name is added to `seen`, and those of its interfaces to
 /// `seen_interfaces`.
-fn read_device(
+fn read_device<'a>(
     alloc: Global,
     seen: &mut NameSet,
     seen_interfaces: &mut NameSet,
-    value: &Value,
-) -> Result<DeviceEntry, LoadError>
+    value: &'a Value,
+) -> Result<DeviceEntry<'a>, LoadError>
     ensures device { IfOk result (λ device. load_device seen.old seen_interfaces.old
         (view value.now) ≡ Ok device) }
     ensures seen { IfOk result (λ device. seen.new ≡ with_name seen.old device.name) }
@@ -248,11 +252,11 @@ fn read_tag(alloc: Global, value: &Value, row: u32) -> Result<Name, LoadError>
 }
 
 /// The names of the interfaces of these entries, which are added to `seen`.
-fn read_interfaces(
+fn read_interfaces<'a>(
     alloc: Global,
     seen: &mut NameSet,
-    values: &[Value],
-) -> Result<Vec<Name>, LoadError>
+    values: &'a [Value],
+) -> Result<Vec<LentName<'a>>, LoadError>
     ensures names { IfOk result (λ names. load_interfaces seen.old (map view values.now)
         ≡ Ok names.items) }
     ensures seen { IfOk result (λ names. seen.new ≡ with_names seen.old names.items) }
@@ -268,7 +272,11 @@ fn read_interfaces(
 }
 
 /// The name of the interface of this entry, which is added to `seen`.
-fn read_interface(alloc: Global, seen: &mut NameSet, value: &Value) -> Result<Name, LoadError>
+fn read_interface<'a>(
+    alloc: Global,
+    seen: &mut NameSet,
+    value: &'a Value,
+) -> Result<LentName<'a>, LoadError>
     ensures name { IfOk result (λ name. load_interface seen.old (view value.now) ≡ Ok name) }
     ensures seen { IfOk result (λ name. seen.new ≡ with_name seen.old name) }
     ensures fault { IfErr result (λ e. e ≢ LoadError.Memory →

@@ -1,5 +1,6 @@
 use Rattle.rela_names.specs.declared.level.Level.TheVariants as levels
 use Rattle.rela_locations.specs.Network.{alphabet_of}
+use Rattle.rela_locations.specs.Numbered.{network_of}
 use Rattle.rela_locations.proofs.Indexes.{once_when_ascending}
 use Rattle.rela_locations.proofs.MemberLaws.{members_itself, members_inside, unknown_told}
 use Rattle.rela_locations.proofs.locations.Locations.in_group.Goals as goal
@@ -7,28 +8,28 @@ use Rattle.rela_locations.proofs.locations.Locations.in_group.Goals as goal
 pub returns-in-Interface-clause-members : goal.returns-in-Interface-clause-members
 returns-in-Interface-clause-members c =
     rw (c.in-Interface.is, ← c.self.view_is)
-    (members_inside levels.Interface levels.Group c.self.inside.groups c.self.inside.tables.interfaces_in_groups c.self.inside.alphabets.groups c.args.name.now c.inside.result
+    (members_inside levels.Interface levels.Group (network_of c.self.inside.alphabets c.self.inside.groups.items) c.self.inside.tables.interfaces_in_groups c.self.inside.alphabets.groups c.args.name.now c.inside.result
     c.self.invariant.are_tables.interfaces_in_groups c.self.invariant.are_alphabets.groups (rw c.as_slice-lists.ensures.value at c.inside.ensures.members) c.inside.ensures.known)
 
 pub returns-in-Interface-clause-unknown : goal.returns-in-Interface-clause-unknown
 returns-in-Interface-clause-unknown c =
     rw (c.in-Interface.is, ← c.self.view_is)
-    (unknown_told levels.Group c.self.inside.groups c.self.inside.alphabets.groups c.args.name.now c.inside.result c.self.invariant.are_alphabets.groups c.inside.ensures.unknown)
+    (unknown_told levels.Group (network_of c.self.inside.alphabets c.self.inside.groups.items) c.self.inside.alphabets.groups c.args.name.now c.inside.result c.self.invariant.are_alphabets.groups c.inside.ensures.unknown)
 
 pub returns-in-Device-clause-members : goal.returns-in-Device-clause-members
 returns-in-Device-clause-members c =
     rw (c.in-Device.is, ← c.self.view_is)
-    (members_inside levels.Device levels.Group c.self.inside.groups c.self.inside.tables.devices_in_groups c.self.inside.alphabets.groups c.args.name.now c.inside-in-Device.result
+    (members_inside levels.Device levels.Group (network_of c.self.inside.alphabets c.self.inside.groups.items) c.self.inside.tables.devices_in_groups c.self.inside.alphabets.groups c.args.name.now c.inside-in-Device.result
     c.self.invariant.are_tables.devices_in_groups c.self.invariant.are_alphabets.groups (rw c.as_slice-lists-in-Device.ensures.value at c.inside-in-Device.ensures.members) c.inside-in-Device.ensures.known)
 
 pub returns-in-Device-clause-unknown : goal.returns-in-Device-clause-unknown
 returns-in-Device-clause-unknown c =
     rw (c.in-Device.is, ← c.self.view_is)
-    (unknown_told levels.Group c.self.inside.groups c.self.inside.alphabets.groups c.args.name.now c.inside-in-Device.result c.self.invariant.are_alphabets.groups c.inside-in-Device.ensures.unknown)
+    (unknown_told levels.Group (network_of c.self.inside.alphabets c.self.inside.groups.items) c.self.inside.alphabets.groups c.args.name.now c.inside-in-Device.result c.self.invariant.are_alphabets.groups c.inside-in-Device.ensures.unknown)
 
 pub returns-in-Group-clause-members : goal.returns-in-Group-clause-members
 returns-in-Group-clause-members c =
-    let network = c.self.inside.groups in
+    let network = network_of c.self.inside.alphabets c.self.inside.groups.items in
     let once = once_when_ascending (alphabet_of levels.Group network) c.self.invariant.are_tables.interfaces_in_groups.outer_ascend in
     rw (c.in-Group.is, ← c.self.view_is)
     (members_itself levels.Group network c.self.inside.alphabets.groups c.args.name.now c.itself.result once c.self.invariant.are_alphabets.groups c.itself.ensures.members c.itself.ensures.known)
@@ -36,4 +37,4 @@ returns-in-Group-clause-members c =
 pub returns-in-Group-clause-unknown : goal.returns-in-Group-clause-unknown
 returns-in-Group-clause-unknown c =
     rw (c.in-Group.is, ← c.self.view_is)
-    (unknown_told levels.Group c.self.inside.groups c.self.inside.alphabets.groups c.args.name.now c.itself.result c.self.invariant.are_alphabets.groups c.itself.ensures.unknown)
+    (unknown_told levels.Group (network_of c.self.inside.alphabets c.self.inside.groups.items) c.self.inside.alphabets.groups c.args.name.now c.itself.result c.self.invariant.are_alphabets.groups c.itself.ensures.unknown)
