@@ -63,20 +63,6 @@ ascending_from_sorted names sorted distinct = ascending_from_neighbours names (n
 pub ascending_from_keys : (names : List (List ℕ)) → IsStrictlySortedBy bytes_cmp names → IsAscending names
 ascending_from_keys names sorted i j d below within = Less-from_sorted bytes_cmp names i j d sorted below within
 
-apart : (a b : List ℕ) → a ≢ b → bytes_eq a b ≡ false
-apart a b differ = elim (bytes_eq a b) as (λ r. (r ≡ true → a ≡ b) → r ≡ false) [ true ↦ λ h. absurd (differ (h refl)) | false ↦ λ h. refl ]
-    (bytes_eq-Decides a b).0
-
--- names that differ still do when they change places
-pub neighbours_differ : (names sorted : List (List ℕ)) → IsPermutation names sorted → AllPairs (λ a b. a ≢ b) names
-    → AllAdjacentBelow (λ a b. a ≢ b) sorted (length sorted)
-neighbours_differ names sorted moved differ k d within same =
-    let before = IsDistinct-from_apart bytes_eq names (λ i j d below in_names. apart (get_or names i d) (get_or names j d) (differ i j d below in_names)) in
-    let after = IsDistinct-IsPermutation bytes_eq nat_list_eq_equiv.symm names sorted moved before in
-    let no : bytes_eq (get_or sorted k d) (get_or sorted (k + 1) d) ≡ false = apart_from_distinct bytes_eq sorted k (k + 1) d after (omega arith) within in
-    let yes : bytes_eq (get_or sorted k d) (get_or sorted (k + 1) d) ≡ true = (bytes_eq-Decides (get_or sorted k d) (get_or sorted (k + 1) d)).1 same in
-    cc
-
 -- an ascending list is sorted
 pub sorted_from_ascending : (names : List (List ℕ)) → IsAscending names → IsSorted bytes_cmp names
 sorted_from_ascending names ascending k d low within =

@@ -28,14 +28,6 @@ impl<T> Boxed<T> {
     {
         &self.inner
     }
-
-    /// The value, out of the box.
-    pub fn into_inner(self) -> T
-        ensures { result ≡ self }
-    {
-        let Boxed { inner } = self;
-        Box::into_inner(inner)
-    }
 }
 
 impl<T: Drop> Boxed<T> {

@@ -15,7 +15,7 @@ pub use boxed::Boxed;
 pub use level::Level;
 pub use list::List;
 pub use name::{MAX_NAME_LEN, Name, NameError, is_name, is_name_byte};
-pub use name_order::{ascending_when_keys, ascending_when_sorted, sort_names};
+pub use name_order::{ascending_when_keys, ascending_when_sorted};
 pub use shortlex::{
     WordSet, first_is_unique, shortlex_is_irreflexive, shortlex_is_total, shortlex_is_transitive,
 };

@@ -37,14 +37,6 @@ impl<T> List<T> {
     {
         self.items.as_slice()
     }
-
-    /// The items in their order, as a vector that the caller may change. Nothing is copied.
-    pub fn into_vec(self) -> Vec<T>
-        ensures { result.items ≡ self }
-    {
-        let List { items } = self;
-        items
-    }
 }
 
 impl<T: PartialEq> PartialEq for List<T> {

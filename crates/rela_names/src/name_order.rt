@@ -1,12 +1,11 @@
 //! How names compare, by their bytes.
 
-ghost use Rattle.std.specs.Prelude.{◌≡◌, ◌≢◌, ℕ, ◌<◌, ◌+◌, IfOk, length};
-ghost use Rattle.std.specs.List.{AllAdjacentBelow, AllPairs};
-ghost use Rattle.std.specs.List.Sorted.{IsSorted, IsPermutation, IsStrictlySortedBy};
+ghost use Rattle.std.specs.Prelude.{◌≢◌, length};
+ghost use Rattle.std.specs.List.{AllAdjacentBelow};
+ghost use Rattle.std.specs.List.Sorted.{IsSorted, IsStrictlySortedBy};
 ghost use Rattle.rela_names.specs.Name.{bytes_cmp, IsAscending};
 
 use crate::name::Name;
-use std::alloc::AllocError;
 use std::cmp::Ordering;
 use std::hash::{Hash, Hasher};
 
@@ -77,21 +76,6 @@ impl Hash for Name {
     fn hash<H: Hasher>(&self, state: &mut H) {
         self.as_bytes().hash(state);
     }
-}
-
-/// The names, which are all different, in ascending order of their bytes. Time: O(n log n)
-/// comparisons.
-///
-/// # Errors
-///
-/// Only where memory is wanted.
-pub fn sort_names(mut names: Vec<Name>) -> Result<Vec<Name>, AllocError>
-    requires { AllPairs (λ a b. a ≢ b) names.items }
-    ensures ascending { IfOk result (λ sorted. IsAscending sorted.items) }
-    ensures permutation { IfOk result (λ sorted. IsPermutation names.items sorted.items) }
-{
-    names.sort()?;
-    Ok(names)
 }
 
 // The functions below do nothing, and the contract of each is a law.

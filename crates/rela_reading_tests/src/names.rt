@@ -3,7 +3,7 @@
 ghost use Rattle.std.specs.Prelude.{◌≡◌, ◌++◌, [], ◌∷◌, codes, IfOk, length};
 ghost use Rattle.rela_names.specs.Alphabet.{IsAlphabet};
 
-use rela_names::{Alphabet, Boxed, List, Name, NameError, Word, sort_names};
+use rela_names::{Alphabet, Boxed, List, Name, NameError, Word};
 use std::alloc::{AllocError, Global};
 use std::test::Fail;
 
@@ -71,31 +71,6 @@ fn compares_names_by_bytes(rt: HostRuntime) {
     assert!(rt; is_less(rt.alloc(), b"R3", b"r10"));
 }
 
-/// The names r2 and r10, sorted.
-fn sorted(alloc: Global) -> Result<Vec<Name>, NameError> {
-    let first = Name::from_bytes(alloc, b"r2")?;
-    let second = Name::from_bytes(alloc, b"r10")?;
-    let mut names = Vec::new(alloc);
-    names.push(first)?;
-    names.push(second)?;
-    Ok(sort_names(names)?)
-}
-
-/// Whether there are two, of which r10 is the first.
-fn are_sorted(names: &[Name]) -> bool {
-    match names {
-        [first, _] => first.as_bytes() == b"r10".as_slice(),
-        _ => false,
-    }
-}
-
-#[test]
-fn sorts_names(rt: HostRuntime) -> Result<(), Fail> {
-    let names = sorted(rt.alloc())?;
-    assert!(rt; are_sorted(&names));
-    Ok(())
-}
-
 /// The alphabet of r1 and r4.
 fn two_routers(alloc: Global) -> Result<Alphabet, NameError>
     ensures { IfOk result (λ names. length names ≡ 2) }
@@ -147,16 +122,16 @@ fn numbers_symbols_and_writes_words(rt: HostRuntime) -> Result<(), Fail> {
     Ok(())
 }
 
-/// Whether a list has its items, and gives them back.
+/// Whether a list has its items.
 fn holds_a_list(alloc: Global) -> Result<bool, AllocError> {
     let list = List::from_vec([1u32, 2].to_vec(alloc)?);
-    Ok(list.as_slice() == [1, 2].as_slice() && list.into_vec().len() == 2)
+    Ok(list.as_slice() == [1, 2].as_slice())
 }
 
-/// Whether a box has its value, and gives it back.
+/// Whether a box has its value.
 fn holds_a_box(alloc: Global) -> Result<bool, AllocError> {
     let boxed = Boxed::new(alloc, 7u32)?;
-    Ok(*boxed.get() == 7 && boxed.into_inner() == 7)
+    Ok(*boxed.get() == 7)
 }
 
 /// Whether a word has its symbols.
