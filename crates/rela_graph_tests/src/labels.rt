@@ -268,34 +268,53 @@ fn has_blocks(partition: &Partition, blocks: &[u32]) -> bool
     true
 }
 
+/// What splits one block of this many symbols.
+fn splitter(alloc: Global, symbols: u32) -> Result<Splitter, AllocError>
+    requires { 1 ≤ symbols }
+    ensures { IfOk result (λ splitter. length splitter ≡ symbols) }
+{
+    let partition = Partition::new(alloc, symbols)?;
+    Splitter::of(alloc, &partition)
+}
+
 /// One block of six symbols, from which 1 and 2 are set apart.
 fn pair_apart(alloc: Global) -> Result<Partition, AllocError>
     ensures { IfOk result (λ partition. length partition ≡ 6) }
 {
-    let mut partition = Partition::new(alloc, 6)?;
-    partition.refine(alloc, &[1, 2])?;
-    Ok(partition)
+    let mut splitter = splitter(alloc, 6)?;
+    splitter.split(alloc, &[1, 2])?;
+    splitter.into_partition(alloc)
 }
 
-/// Whether symbol 2 is alone once it is set apart from 1.
-fn is_refined(alloc: Global, mut partition: Partition) -> bool
-    requires { length partition ≡ 6 }
+/// The blocks of six symbols, from which 2 is set apart.
+fn second_apart(alloc: Global, partition: &Partition) -> Result<Partition, AllocError>
+    requires { length partition.now ≡ 6 }
+    ensures { IfOk result (λ partition. length partition ≡ 6) }
 {
-    match partition.refine(alloc, &[2]) {
-        Ok(_) => {
-            partition.blocks() == 3
-                && has_blocks(&partition, &[0, 1, 2, 0, 0, 0])
-                && partition.representative(0) == 0
-                && partition.representative(2) == 2
+    let mut splitter = Splitter::of(alloc, partition)?;
+    splitter.split(alloc, &[2])?;
+    splitter.into_partition(alloc)
+}
+
+/// Whether symbol 2 is alone, and so is 1, once 2 is set apart from these.
+fn is_parted(alloc: Global, partition: &Partition) -> bool
+    requires { length partition.now ≡ 6 }
+{
+    match second_apart(alloc, partition) {
+        Ok(parted) => {
+            parted.blocks() == 3
+                && has_blocks(&parted, &[0, 1, 2, 0, 0, 0])
+                && parted.representative(0) == 0
+                && parted.representative(2) == 2
         }
         Err(_) => false,
     }
 }
 
 /// Whether symbol 2 is alone once it is set apart from 1, in the partition with the pair.
-fn pair_is_refined(alloc: Global) -> bool {
+fn pair_is_parted(alloc: Global) -> bool {
     match pair_apart(alloc) {
-        Ok(partition) => is_refined(alloc, partition),
+        Ok(partition) => is_parted(alloc, &partition),
         Err(_) => false,
     }
 }
@@ -316,12 +335,12 @@ fn is_finest(alloc: Global) -> bool {
     }
 }
 
-/// A refinement splits a block into members and others, and keeps the blocks in the order of their
-/// least symbols.
+/// A split of a partition that has more blocks than one keeps the blocks in the order of their least
+/// symbols.
 #[test]
-fn refines(rt: HostRuntime) {
+fn splits_a_pair(rt: HostRuntime) {
     assert_eq!(rt; blocks_of_all(rt.alloc()), Some(1));
-    assert!(rt; pair_is_refined(rt.alloc()));
+    assert!(rt; pair_is_parted(rt.alloc()));
     assert!(rt; is_finest(rt.alloc()));
 }
 
@@ -393,15 +412,6 @@ fn twice_apart(rt: HostRuntime) {
     assert!(rt; has_apart(rt.alloc(), &[0], &[3, 1], &[0, 1, 2, 3, 4, 4]));
 }
 
-/// What splits one block of this many symbols.
-fn splitter(alloc: Global, symbols: u32) -> Result<Splitter, AllocError>
-    requires { 1 ≤ symbols }
-    ensures { IfOk result (λ splitter. length splitter ≡ symbols) }
-{
-    let partition = Partition::new(alloc, symbols)?;
-    Splitter::of(alloc, &partition)
-}
-
 /// Six symbols, of which 1 and 2 are split from the others, and then 2.
 fn split(alloc: Global) -> Result<Partition, AllocError>
     ensures { IfOk result (λ partition. length partition ≡ 6) }
@@ -420,7 +430,7 @@ fn is_split(alloc: Global) -> bool {
     }
 }
 
-/// Splits have the blocks that refinements have, once the blocks are numbered.
+/// Splits, one after the other, set the members of each block apart from the others.
 #[test]
 fn splits(rt: HostRuntime) {
     assert!(rt; is_split(rt.alloc()));

@@ -18,33 +18,6 @@ pub(crate) fn numbers_below(alloc: Global, n: u32) -> Result<Vec<u32>, AllocErro
     Ok(numbers)
 }
 
-/// A key for each symbol, so that two have the same key where they share a block and both or neither
-/// are members: twice the block's number, and one more for a member.
-pub(crate) fn split_keys(
-    alloc: Global,
-    blocks: &[u32],
-    members: &[Symbol],
-) -> Result<Vec<usize>, AllocError>
-    requires { All (λ s. s < length blocks.now) members.now }
-    ensures len { IfOk result (λ keys. length keys.items ≡ length blocks.now) }
-    ensures same { IfOk result (λ keys. (s t : ℕ) → s < length blocks.now → t < length blocks.now
-        → (slice_index keys.items s ≡ slice_index keys.items t)
-        ↔ ((slice_index blocks.now s ≡ slice_index blocks.now t) × (Contains members.now s ↔
-        Contains members.now t))) }
-    ensures below { IfOk result (λ keys. (n : ℕ) → All (λ block. block < n) blocks.now →
-        All (λ key. key < 2 * n) keys.items) }
-{
-    let mut keys: Vec<usize> = blocks
-        .iter()
-        .map(|block| *block as usize * 2)
-        .collect(alloc)?;
-    for s in members {
-        let s = *s as usize;
-        keys[s] = blocks[s] as usize * 2 + 1;
-    }
-    Ok(keys)
-}
-
 /// The number of each key, counting the keys from 0 in the order in which they first come, and the
 /// first index of each. Each key is below `bound`. Time and space: linear in the keys and the
 /// bound.

@@ -4,7 +4,7 @@ ghost use Rattle.rela_labels.specs.Partition.{block_of, block_count, Together, I
 
 use crate::ascending::{ascending_union, place_in};
 use crate::base::{Base, number_apart};
-use crate::numbering::{number_keys, numbers_below, split_keys};
+use crate::numbering::{number_keys, numbers_below};
 use rela_names::Symbol;
 use std::alloc::{AllocError, Global};
 use std::marker::Model;
@@ -73,26 +73,6 @@ impl Partition {
         let blocks = numbers_below(alloc, symbols)?;
         let least = numbers_below(alloc, symbols)?;
         Partition::fresh(alloc, blocks, least)
-    }
-
-    /// Splits each block into the members and the others. The members may come in any order, and
-    /// more than once. An error leaves the partition as it was. Time: linear in the symbols and the
-    /// members, with a binary search for each symbol among those that are apart; space: linear in
-    /// the symbols.
-    pub fn refine(&mut self, alloc: Global, members: &[Symbol]) -> Result<(), AllocError>
-        requires { All (λ s. s < length self.old) members.now }
-        ensures symbols { IfOk result (λ _. length self.new ≡ length self.old) }
-        ensures partition { IfOk result (λ _. IsPartition self.new) }
-        ensures split { IfOk result (λ _. (s t : ℕ) → s < length self.old → t < length self.old
-            → Together self.new s t ↔ (Together self.old s t × (Contains members.now s ↔
-            Contains members.now t))) }
-        ensures unchanged { IfErr result (λ _. self.new ≡ self.old) }
-    {
-        let old = self.block_numbers(alloc)?;
-        let keys = split_keys(alloc, &old, members)?;
-        let (blocks, least) = number_keys(alloc, &keys, 2 * self.least.len())?;
-        *self = Partition::fresh(alloc, blocks, least)?;
-        Ok(())
     }
 
     /// The partition of as many symbols as there are keys: two share a block where they have the
