@@ -37,35 +37,6 @@ parted_at edges n i parted = (
   λ k d low high. ltb-false (get_or edges k d).a n (parted.1 k d low high),
 )
 
-link_ties_itself : (x : Link) → link_cmp x x ≡ Equal
-link_ties_itself x = own_tie (link_cmp x x) (links_total.antisymm x x)
-  where
-    own_tie : (o : Ordering) → o ≡ ordering_reverse o → o ≡ Equal
-    own_tie Less h = cc
-    own_tie Equal h = refl
-    own_tie Greater h = cc
-
--- what a binary search for an edge says
-pub searched : (edges : List Link) (x : Link) (r : Result ℕ ℕ) (b : Bool) → IsSorted link_cmp edges → IsSearchInRange r (length edges)
-    → IfOk r (HoldsAt (λ y. link_cmp y x ≡ Equal) edges) → IsBinarySearchResult (λ y. link_cmp y x) edges r → b ≡ is_ok r → IsTrue b ↔ Contains edges x
-searched edges x (Ok i) b up within equal found e = (
-  λ t. (i, within, same_links (get_or edges i x) x (equal x)),
-  λ h. e,
-)
-searched edges x (Err i) b up within equal found e = (
-  λ t. absurd (let no : true ≡ false = sym t ∙ e in cc),
-  λ h. absurd (absent h),
-)
-  where
-    absent : Contains edges x → ⊥
-    absent h =
-        let parts = found (searchable_from_sorted links_total (λ (y : Link). y) edges x up) in
-        let same : link_cmp (get_or edges h.0 x) x ≡ Equal = rw h.2 (link_ties_itself x) in
-        elim (cases_lt h.0 i) [
-          | inl below ↦ let less = parts.0 h.0 x (omega arith) below in cc
-          | inr above ↦ let greater = parts.1 h.0 x above h.1 in cc
-        ]
-
 -- the edges from n stand between the offsets of n and of the node after it
 module _ (edges : List Link) (offsets : List ℕ) (count n from to : ℕ) (indexed : IsIndexed count edges offsets) (node : n < count)
     (from_is : from ≡ get_or offsets n from) (to_is : to ≡ get_or offsets (n + 1) to) where

@@ -8,7 +8,7 @@ use Rattle.std.proofs.lemmas.List.Folds.{Any-from_list_any, list_any-from_Any}
 use Rattle.std.proofs.lemmas.List.Elements.{All-contains}
 use Rattle.rela_graph.specs.Topology.{Topology, IsTopology, JoinsNodes, HasEdge, HasFlag}
 use Rattle.rela_graph.specs.Walk.{FollowsEdges, Leads, IsCyclic}
-use Rattle.rela_graph.specs.Spread.{Spread, here, step, Next, Adds}
+use Rattle.rela_graph.specs.Spread.{Spread, here, step, Adds}
 use Rattle.rela_graph.proofs.Flagged.{none_in_empty, flag_within}
 use Rattle.rela_graph.proofs.Walking.{lead_by, lead_on}
 
@@ -21,25 +21,18 @@ among xs n b is = (
   λ c. is ∙ list_any-from_Any (λ y. y == n) xs (c.0, n, c.1, c.2, eq-eqb n n refl),
 )
 
--- each label is 0
-one_label : (count m : ℕ) → slice_index (replicate count 0) m ≡ 0
-one_label count m = elim (cases_lt m count) [
-  | inl below ↦ get_or-replicate count m 0 0 below
-  | inr past ↦ get_or_past (replicate count 0) m 0 (let len : length (replicate count 0) ≡ count = length-replicate {A = ℕ} count 0 in omega arith)
-]
-
 -- what is reached from the nodes that an edge from n leads to is what n leads to
-module _ (g : Topology) (labels : List ℕ) (count n : ℕ) (alike : labels ≡ replicate count 0) (first : List ℕ) (adds : Adds (Next g labels 0 n) [] first) where
-  led : {m : ℕ} → Spread g labels 0 (Contains first) m → Leads g n m
-  led (here {n = m} c) = elim (adds.each m c) [ inl old ↦ absurd (none_in_empty m old) | inr next ↦ lead_by g n m next.0 ]
-  led (step {m = u} {n = m} r e has) = lead_on g n u m (led r) e
+module _ (g : Topology) (n : ℕ) (first : List ℕ) (adds : Adds (HasEdge g n) [] first) where
+  led : {m : ℕ} → Spread g (Contains first) m → Leads g n m
+  led (here {n = m} c) = elim (adds.each m c) [ inl old ↦ absurd (none_in_empty m old) | inr next ↦ lead_by g n m next ]
+  led (step {m = u} {n = m} r e) = lead_on g n u m (led r) e
 
-  reach : (xs : List ℕ) (a m : ℕ) → ((b : ℕ) → HasEdge g a b → Spread g labels 0 (Contains first) b) → FollowsEdges g (a ∷ (xs ++ m ∷ [])) → Spread g labels 0 (Contains first) m
+  reach : (xs : List ℕ) (a m : ℕ) → ((b : ℕ) → HasEdge g a b → Spread g (Contains first) b) → FollowsEdges g (a ∷ (xs ++ m ∷ [])) → Spread g (Contains first) m
   reach [] a m go f = go m f.0
-  reach (x ∷ xs) a m go f = reach xs x m (λ b e. step (go x f.0) e (rw alike (one_label count b))) f.1
+  reach (x ∷ xs) a m go f = reach xs x m (λ b e. step (go x f.0) e) f.1
 
-  pub reached : (m : ℕ) → Spread g labels 0 (Contains first) m ↔ Leads g n m
-  reached m = (led, λ l. reach l.0 n m (λ b e. here (adds.all b (e, rw alike (one_label count b)))) l.1)
+  pub reached : (m : ℕ) → Spread g (Contains first) m ↔ Leads g n m
+  reached m = (led, λ l. reach l.0 n m (λ b e. here (adds.all b e)) l.1)
 
 -- what lies on a cycle is a node
 pub cyclic_node : (g : Topology) → IsTopology g → (n : ℕ) → IsCyclic g n → n < length g.nodes

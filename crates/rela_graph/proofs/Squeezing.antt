@@ -28,20 +28,3 @@ squeeze_same (w ∷ xs) x y e = ap (λ r. w ∷ r) (same_after w xs x y e)
 pub squeeze_other : (xs : List ℕ) (x y : ℕ) → x ≢ y → squeeze ((xs ++ x ∷ []) ++ y ∷ []) ≡ squeeze (xs ++ x ∷ []) ++ y ∷ []
 squeeze_other [] x y ne = ap (λ r. x ∷ r) (let t = ne_eqb x y ne in rw t)
 squeeze_other (w ∷ xs) x y ne = ap (λ r. w ∷ r) (other_after w xs x y ne)
-
-last_after : (z : ℕ) (xs : List ℕ) (x : ℕ) → (front : List ℕ) × (z ∷ squeeze_after z (xs ++ x ∷ []) ≡ front ++ x ∷ [])
-last_after z [] x = elim (cases_eq z x) [
-  | inl same ↦ ([], let t = eq-eqb z x same in rw t (ap (λ w. w ∷ []) same))
-  | inr apart ↦ (z ∷ [], let t = ne_eqb z x apart in rw t)
-]
-last_after z (w ∷ xs) x =
-    let more = last_after w xs x in
-    elim (cases_eq z w) [
-      | inl same ↦ (more.0, let t = eq-eqb z w same in rw t (ap (λ v. v ∷ squeeze_after w (xs ++ x ∷ [])) same ∙ more.1))
-      | inr apart ↦ (z ∷ more.0, let t = ne_eqb z w apart in rw t (ap (λ r. z ∷ r) more.1))
-    ]
-
--- the last element stays the last
-pub squeeze_last : (xs : List ℕ) (x : ℕ) → (front : List ℕ) × (squeeze (xs ++ x ∷ []) ≡ front ++ x ∷ [])
-squeeze_last [] x = ([], refl)
-squeeze_last (w ∷ xs) x = last_after w xs x

@@ -12,7 +12,7 @@ ghost use Rattle.rela_graph.specs.Lettering.{AreLetters};
 ghost use Rattle.rela_graph.specs.Paths.{Paths, Undelivered, Arrives, locations};
 ghost use Rattle.rela_graph.specs.Topology.{IsTopology, symbol_at};
 ghost use Rattle.rela_graph.specs.Unrolled.{LeadOn, Begins, GoesOn, IsUnrolled};
-ghost use Rattle.rela_graph.specs.Walk.{IsCyclic};
+ghost use Rattle.rela_graph.specs.Walk.{IsCyclic, IsDropNode};
 
 use crate::graph::Graph;
 use crate::letters::Letters;
@@ -22,9 +22,10 @@ use rela_nfa::{Edge, EdgeLists, Nfa};
 use std::alloc::{AllocError, Global};
 
 impl Graph {
-    /// The automaton that accepts just the paths of the graph at the level, those of which
-    /// [`Graph::has_path`] tells, each symbol read as its block. The location of each node, `drop`
-    /// and `loop` have blocks of their own.
+    /// The automaton that accepts just the paths of the graph at the level, each symbol read as its
+    /// block: a walk's locations, each run of equal neighbours written once, where the walk's last
+    /// node delivers; those and `drop`, where it drops; those and `loop`, where it lies on a cycle.
+    /// The location of each node, `drop` and `loop` have blocks of their own.
     ///
     /// State 0 is where words begin. State `1 + n` stands at node `n`: the words that reach it are
     /// the locations of the walks that end there, each run of equal neighbours written once. The
@@ -146,5 +147,14 @@ impl Graph {
         letters.add_if(alloc, edges, self.is_drop_node(n), letters.drop_letter, end)?;
         letters.add_if(alloc, edges, is_cyclic, letters.loop_letter, end)?;
         Ok(())
+    }
+
+    /// Whether traffic is dropped at the node: it is listed as one that drops, or has no edge out and
+    /// isn't listed as one that delivers.
+    fn is_drop_node(&self, n: u32) -> bool
+        requires { n < length self.now.nodes }
+        ensures { IsTrue result ↔ IsDropNode self.now n }
+    {
+        self.is_dropped(n) || (self.edges_from(n).is_empty() && !self.is_delivered(n))
     }
 }

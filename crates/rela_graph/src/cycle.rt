@@ -1,5 +1,5 @@
 //! Which nodes lie on cycles.
-ghost use Rattle.std.specs.Prelude.{◌≡◌, ℕ, ◌<◌, ◌↔◌, IsTrue, IfOk, length, false, slice_index_or, vec_len, replicate, slice_index};
+ghost use Rattle.std.specs.Prelude.{◌≡◌, ℕ, ◌<◌, ◌↔◌, IsTrue, IfOk, length, false, slice_index_or, vec_len, slice_index};
 ghost use Rattle.std.specs.List.{All, Any};
 ghost use Rattle.rela_graph.specs.Component.{AreComponents};
 ghost use Rattle.rela_graph.specs.Walk.{IsCyclic};
@@ -10,18 +10,9 @@ use crate::node_set::NodeSet;
 use std::alloc::{AllocError, Global};
 
 impl Graph {
-    /// Whether the node lies on a cycle: one or more edges lead from it back to it. `false` for a
-    /// number that is no node's. Time and space: as for all nodes at once, by
-    /// [`cyclic_nodes`](Graph::cyclic_nodes).
-    pub fn on_cycle(&self, alloc: Global, n: u32) -> Result<bool, AllocError>
-        ensures cyclic { IfOk result (λ cyclic. IsTrue cyclic ↔ IsCyclic self.now n) }
-    {
-        let cyclic = self.cyclic_nodes(alloc)?;
-        Ok(cyclic.get(n as usize).copied().unwrap_or(false))
-    }
-
-    /// For each node whether it lies on a cycle. Time and space: linear in the nodes and the edges.
-    pub fn cyclic_nodes(&self, alloc: Global) -> Result<Vec<bool>, AllocError>
+    /// For each node whether it lies on a cycle: one or more edges lead from it back to it. Time
+    /// and space: linear in the nodes and the edges.
+    pub(crate) fn cyclic_nodes(&self, alloc: Global) -> Result<Vec<bool>, AllocError>
         ensures nodes { IfOk result (λ cyclic. vec_len cyclic ≡ length self.now.nodes) }
         ensures cyclic { IfOk result (λ cyclic. (n : ℕ) →
             IsTrue (slice_index_or cyclic.items n false) ↔ IsCyclic self.now n) }
@@ -61,23 +52,21 @@ impl Graph {
             IsTrue (slice_index_or cyclic.items n false) ↔ IsCyclic self.now n) }
     {
         let count = self.nodes().len();
-        let labels = vec![in alloc; 0u32; count]?;
         let mut cyclic = Vec::with_capacity(alloc, count)?;
         for n in 0..count {
-            cyclic.push(self.returns_to(alloc, &labels, n as u32)?)?;
+            cyclic.push(self.returns_to(alloc, n as u32)?)?;
         }
         Ok(cyclic)
     }
 
-    /// Whether one or more edges lead from the node back to it. The labels are 0 for each node.
-    fn returns_to(&self, alloc: Global, labels: &[u32], n: u32) -> Result<bool, AllocError>
-        requires node { n < length self.now.nodes }
-        requires labels { labels.now ≡ replicate (length self.now.nodes) 0 }
+    /// Whether one or more edges lead from the node back to it.
+    fn returns_to(&self, alloc: Global, n: u32) -> Result<bool, AllocError>
+        requires { n < length self.now.nodes }
         ensures { IfOk result (λ cyclic. IsTrue cyclic ↔ IsCyclic self.now n) }
     {
-        let mut reached = NodeSet::new(alloc, labels.len())?;
-        self.add_next(labels, 0, n, &mut reached)?;
-        self.spread(labels, 0, &mut reached)?;
+        let mut reached = NodeSet::new(alloc, self.nodes().len())?;
+        self.add_next(n, &mut reached)?;
+        self.spread(&mut reached)?;
         Ok(reached.members().contains(&n))
     }
 }

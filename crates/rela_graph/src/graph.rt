@@ -102,17 +102,8 @@ impl Graph {
         self.nodes.as_slice()
     }
 
-    /// Whether an edge leads from `a` to `b`; `false` where one of them is no node. Time: a binary
-    /// search.
-    pub fn has_edge(&self, a: u32, b: u32) -> bool
-        ensures edge { IsTrue result ↔ HasEdge self.now a b }
-        ensures nodes { IsTrue result → (a < length self.now.nodes) × (b < length self.now.nodes) }
-    {
-        self.edges.binary_search(&Link { a, b }).is_ok()
-    }
-
     /// Whether a walk may begin at the node. `false` for a number that is no node's.
-    pub fn is_start(&self, n: u32) -> bool
+    pub(crate) fn is_start(&self, n: u32) -> bool
         ensures start { IsTrue result ↔ IsStart self.now n }
         ensures node { IsTrue result → n < length self.now.nodes }
     {
@@ -120,7 +111,7 @@ impl Graph {
     }
 
     /// Whether the node is listed as one that delivers. `false` for a number that is no node's.
-    pub fn is_delivered(&self, n: u32) -> bool
+    pub(crate) fn is_delivered(&self, n: u32) -> bool
         ensures delivered { IsTrue result ↔ IsDelivered self.now n }
         ensures node { IsTrue result → n < length self.now.nodes }
     {
@@ -128,7 +119,7 @@ impl Graph {
     }
 
     /// Whether the node is listed as one that drops. `false` for a number that is no node's.
-    pub fn is_dropped(&self, n: u32) -> bool
+    pub(crate) fn is_dropped(&self, n: u32) -> bool
         ensures dropped { IsTrue result ↔ IsDropped self.now n }
         ensures node { IsTrue result → n < length self.now.nodes }
     {

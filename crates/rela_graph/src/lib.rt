@@ -13,7 +13,6 @@ mod letters;
 mod node;
 mod node_set;
 mod outline;
-mod path;
 mod reach;
 
 pub use graph::{Graph, MAX_EDGES, MAX_NODES};

@@ -148,21 +148,6 @@ fn graph(alloc: Global, drawing: &Drawing<'_>) -> Result<Graph, AllocError> {
     Graph::new(alloc, nodes, &edges, &[0], &[drawing.delivered], &[])
 }
 
-/// A question about a graph.
-trait Question {
-    /// Whether the answer to the question is yes.
-    fn is_so(&self, alloc: Global, graph: &Graph) -> bool;
-}
-
-/// Asks the question of the graph that is drawn, and is false where there is no memory for it. What
-/// owns a large value lends it at once: the proof of a function that does more with it is long.
-fn is_so(alloc: Global, drawing: &Drawing<'_>, question: &impl Question) -> bool {
-    match graph(alloc, drawing) {
-        Ok(graph) => question.is_so(alloc, &graph),
-        Err(_) => false,
-    }
-}
-
 /// The node's location at a level.
 fn symbol_at(node: &Node, level: Level) -> Symbol
     ensures { result ≡ symbol_at level node.now }
@@ -186,30 +171,36 @@ fn is_placed(graph: &Graph, level: Level, alphabet: &Alphabet) -> bool
         .all(|node| symbol_at(node, level) < locations)
 }
 
-/// Says of each question that its answer is yes, of the graph that is drawn.
-fn hold<Q: Question>(rt: &impl Abort, alloc: Global, drawing: &Drawing<'_>, questions: &[Q]) {
-    for place in 0..questions.len() {
-        assert!(rt;
-            is_so(alloc, drawing, &questions[place]),
-            "question {place}"
-        );
+/// Whether the automaton accepts the word, where it was made, and `None` where it wasn't or there
+/// is no memory to tell.
+fn has(alloc: Global, made: Result<Nfa<WideSet>, AllocError>, word: &[Symbol]) -> Option<bool> {
+    match made {
+        Ok(nfa) => nfa.accepts(alloc, word).ok(),
+        Err(_) => None,
+    }
+}
+
+/// Whether the automaton of the graph's paths at the level accepts the word, where each symbol is a
+/// letter. `None` where the alphabet lacks a node's symbol, or there is no memory to tell.
+fn reads(
+    alloc: Global,
+    graph: &Graph,
+    level: Level,
+    alphabet: &Alphabet,
+    word: &[Symbol],
+) -> Option<bool> {
+    if !is_placed(graph, level, alphabet) {
+        return None;
+    }
+    match Partition::finest(alloc, alphabet.len()) {
+        Ok(blocks) => has(alloc, graph.to_nfa(alloc, level, alphabet, &blocks), word),
+        Err(_) => None,
     }
 }
 
 /// Whether the word is a path at the level, where the alphabet has each node's symbol, or not: the
 /// level, the word, and whether it is a path.
 struct Path<'a>(Level, &'a [Symbol], bool);
-
-impl Path<'_> {
-    /// Whether the answer is yes under the alphabet of the level.
-    fn is_so_under(&self, alloc: Global, graph: &Graph, alphabet: &Alphabet) -> bool {
-        let Path(level, word, is_path) = self;
-        if !is_placed(graph, *level, alphabet) {
-            return false;
-        }
-        graph.has_path(alloc, *level, alphabet, word).ok() == Some(*is_path)
-    }
-}
 
 /// The alphabet of the level, of groups or of devices.
 fn alphabet(alloc: Global, level: Level) -> Result<Alphabet, NameError> {
@@ -219,35 +210,30 @@ fn alphabet(alloc: Global, level: Level) -> Result<Alphabet, NameError> {
     }
 }
 
-impl Question for Path<'_> {
-    fn is_so(&self, alloc: Global, graph: &Graph) -> bool {
+impl Path<'_> {
+    /// Whether the answer is yes for the graph.
+    fn is_so_of(&self, alloc: Global, graph: &Graph) -> bool {
         match alphabet(alloc, self.0) {
-            Ok(alphabet) => self.is_so_under(alloc, graph, &alphabet),
+            Ok(alphabet) => reads(alloc, graph, self.0, &alphabet, self.1) == Some(self.2),
+            Err(_) => false,
+        }
+    }
+
+    /// Asks the question of the graph that is drawn, and is false where there is no memory for it.
+    /// What owns a large value lends it at once: the proof of a function that does more with it is
+    /// long.
+    fn is_so(&self, alloc: Global, drawing: &Drawing<'_>) -> bool {
+        match graph(alloc, drawing) {
+            Ok(graph) => self.is_so_of(alloc, &graph),
             Err(_) => false,
         }
     }
 }
 
-/// Whether a cycle leads through the node, or none: the node, and whether one does.
-struct OnCycle(u32, bool);
-
-impl Question for OnCycle {
-    fn is_so(&self, alloc: Global, graph: &Graph) -> bool {
-        graph.on_cycle(alloc, self.0).ok() == Some(self.1)
-    }
-}
-
-/// The edges and flags of `P2`.
-struct EdgesAndFlags;
-
-impl Question for EdgesAndFlags {
-    fn is_so(&self, _alloc: Global, graph: &Graph) -> bool {
-        graph.has_edge(0, 1)
-            && !graph.has_edge(1, 0)
-            && !graph.has_edge(9, 9)
-            && graph.is_start(0)
-            && graph.is_delivered(3)
-            && !graph.is_dropped(3)
+/// Says of each question that its answer is yes, of the graph that is drawn.
+fn hold(rt: &impl Abort, alloc: Global, drawing: &Drawing<'_>, questions: &[Path<'_>]) {
+    for place in 0..questions.len() {
+        assert!(rt; questions[place].is_so(alloc, drawing), "question {place}");
     }
 }
 
@@ -256,15 +242,18 @@ const OF_P2: &[Path<'static>] = &[
     Path(Level::Device, &[0, 1, 3], true),
     Path(Level::Device, &[0, 1, 3, 3], false),
     Path(Level::Device, &[], false),
+    Path(Level::Device, &[0, 1], false),
+    Path(Level::Device, &[1, 3], false),
+    Path(Level::Device, &[0, 1, 0, 1, 3], false),
+    Path(Level::Device, &[0, 1, 3, DROP], false),
+    Path(Level::Device, &[0, 1, 3, LOOP], false),
 ];
 
-/// A path is told from words that repeat a location or are empty, and none of its nodes is on a
-/// cycle.
+/// A path is told from words that are empty, repeat a location, end or begin at another node, or go
+/// back along an edge, and where it delivers nothing is dropped, nor does it lie on a cycle.
 #[test]
 fn a_path(rt: HostRuntime) {
     hold(&rt, rt.alloc(), P2, OF_P2);
-    hold(&rt, rt.alloc(), P2, &[OnCycle(3, false)]);
-    assert!(rt; is_so(rt.alloc(), P2, &EdgesAndFlags));
 }
 
 /// Questions about the paths of `X1`.
@@ -297,13 +286,13 @@ fn a_cycle_apart(rt: HostRuntime) {
 const OF_C2: &[Path<'static>] = &[
     Path(Level::Device, &[0, 1, 3], true),
     Path(Level::Device, &[0, 1, 3, LOOP], true),
+    Path(Level::Device, &[0, 1, 3, DROP], false),
 ];
 
 /// A walk that ends on a cycle where traffic is delivered is a path both ways.
 #[test]
 fn a_cycle_that_delivers(rt: HostRuntime) {
     hold(&rt, rt.alloc(), C2, OF_C2);
-    hold(&rt, rt.alloc(), C2, &[OnCycle(3, true)]);
 }
 
 /// Questions about the paths of `Y1`.
@@ -311,16 +300,16 @@ const OF_Y1: &[Path<'static>] = &[
     Path(Level::Device, &[0, 1, 2, 1, 2, 3], true),
     Path(Level::Device, &[0, 1, 2, 1, 2, 1, LOOP], true),
     Path(Level::Device, &[0, 1, 3], false),
+    Path(Level::Device, &[0, 1, LOOP], true),
+    Path(Level::Device, &[0, 1, 2, LOOP], true),
+    Path(Level::Device, &[0, 1, 2, 3, LOOP], false),
 ];
 
-/// Questions about the nodes of `Y1` that are on its cycle.
-const CYCLES_OF_Y1: &[OnCycle] = &[OnCycle(1, true), OnCycle(2, true), OnCycle(3, false)];
-
-/// Walks may go round a cycle, and nothing is left out of their paths.
+/// Walks may go round a cycle, and nothing is left out of their paths. Those that end on it are
+/// paths with `loop`, and those that have left it aren't.
 #[test]
 fn a_way_round(rt: HostRuntime) {
     hold(&rt, rt.alloc(), Y1, OF_Y1);
-    hold(&rt, rt.alloc(), Y1, CYCLES_OF_Y1);
 }
 
 /// Questions about the paths of `G`.
@@ -335,83 +324,22 @@ fn a_path_of_groups(rt: HostRuntime) {
     hold(&rt, rt.alloc(), G, OF_G);
 }
 
-/// Whether the automaton accepts the word, where it was made, and `None` where it wasn't or there
-/// is no memory to tell.
-fn has(alloc: Global, made: Result<Nfa<WideSet>, AllocError>, word: &[Symbol]) -> Option<bool> {
-    match made {
-        Ok(nfa) => nfa.accepts(alloc, word).ok(),
-        Err(_) => None,
-    }
-}
-
-/// Whether the automaton of the graph's devices accepts the word, where each symbol is a letter.
-/// `None` where the alphabet lacks a node's symbol, or there is no memory to tell.
-fn reads(alloc: Global, graph: &Graph, alphabet: &Alphabet, word: &[Symbol]) -> Option<bool> {
-    if !is_placed(graph, Level::Device, alphabet) {
-        return None;
-    }
-    match Partition::finest(alloc, alphabet.len()) {
-        Ok(blocks) => has(
-            alloc,
-            graph.to_nfa(alloc, Level::Device, alphabet, &blocks),
-            word,
-        ),
-        Err(_) => None,
-    }
-}
-
-/// Whether that automaton accepts the word, or not: the word, and whether it is accepted.
-struct Accepted<'a>(&'a [Symbol], bool);
-
-impl Question for Accepted<'_> {
-    fn is_so(&self, alloc: Global, graph: &Graph) -> bool {
-        match devices(alloc) {
-            Ok(devices) => reads(alloc, graph, &devices, self.0) == Some(self.1),
-            Err(_) => false,
-        }
-    }
-}
-
-/// Questions about the automaton of `P2`.
-const BY_P2: &[Accepted<'static>] = &[
-    Accepted(&[0, 1, 3], true),
-    Accepted(&[0, 1], false),
-    Accepted(&[0, 1, 3, LOOP], false),
-];
-
-/// Questions about the automaton of `C2`.
-const BY_C2: &[Accepted<'static>] = &[
-    Accepted(&[0, 1, 3, LOOP], true),
-    Accepted(&[0, 1, 3, DROP], false),
-];
-
-/// The automaton of a graph accepts just its paths.
-#[test]
-fn automata(rt: HostRuntime) {
-    hold(&rt, rt.alloc(), P2, BY_P2);
-    hold(&rt, rt.alloc(), C2, BY_C2);
-}
-
 /// The graph of an edge from r1 to r4, which delivers, where no walk begins.
 fn unentered(alloc: Global) -> Result<Graph, AllocError> {
     let nodes = Vec::from_slice(alloc, &[R1, R4])?;
     Graph::new(alloc, nodes, &[Link { a: 0, b: 1 }], &[], &[1], &[])
 }
 
-/// Whether its automaton doesn't accept that edge.
+/// Whether the edge is no path of it.
 fn unentered_has_no_path(alloc: Global) -> bool {
     match unentered(alloc) {
-        Ok(graph) => Accepted(&[0, 3], false).is_so(alloc, &graph),
+        Ok(graph) => Path(Level::Device, &[0, 3], false).is_so_of(alloc, &graph),
         Err(_) => false,
     }
 }
 
-/// Questions about the automaton of `X1`.
-const BY_X1: &[Accepted<'static>] = &[Accepted(&[0, DROP], true)];
-
-/// The automaton of a graph accepts paths that drop, and none where no walk begins.
+/// A graph has no paths where no walk begins.
 #[test]
-fn automata_of_no_start_and_of_a_drop(rt: HostRuntime) {
-    hold(&rt, rt.alloc(), X1, BY_X1);
+fn no_start(rt: HostRuntime) {
     assert!(rt; unentered_has_no_path(rt.alloc()));
 }

@@ -1,11 +1,12 @@
 //! Snapshots over a small network, and their pairing.
 
 use crate::network::{Question, is_so};
-use rela_graph::Graph;
+use rela_graph::{Graph, Link, Node};
 use rela_json::LoadError;
 use rela_locations::Locations;
+use rela_names::Level;
 use rela_snapshot::{FlowPair, PairError, Snapshot, pair};
-use std::alloc::Global;
+use std::alloc::{AllocError, Global};
 
 /// A flow f1 along r1, r2 and both interfaces of r4, with nodes that are numbered.
 const NUMBERED: &[u8] =
@@ -23,32 +24,74 @@ fn decoded(alloc: Global, text: &[u8], locations: &Locations) -> Result<Snapshot
     Snapshot::decode(alloc, text, locations)
 }
 
-/// Whether the graph is r1 to r2 to r4, by both its interfaces.
-fn is_the_path(graph: &Graph) -> bool {
-    let flags = [
-        graph.has_edge(2, 3),
-        !graph.has_edge(3, 2),
-        graph.is_start(0),
-        graph.is_delivered(3),
-        !graph.is_dropped(3),
-    ];
-    match graph.nodes() {
-        [_, _, _, last] => {
-            [last.interface, last.device, last.group] == [4, 3, 1] && flags == [true; 5]
-        }
-        _ => false,
+/// The nodes of r1, r2 and both interfaces of r4, by their symbols.
+const NODES: [Node; 4] = [
+    Node {
+        interface: 0,
+        device: 0,
+        group: 1,
+    },
+    Node {
+        interface: 1,
+        device: 1,
+        group: 0,
+    },
+    Node {
+        interface: 3,
+        device: 3,
+        group: 1,
+    },
+    Node {
+        interface: 4,
+        device: 3,
+        group: 1,
+    },
+];
+
+/// The edges from each of these nodes to the next.
+const EDGES: [Link; 3] = [
+    Link { a: 0, b: 1 },
+    Link { a: 1, b: 2 },
+    Link { a: 2, b: 3 },
+];
+
+/// The graph of a walk from r1 by r2 to r4, where it goes in by one interface and is delivered at the
+/// other.
+fn drawn_path(alloc: Global) -> Result<Graph, AllocError> {
+    Graph::new(
+        alloc,
+        Vec::from_array(alloc, NODES)?,
+        &EDGES,
+        &[0],
+        &[3],
+        &[],
+    )
+}
+
+/// Whether the graphs look the same at each level.
+fn are_alike(graph: &Graph, other: &Graph) -> bool {
+    graph.at(Level::Interface) == other.at(Level::Interface)
+        && graph.at(Level::Device) == other.at(Level::Device)
+        && graph.at(Level::Group) == other.at(Level::Group)
+}
+
+/// Whether the graph is that path, and has nothing else.
+fn is_the_path(alloc: Global, graph: &Graph) -> bool {
+    match drawn_path(alloc) {
+        Ok(path) => are_alike(graph, &path),
+        Err(_) => false,
     }
 }
 
 /// Whether the snapshot is of one flow, named f1 and of the default class, along the path.
-fn is_read(snapshot: &Snapshot) -> bool {
+fn is_read(alloc: Global, snapshot: &Snapshot) -> bool {
     if snapshot.flows() != 1 {
         return false;
     }
     let class = snapshot.class(0);
     class.name.as_bytes() == b"f1".as_slice()
         && class.class.as_bytes() == b"default".as_slice()
-        && is_the_path(snapshot.graph(0))
+        && is_the_path(alloc, snapshot.graph(0))
 }
 
 /// Whether a text writes that snapshot.
@@ -61,7 +104,7 @@ struct Path<'a> {
 impl Question for Path<'_> {
     fn is_so(&self, alloc: Global, locations: &Locations) -> bool {
         match decoded(alloc, self.text, locations) {
-            Ok(snapshot) => is_read(&snapshot),
+            Ok(snapshot) => is_read(alloc, &snapshot),
             Err(_) => false,
         }
     }

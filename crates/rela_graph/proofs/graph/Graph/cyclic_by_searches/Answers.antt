@@ -16,7 +16,7 @@ loop-n-preserved c = record {
       c.in_ok-returns_to.ensures);
 }
 
-count_is : (c : goal.After-drop-labels-2) → length c.loop-n.cyclic.items ≡ length c.args.self.now.nodes
+count_is : (c : goal.After-loop-n) → length c.loop-n.cyclic.items ≡ length c.args.self.now.nodes
 count_is c = let nodes = ap length c.nodes-count.ensures.nodes in let len = c.loop-n.invariant.len in let over = c.loop-n-test.false in let end = c.loop-n.auto.n-end in omega arith
 
 pub returns-clause-nodes : goal.returns-clause-nodes

@@ -6,7 +6,7 @@ pub loop-done-init : goal.loop-done-init
 loop-done-init c = record {
   done = omega arith;
   count = refl;
-  spreads = spread_none c.args.self.now c.args.labels.now c.args.label c.args.set.now.nodes;
+  spreads = spread_none c.args.self.now c.args.set.now.nodes;
 }
 
 pub loop-done-preserved : goal.loop-done-preserved
@@ -17,11 +17,11 @@ loop-done-preserved c =
       done = let grown = added_length nodes c.add_next.new.set.nodes c.in_ok-add_next.ensures.adds in omega arith;
       count = search rules;
       spreads =
-          spread_more c.args.self.now c.args.labels.now c.args.label c.args.set.now.nodes c.loop-done.done nodes c.add_next.new.set.nodes _
+          spread_more c.args.self.now c.args.set.now.nodes c.loop-done.done nodes c.add_next.new.set.nodes _
           c.loop-done.invariant.spreads within (ap (λ l. get_or l c.loop-done.done 0) c.members-in-loop-done.ensures.members) c.in_ok-add_next.ensures.adds;
     }
 
 pub returns-clause-spreads : goal.returns-clause-spreads
 returns-clause-spreads c =
-    spread_all c.args.self.now c.args.labels.now c.args.label c.args.set.now.nodes c.loop-done.done c.loop-done.set.nodes c.loop-done.invariant.spreads
+    spread_all c.args.self.now c.args.set.now.nodes c.loop-done.done c.loop-done.set.nodes c.loop-done.invariant.spreads
     (rw c.members.ensures.members at c.loop-done-test.false)

@@ -6,7 +6,7 @@ abbrev pub invariant-loop-done : goal.invariant-loop-done
 invariant-loop-done l = record {
   done : l.done ≤ length l.set.nodes;
   count : l.set.count ≡ l.fn.set.count;
-  spreads : Spreads l.self l.labels l.label l.done l.fn.set.nodes l.set.nodes;
+  spreads : Spreads l.self l.done l.fn.set.nodes l.set.nodes;
 }
 
 abbrev pub decreases-loop-done : goal.decreases-loop-done
