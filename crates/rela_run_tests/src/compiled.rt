@@ -10,9 +10,10 @@ use rela_engine::{Compiled, compile};
 use rela_labels::WideSet;
 use rela_locations::Locations;
 use rela_names::{Alphabet, Level};
+use rela_nfa::{BuildError, Nfa};
 use rela_rir::SymbolSet;
 use rela_top::read_asked;
-use rela_trans::Transducer;
+use rela_trans::{Transducer, are_letters, image};
 use rela_translate::Check;
 use std::alloc::Global;
 
@@ -89,9 +90,25 @@ pub(crate) fn are_listed(sets: &[SymbolSet], alphabet: &Alphabet) -> bool
     sets.iter().all(|set| is_listed(set, alphabet))
 }
 
-/// Whether the relation has the pair of words, where there is memory to tell.
+/// Whether the automaton accepts the word, where it was made, and `None` where it wasn't or there
+/// is no memory to tell.
+fn accepts(alloc: Global, made: Result<Nfa<WideSet>, BuildError>, word: &[u32]) -> Option<bool> {
+    match made {
+        Ok(nfa) => nfa.accepts(alloc, word).ok(),
+        Err(_) => None,
+    }
+}
+
+/// Whether the relation has the pair of words: whether the image of the first word has the second.
+/// `None` where a number that is read is no letter, or there is no memory to tell.
 fn has(alloc: Global, relation: &Transducer<WideSet>, u: &[u32], v: &[u32]) -> Option<bool> {
-    relation.relates(alloc, u, v).ok()
+    if !are_letters(u, relation.letters()) {
+        return None;
+    }
+    match Nfa::word(alloc, relation.letters(), u) {
+        Ok(word) => accepts(alloc, image(alloc, &word, relation, 1_000), v),
+        Err(_) => None,
+    }
 }
 
 /// A check that asks for no change.

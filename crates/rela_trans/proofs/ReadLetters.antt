@@ -23,12 +23,6 @@ module _ (letters : ℕ) where
   one_letter : (set : List Bool) (w : List ℕ) → length set ≡ letters → IsSymbolOf (λ k. k) set w → AreLetters w
   one_letter set w size (s, among, e) = subst AreLetters (sym e) (All-cons (λ k. k < letters) s [] (omega (arith, has_below set s among, size)) (All-nil (λ k. k < letters)))
 
-  read_letters : (kind : Kind) (input output : List ℕ) → IsSized letters kind → Does (λ k. k) kind input output → AreLetters input
-  read_letters Silent input output size does = no_letter input does.0
-  read_letters (In set) input output size does = one_letter set input size does.0
-  read_letters (Out set) input output size does = no_letter input does.0
-  read_letters (Same set) input output size does = one_letter set input size does.0
-
   written_letters : (kind : Kind) (input output : List ℕ) → IsSized letters kind → Does (λ k. k) kind input output → AreLetters output
   written_letters Silent input output size does = no_letter output does.1
   written_letters (In set) input output size does = no_letter output does.1
@@ -39,13 +33,6 @@ module _ (t : Machine) (ok : IsMachine t) where
   sized_step : (p q : ℕ) (input output : List ℕ) (step : HasStep (λ k. k) t p input output q) → IsSized t.letters step.0
   sized_step p q input output step =
       (All-contains (IsMove t.letters (machine_states t)) (moves_of t p) (record { kind = step.0; to = q }) (moves_ok t ok p) step.1).sized
-
-  pub related_letters : (u v : List ℕ) → Relates (λ k. k) t u v → All (λ k. k < t.letters) u
-  related_letters u v (q, reach, final) =
-      reach_each (λ k. k) t (λ q u v. All (λ k. k < t.letters) u)
-      (λ p q u v input output reach before step.
-      All-append (λ k. k < t.letters) u input before (read_letters t.letters step.0 input output (sized_step p q input output step) step.2))
-      (All-nil (λ k. k < t.letters)) q u v reach
 
   pub related_letters_written : (u v : List ℕ) → Relates (λ k. k) t u v → All (λ k. k < t.letters) v
   related_letters_written u v (q, reach, final) =

@@ -1,4 +1,4 @@
-//! Images of automata under transducers, and whether a pair of words is related.
+//! Images of automata under transducers.
 ghost use Rattle.std.specs.Prelude.{◌≡◌, ◌≢◌, ℕ, ◌<◌, ◌≤◌, ◌↔◌, List, IsTrue, IfOk, IfErr, map};
 ghost use Rattle.std.specs.List.{All};
 ghost use Rattle.rela_nfa.specs.Automaton.{states};
@@ -15,7 +15,7 @@ use crate::transducer::Transducer;
 use rela_labels::LabelSet;
 use rela_nfa::Nfa;
 use rela_pairs::{BuildError, Pair, explore};
-use std::alloc::{AllocError, Global};
+use std::alloc::Global;
 
 /// The words that the transducer writes where it reads a word of the automaton, the source. Each
 /// state is a pair of states that some source leads to, and is reached by just the words that are
@@ -70,24 +70,4 @@ pub fn are_letters(word: &[u32], letters: u32) -> bool
     ensures { IsTrue result ↔ All (λ k. k < letters) word.now }
 {
     word.iter().all(|k| *k < letters)
-}
-
-impl<L: LabelSet> Transducer<L> {
-    /// Whether the pair of words of letters is related: `u` is read, and `v` is written. None is
-    /// with a number that is no letter. Time: that of the [`image`] of the word `u` and of
-    /// accepting `v` by it, so at most linear in the product of the words' lengths and the size of
-    /// the transducer, in set operations; space: that of the image.
-    pub fn relates(&self, alloc: Global, u: &[u32], v: &[u32]) -> Result<bool, AllocError>
-        ensures { IfOk result (λ related. IsTrue related ↔ Relates (λ k. k) self.now u.now v.now) }
-    {
-        if !are_letters(u, self.letters()) {
-            return Ok(false);
-        }
-        let word = Nfa::word(alloc, self.letters(), u)?;
-        match image(alloc, &word, self, usize::MAX) {
-            Ok(written) => written.accepts(alloc, v),
-            // With the greatest limit memory is the only error.
-            Err(_) => Err(AllocError),
-        }
-    }
 }
