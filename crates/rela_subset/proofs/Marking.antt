@@ -1,10 +1,10 @@
 -- States that are marked, and stand in a list.
-use Rattle.std.proofs.Common.{◌≡◌, ℕ, ◌<◌, inl, inr, false, true, Bool, List, [], ◌∷◌, ◌++◌, length, get_or, set, replicate, eqb, sym, ◌∙◌}
+use Rattle.std.proofs.Common.{◌≡◌, ℕ, ◌<◌, inl, inr, false, true, Bool, List, [], ◌∷◌, ◌++◌, length, get_or, set, replicate, eqb, sym, ◌∙◌, arith}
 use Rattle.std.specs.List.{Contains, IsDistinct, list_any}
 use Rattle.std.specs.List.Sorted.{IsNonDecreasing, IsPermutation}
 use Rattle.std.proofs.lemmas.Bool.{cases_Bool, false≢true}
 use Rattle.std.proofs.lemmas.Cmp.{nat_eq_equiv}
-use Rattle.std.proofs.lemmas.List.Sorted.{Contains-permutation, IsPermutation-sym}
+use Rattle.std.proofs.lemmas.List.Sorted.{Contains-permutation, IsPermutation-sym, length_permutation}
 use Rattle.std.proofs.lemmas.Map.Keys.{IsDistinct-IsPermutation, IsDistinct-push, IsStrictlyIncreasing-from_distinct, sorted_from_strictly_increasing}
 use Rattle.std.proofs.lemmas.Map.Views.{Contains-from_any}
 use borrow.Author.Tests.{eqb-true}
@@ -33,4 +33,17 @@ pub lists_marked : (flags : List Bool) (states set : List ℕ) → AreMarked fla
 lists_marked flags states set marked moved rising = record {
   ordered = sorted_from_strictly_increasing set (IsStrictlyIncreasing-from_distinct set rising (IsDistinct-IsPermutation eqb nat_eq_equiv.symm states set moved marked.distinct));
   members = λ q. (Contains-permutation set states q (IsPermutation-sym states set moved), Contains-permutation states set q moved);
+}
+
+-- the same states in another order
+pub marked_moved : (flags : List Bool) (states moved : List ℕ) → AreMarked flags states → IsPermutation states moved → AreMarked flags moved
+marked_moved flags states moved marked is = record {
+  flagged = record {
+    set = λ n. (
+      λ flag. Contains-permutation states moved n is ((marked.flagged.set n).0 flag),
+      λ there. (marked.flagged.set n).1 (Contains-permutation moved states n (IsPermutation-sym states moved is) there),
+    );
+    once = let same = length_permutation states moved is in omega (arith, marked.flagged.once, same);
+  };
+  distinct = IsDistinct-IsPermutation eqb nat_eq_equiv.symm states moved is marked.distinct;
 }

@@ -5,7 +5,7 @@ use Rattle.std.specs.Option.{ForSome, option_map}
 use Rattle.std.specs.List.Sorted.{IsNonDecreasingBy}
 use Rattle.std.proofs.lemmas.List.{append-nil, get_or-map, length-map, take_all, take_more}
 use Rattle.std.proofs.lemmas.List.Concat.{flat_map-append}
-use Rattle.std.proofs.lemmas.List.Elements.{All-contains}
+use Rattle.std.proofs.lemmas.List.Elements.{All-contains, All-nil}
 use Rattle.rela_labels.specs.Letters.{has}
 use Rattle.rela_labels.proofs.LettersOfWords.{has_below}
 use Rattle.rela_nfa.specs.Automaton.{Automaton, IsAutomaton, IsMove, Move, moves_of, states}
@@ -19,6 +19,7 @@ use Rattle.rela_subset.specs.Sets.{Lists, NextFrom, SilentlyFrom, StepFrom}
 use Rattle.rela_subset.specs.Splitting.{Splitting}
 use Rattle.rela_subset.specs.declared.letter_edge.LetterEdge.{LetterEdge}
 use Rattle.rela_subset.proofs.Following.{lists_same, next_from}
+use Rattle.rela_subset.proofs.Targets.{Contains-nil}
 use Rattle.rela_subset.proofs.SortingOut.{all_among, contains_flat, step_flat, step_sorted}
 
 pub moves_more : (a : Automaton) (set : List ℕ) (i : ℕ) → i < length set → moves_from a (take (i + 1) set) ≡ moves_from a (take i set) ++ moves_of a (get_or set i 0)
@@ -56,6 +57,22 @@ module _ (a : Automaton) (ok : IsAutomaton a) (set : List ℕ) (below : All (λ 
     lead = all_among (λ edge. edge.to < states a) singles (λ edge c. let (label, alone, among) = sorted.single edge.letter edge.to c in (moves_are _ among).leads);
     moves = all_among (IsMove a.letters (states a)) others (λ move c. moves_are move (sorted.other move c));
   }
+
+-- no edges
+pub none_sorted : (singles : List LetterEdge) (others : List Move) → singles ≡ [] → others ≡ [] → AreSortedOut [] singles others
+none_sorted singles others no_singles no_others =
+    subst (λ es. AreSortedOut [] es others) (sym no_singles) (subst (λ ms. AreSortedOut [] [] ms) (sym no_others) (record {
+      each = λ move among. absurd (Contains-nil move among);
+      single = λ letter q among. absurd (Contains-nil _ among);
+      other = λ move among. absurd (Contains-nil move among);
+    }))
+
+pub none_held : (a : Automaton) → IsAutomaton a → (singles : List LetterEdge) (others : List Move) → singles ≡ [] → others ≡ [] → AreHeld a singles others
+none_held a ok singles others no_singles no_others =
+    held a ok [] (All-nil (λ q. q < states a)) singles others (none_sorted singles others no_singles no_others) (subst (λ es. IsNonDecreasingBy (λ (edge : LetterEdge). edge.letter) es) (sym no_singles) none_rising)
+  where
+    none_rising : IsNonDecreasingBy (λ (edge : LetterEdge). edge.letter) []
+    none_rising i j edge before below = absurd (omega (arith, below))
 
 -- the edges by the letter lead to states of the automaton
 pub run_leads : (states letter : ℕ) (singles run : List LetterEdge) → All (λ edge. edge.to < states) singles → ((q : ℕ) → HasEnd singles letter q ↔ ((k : ℕ) × HasEnd run k q))

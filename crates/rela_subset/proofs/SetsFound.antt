@@ -1,11 +1,14 @@
 -- Sets that are numbered as they are found.
-use Rattle.std.proofs.Common.{◌≡◌, ℕ, ◌+◌, ◌<◌, ◌⊎◌, Bool, true, cond, ◌&&◌, nat_eq, List, [], ◌∷◌, ◌++◌, length, get_or, map, Some, refl, sym, ap, ◌∙◌, inl, inr, arith}
+use Rattle.std.proofs.Common.{◌≡◌, ◌≢◌, ℕ, ◌+◌, ◌<◌, ◌⊎◌, Bool, true, false, cond, ◌&&◌, nat_eq, List, [], ◌∷◌, ◌++◌, length, get_or, map, Option, None, Some, refl, sym, ap, subst, ◌∙◌, inl, inr, arith}
 use Rattle.std.specs.Cmp.Lexicographic.{pointwise}
 use Rattle.std.specs.declared.vec.Vec.{Vec}
-use Rattle.std.specs.List.{IsDistinct, list_any, slice_get}
+use Rattle.std.specs.List.{IsDistinct, list_any, position, slice_get}
+use Rattle.std.specs.Option.{is_some}
 use Rattle.indexmap.specs.IndexSet.{insert_key}
 use Rattle.std.proofs.lemmas.Bool.{cases_Bool, cases_lt, false≢true}
-use Rattle.std.proofs.lemmas.List.{get_or-map, get_or_push, length_push, map_push, length-map}
+use Rattle.std.proofs.lemmas.List.{get_or-map, get_or_append_left, get_or_push, length_push, map_push, length-map}
+use Rattle.std.proofs.lemmas.List.Folds.{list_any_at}
+use Rattle.std.proofs.lemmas.List.Quantifiers.{position-Some}
 use Rattle.std.proofs.lemmas.Map.Keys.{apart_from_distinct}
 use Rattle.std.proofs.lemmas.Map.Views.{exact_unsigned_eq}
 use Rattle.std.proofs.lemmas.Option.{get_or_from_slice_get}
@@ -71,4 +74,32 @@ module _ {A : Type 0} where
             | inr above ↦ omega arith
           ],
         )
+  ]
+
+  -- a set that is found by its states
+  pub found_at : (keys : List (Vec ℕ A)) (n : ℕ) (set : List ℕ) → position (λ k. pointwise nat_eq set k.items) keys ≡ Some n → get_or (sets_of keys) n [] ≡ set
+  found_at [] n set e = absurd (let none : None ≡ Some n = e in cc)
+  found_at (k ∷ ks) n set e =
+      let at = position-Some (λ (v : Vec ℕ A). pointwise nat_eq set v.items) (k ∷ ks) n k e in
+      get_or-map (λ (v : Vec ℕ A). v.items) (k ∷ ks) n k [] at.0 ∙ sym (same_from_pointwise set (get_or (k ∷ ks) n k).items at.1)
+
+  -- a set that isn't
+  lacking : (keys : List (Vec ℕ A)) (set : List ℕ) → list_any (λ k. pointwise nat_eq set k.items) keys ≡ false → (i : ℕ) → i < length (sets_of keys) → get_or (sets_of keys) i [] ≢ set
+  lacking [] set none i below same = absurd (omega (arith, below))
+  lacking (k ∷ ks) set none i below same =
+      let within : i < length (k ∷ ks) = omega (arith, below, length-map (k ∷ ks) (λ (v : Vec ℕ A). v.items)) in
+      let is : set ≡ (get_or (k ∷ ks) i k).items = sym same ∙ get_or-map (λ (v : Vec ℕ A). v.items) (k ∷ ks) i k [] within in
+      false≢true (sym none ∙ list_any_at (λ (v : Vec ℕ A). pointwise nat_eq set v.items) (k ∷ ks) i k within (subst (λ s. pointwise nat_eq set s ≡ true) is (pointwise_same set)))
+
+  pub distinct_more : (keys : List (Vec ℕ A)) (sets : List (List ℕ)) (set : List ℕ) (found : Option ℕ) → sets_of keys ≡ sets → AreDistinct sets → is_some found ≡ list_any (λ k. pointwise nat_eq set k.items) keys
+      → ((n : ℕ) → ¬ (found ≡ Some n)) → AreDistinct (sets ++ set ∷ [])
+  distinct_more keys sets set (Some n) are distinct known none i j below within = absurd (none n refl)
+  distinct_more keys sets set None are distinct known none i j below within = elim (cases_lt j (length sets)) [
+    | inl old ↦ λ same. distinct i j below old
+        (sym (get_or_append_left sets (set ∷ []) [] i (omega (arith, below, old))) ∙ same ∙ get_or_append_left sets (set ∷ []) [] j old)
+    | inr last ↦
+        let here : j ≡ length sets = let len = length_push sets set in omega (arith, within, last, len) in
+        let first : i < length sets = omega (arith, below, here) in
+        λ same. lacking keys set (sym known) i (omega (arith, first, ap length are))
+        (ap (λ l. get_or l i []) are ∙ sym (get_or_append_left sets (set ∷ []) [] i first) ∙ same ∙ get_or_push sets set [] j (sym here))
   ]

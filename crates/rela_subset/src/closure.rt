@@ -11,21 +11,20 @@ ghost use Rattle.rela_subset.specs.Sets.{Lists, SilentlyFrom};
 use crate::visited::Visited;
 use rela_labels::LabelSet;
 use rela_nfa::{Edge, Nfa};
-use std::alloc::{AllocError, Global};
+use std::alloc::AllocError;
 
-/// The states that silent edges lead to from the starts, which are among them, in ascending order.
-/// The walk, in `visited`, looks once at each edge out of these states, and the states are then
-/// sorted. Space: the result alone, once `visited` has room.
+/// Visits the states that silent edges lead to from the starts, which are among them, and puts them
+/// in ascending order. The walk looks once at each edge out of these states. Space: none, once
+/// `visited` has room.
 pub(crate) fn closure<L: LabelSet>(
-    alloc: Global,
     a: &Nfa<L>,
     starts: &[usize],
     visited: &mut Visited,
-) -> Result<Vec<usize>, AllocError>
+) -> Result<(), AllocError>
     requires automaton { IsAutomaton a.now }
     requires states { All (λ q. q < states a.now) starts.now }
     requires count { visited.old.count ≡ states a.now }
-    ensures closure { IfOk result (λ set. Lists (SilentlyFrom a.now starts.now) set.items) }
+    ensures closure { IfOk result (λ _. Lists (SilentlyFrom a.now starts.now) visited.new.states) }
     ensures count { visited.new.count ≡ visited.old.count }
 {
     visited.clear();
@@ -33,7 +32,8 @@ pub(crate) fn closure<L: LabelSet>(
         visited.insert(*q)?;
     }
     close(a, visited)?;
-    visited.sorted(alloc)
+    visited.sort();
+    Ok(())
 }
 
 /// Puts those states behind the others that silent edges lead to from them: a breadth-first search.

@@ -13,6 +13,7 @@ use crate::bundle::Bundle;
 use crate::closure::closure;
 use crate::dfa::Dfa;
 use crate::expansion::expand;
+use crate::outgoing::Outgoing;
 use crate::state_sets::StateSets;
 use crate::visited::Visited;
 use rela_labels::LabelSet;
@@ -28,7 +29,8 @@ use std::alloc::{AllocError, Global};
 /// Time: for each set found, the edges out of its states are sorted once, and the letters are split
 /// by their labels: a block costs a few set operations, one more for each of these edges that has
 /// more than one letter, and a walk through the states that follow. Space: linear in the sets found
-/// and the edges between them. There may be exponentially many sets.
+/// and the edges between them; a set that was found before takes none. There may be exponentially
+/// many sets.
 ///
 /// # Errors
 ///
@@ -92,8 +94,9 @@ fn explore_from_start<L: LabelSet>(
     prove!(a.start() < a.states());
     let mut visited = Visited::new(alloc, a.states())?;
     let start = a.start();
-    let first = closure(alloc, a, &[start], &mut visited)?;
-    sets.number(first, limit)?;
+    closure(a, &[start], &mut visited)?;
+    let first = visited.states();
+    sets.number(alloc, first, limit)?;
     explore(alloc, a, over, sets, limit, &mut visited)
 }
 
@@ -122,11 +125,21 @@ fn explore<L: LabelSet>(
         ReachSets a.now (L.letters over.now) (limit + 1)) }
     ensures bounded { IfErr result (λ e. e ≡ BuildError.Limit → limit < 2 ^ 63) }
 {
+    let mut outgoing = Outgoing::new(alloc, a);
     let mut bundle = Bundle::new(alloc);
     let mut edges = Vec::new(alloc);
     while edges.len() < sets.len() {
         let number = edges.len();
-        let out = expand(alloc, a, over, sets, number, limit, visited, &mut bundle)?;
+        let out = expand(
+            alloc,
+            &mut outgoing,
+            over,
+            sets,
+            number,
+            limit,
+            visited,
+            &mut bundle,
+        )?;
         edges.push(out)?;
     }
     Ok(edges)

@@ -16,10 +16,12 @@ use rela_labels::LabelSet;
 use rela_nfa::{Edge, Nfa};
 use std::alloc::{AllocError, Global};
 use std::marker::Model;
+use std::mem::replace;
 
 /// The edges of an automaton out of a set of its states, but for the silent ones. Those by one
-/// letter alone are most, and stand apart, since they don't matter to any other letter. Contracts
-/// see the automaton, and the two lists of edges.
+/// letter alone are most, and stand apart, since they don't matter to any other letter. Those of
+/// one set after the other are gathered here, and the memory is kept. Contracts see the automaton,
+/// and the two lists of edges.
 #[derive(Drop)]
 pub(crate) struct Outgoing<'a, L: LabelSet> {
     /// The automaton.
@@ -48,11 +50,39 @@ impl<'a, L: LabelSet> Model for Outgoing<'a, L> {
 }
 
 impl<'a, L: LabelSet> Outgoing<'a, L> {
-    /// The edges out of the states of the set. Time: n log n in the edges.
-    pub(crate) fn new(
+    /// No edges of the automaton.
+    pub(crate) fn new(alloc: Global, a: &'a Nfa<L>) -> Outgoing<'a, L>
+        requires { IsAutomaton a.now }
+        ensures { result.automaton ≡ a.now }
+    {
+        Outgoing {
+            a,
+            singles: Vec::new(alloc),
+            others: Vec::new(alloc),
+        }
+    }
+
+    /// Gathers the edges out of the states of the set, in place of those that were there. Time:
+    /// n log n in the edges.
+    pub(crate) fn gather(&mut self, alloc: Global, set: &[usize]) -> Result<(), AllocError>
+        requires { All (λ q. q < states self.old.automaton) set.now }
+        ensures automaton { self.new.automaton ≡ self.old.automaton }
+        ensures sorted { IfOk result (λ _. AreSortedOut (moves_from self.old.automaton set.now)
+            self.new.singles self.new.others) }
+    {
+        let singles = replace(&mut self.singles, Vec::new(alloc));
+        let others = replace(&mut self.others, Vec::new(alloc));
+        *self = Outgoing::within(alloc, self.a, set, singles, others)?;
+        Ok(())
+    }
+
+    /// The edges out of the states of the set, in these vectors in place of what they have.
+    fn within(
         alloc: Global,
         a: &'a Nfa<L>,
         set: &[usize],
+        singles: Vec<LetterEdge>,
+        others: Vec<&'a Edge<L>>,
     ) -> Result<Outgoing<'a, L>, AllocError>
         requires automaton { IsAutomaton a.now }
         requires states { All (λ q. q < states a.now) set.now }
@@ -60,8 +90,10 @@ impl<'a, L: LabelSet> Outgoing<'a, L> {
         ensures sorted { IfOk result (λ out.
             AreSortedOut (moves_from a.now set.now) out.singles out.others) }
     {
-        let mut singles = Vec::new(alloc);
-        let mut others = Vec::new(alloc);
+        let mut singles = singles;
+        let mut others = others;
+        singles.clear();
+        others.clear();
         for q in set {
             sort_out(alloc, a.edges(*q), &mut singles, &mut others)?;
         }
@@ -83,26 +115,22 @@ impl<'a, L: LabelSet> Outgoing<'a, L> {
         Blocks::new(alloc, over, &self.singles, &self.others)
     }
 
-    /// The states that follow by the letter, with those that silent edges then lead to, in
-    /// ascending order. Time: two binary searches, a look at each edge by this letter alone, at
+    /// Visits the states that follow by the letter, with those that silent edges then lead to, and
+    /// puts them in ascending order. Time: two binary searches, a look at each edge by this letter alone, at
     /// each by more than one and at each silent edge on the way, and a sort of the states.
-    pub(crate) fn following(
-        &self,
-        alloc: Global,
-        letter: u32,
-        visited: &mut Visited,
-    ) -> Result<Vec<usize>, AllocError>
+    pub(crate) fn following(&self, letter: u32, visited: &mut Visited) -> Result<(), AllocError>
         requires count { visited.old.count ≡ states self.now.automaton }
-        ensures following { IfOk result (λ next. (set : List ℕ) →
+        ensures following { IfOk result (λ _. (set : List ℕ) →
             AreSortedOut (moves_from self.now.automaton set) self.now.singles self.now.others
-            → Lists (NextFrom self.now.automaton set letter) next.items) }
+            → Lists (NextFrom self.now.automaton set letter) visited.new.states) }
         ensures count { visited.new.count ≡ visited.old.count }
     {
         visited.clear();
         insert_singles(visited, edges_by(&self.singles, letter))?;
         insert_others(visited, &self.others, letter)?;
         close(self.a, visited)?;
-        visited.sorted(alloc)
+        visited.sort();
+        Ok(())
     }
 }
 

@@ -9,6 +9,7 @@ ghost use Rattle.rela_subset.specs.Subsets.{IsUnwantedWord, IsWantedWord, ReachS
 
 use crate::arrival::Arrival;
 use crate::closure::closure;
+use crate::outgoing::Outgoing;
 use crate::spreading::spread;
 use crate::state_sets::StateSets;
 use crate::visited::Visited;
@@ -86,8 +87,9 @@ fn search_from_start<L: LabelSet, W: Wanted>(
     prove!(a.start() < a.states());
     let start = a.start();
     let mut visited = Visited::new(alloc, a.states())?;
-    let first = closure(alloc, a, &[start], &mut visited)?;
-    sets.number(first, limit)?;
+    closure(a, &[start], &mut visited)?;
+    let first = visited.states();
+    sets.number(alloc, first, limit)?;
     search(alloc, a, over, wanted, sets, arrivals, limit, &mut visited)
 }
 
@@ -123,10 +125,20 @@ fn search<L: LabelSet, W: Wanted>(
     if let Some(found) = first_wanted(wanted, sets, 0) {
         return Ok(Some(found));
     }
+    let mut outgoing = Outgoing::new(alloc, a);
     let mut number = 0;
     while number < sets.len() {
         let known = sets.len();
-        spread(alloc, a, over, sets, arrivals, number, limit, visited)?;
+        spread(
+            alloc,
+            &mut outgoing,
+            over,
+            sets,
+            arrivals,
+            number,
+            limit,
+            visited,
+        )?;
         if let Some(found) = first_wanted(wanted, sets, known) {
             return Ok(Some(found));
         }

@@ -53,25 +53,37 @@ impl StateSets {
         self.sets.as_slice()[number].as_slice()
     }
 
-    /// The number of the set, which is put behind the others where it isn't among them. `Limit`
-    /// where there are then more than `limit`, and `Memory` where there isn't memory for it. Time:
-    /// linear in the set, in expectation.
-    pub(crate) fn number(&mut self, set: Vec<usize>, limit: usize) -> Result<usize, BuildError>
+    /// The number of the set, a copy of which is put behind the others where it isn't among them.
+    /// `Limit` where it isn't and there are `limit` already, and `Memory` where there isn't memory
+    /// for it: neither puts anything in. Time: linear in the set, in expectation. A set that is
+    /// among them takes no memory.
+    pub(crate) fn number(
+        &mut self,
+        alloc: Global,
+        set: &[usize],
+        limit: usize,
+    ) -> Result<usize, BuildError>
         requires { length self.old ≤ limit }
-        ensures at { IfOk result (λ number. slice_index_or self.new number [] ≡ set.items) }
+        ensures at { IfOk result (λ number. slice_index_or self.new number [] ≡ set.now) }
         ensures within { IfOk result (λ number. number < length self.new) }
         ensures few { IfOk result (λ _. length self.new ≤ limit) }
         ensures grown { IfOk result (λ number. (self.new ≡ self.old)
-            ⊎ ((self.new ≡ self.old ++ set.items ∷ []) × (number ≡ length self.old))) }
-        ensures limit { IfErr result (λ e. e ≡ BuildError.Limit →
-            (self.new ≡ self.old ++ set.items ∷ []) × (length self.new ≡ limit + 1)) }
+            ⊎ ((self.new ≡ self.old ++ set.now ∷ []) × (number ≡ length self.old))) }
+        ensures unchanged { IfErr result (λ _. self.new ≡ self.old) }
+        ensures limit { IfErr result (λ e. e ≡ BuildError.Limit → length self.old ≡ limit) }
+        ensures lacking { IfErr result (λ e. e ≡ BuildError.Limit →
+            AreDistinct (self.old ++ set.now ∷ [])) }
+        ensures memory { IfErr result (λ e. e ≡ BuildError.Memory → length self.old < limit) }
         ensures bounded { IfErr result (λ e. e ≡ BuildError.Limit → limit < 2 ^ 63) }
-        ensures distinct { AreDistinct self.new }
     {
-        let (number, _) = self.sets.insert_full(set)?;
-        if self.sets.len() > limit {
+        if let Some(number) = self.sets.get_index_of(set) {
+            return Ok(number);
+        }
+        if self.sets.len() >= limit {
             return Err(BuildError::Limit);
         }
+        let set = Vec::from_slice(alloc, set)?;
+        let (number, _) = self.sets.insert_full(set)?;
         Ok(number)
     }
 }

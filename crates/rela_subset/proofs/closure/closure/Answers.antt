@@ -1,7 +1,6 @@
 use Rattle.std.proofs.Common.{[], sym, ◌∙◌, subst}
 use Rattle.std.specs.List.{Contains}
 use Rattle.std.proofs.lemmas.List.{take_all}
-use Rattle.std.proofs.lemmas.Result.{IfOk-weaker}
 use Rattle.rela_nfa.specs.StateSet.{Adds}
 use Rattle.rela_nfa.proofs.Growing.{adds_all, adds_nothing}
 use Rattle.rela_subset.specs.Sets.{SilentlyFrom}
@@ -25,9 +24,8 @@ loop-q-preserved g c = record {
 
 pub returns-clause-closure : goal.returns-clause-closure
 returns-clause-closure g c =
-    IfOk-weaker c.sorted.result _ _
-    (λ set is. lists_same (Contains c.close.new.visited.states) (SilentlyFrom c.args.a.now c.args.starts.now) set.items
+    lists_same (Contains c.close.new.visited.states) (SilentlyFrom c.args.a.now c.args.starts.now) c.sort.new.self.states
     (silent_from c.args.a.now c.args.starts.now c.loop-q.visited.states c.close.new.visited.states
     (adds_all (Contains c.args.starts.now) c.loop-q.visited.states
     (subst (λ l. Adds (Contains l) [] c.loop-q.visited.states) (take_all c.loop-q.q-index c.args.starts.now c.loop-q-test.false) c.loop-q.invariant.adds))
-    c.in_ok-close.ensures.closed) is) c.sorted.ensures
+    c.in_ok-close.ensures.closed) c.sort.ensures.sorted

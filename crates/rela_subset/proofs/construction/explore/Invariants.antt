@@ -6,6 +6,7 @@ use Rattle.rela_subset.proofs.construction.explore.Given as goal
 abbrev pub invariant-loop-alloc : goal.invariant-loop-alloc
 invariant-loop-alloc g l = record {
   explored : IsExplored l.a (g.L.LabelSet.letters l.over) l.sets (moves_in g.L.LabelSet.letters l.edges.items);
+  same : l.outgoing.automaton ≡ l.a;
   count : l.visited.count ≡ l.fn.visited.count;
   few : length l.sets ≤ l.limit;
   none : l.bundle ≡ [];

@@ -5,6 +5,6 @@ use Rattle.rela_subset.proofs.construction.explore_from_start.Goals as goal
 
 pub explore-requires-clause-explored : goal.explore-requires-clause-explored
 explore-requires-clause-explored g c =
-    explored_start c.args.a.now (g.L.LabelSet.letters c.args.over.now) c.in_ok-first.first.items c.number.new.self
-    (first_alone c.args.sets.now c.number.new.self c.in_ok-first.first.items c.in_ok-number.field-0 c.requires.empty c.in_ok-number.ensures.within c.in_ok-number.ensures.grown)
-    (reached_start c.args.a.now c.in_ok-first.first.items (rw c.start-start.ensures.start at c.in_ok-first.ensures.closure))
+    explored_start c.args.a.now (g.L.LabelSet.letters c.args.over.now) c.states-first.result.now c.number.new.self
+    (first_alone c.args.sets.now c.number.new.self c.states-first.result.now c.in_ok-number.field-0 c.requires.empty c.in_ok-number.ensures.within c.in_ok-number.ensures.grown)
+    (reached_start c.args.a.now c.states-first.result.now (rw (c.start-start.ensures.start, ← c.states-first.ensures.states) at c.in_ok-closure.ensures.closure))

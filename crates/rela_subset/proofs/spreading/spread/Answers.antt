@@ -1,9 +1,10 @@
-use Rattle.std.proofs.Common.{◌≡◌, ℕ, ◌<◌, ◌&&◌, not, true, false, List, [], get_or, refl, sym, ◌∙◌}
+use Rattle.std.proofs.Common.{◌≡◌, ℕ, ◌<◌, ◌&&◌, not, true, false, List, [], get_or, refl, sym, subst, ◌∙◌}
 use Rattle.std.proofs.lemmas.List.{append-nil}
 use Rattle.rela_labels.specs.Letters.{has}
 use Rattle.rela_nfa.specs.Automaton.{Automaton}
 use Rattle.rela_subset.specs.Expansion.{IsAlike}
 use Rattle.rela_subset.specs.Outgoing.{AreSortedOut, moves_from}
+use Rattle.rela_subset.specs.Sets.{Lists, NextFrom}
 use Rattle.rela_subset.specs.declared.blocks.Block.{Block}
 use Rattle.rela_subset.proofs.Fewer.{fewer_left}
 use Rattle.rela_subset.proofs.OutOfSets.{next_of, some_is, sorted_in, sorted_same}
@@ -17,13 +18,13 @@ loop-blocks-init g c = record {
     letters = [];
     arrived = sym (append-nil c.args.arrivals.now.items);
     spread =
-        spread_none c.args.a.now (g.L.LabelSet.letters c.args.over.now) c.in_ok-blocks.blocks.left (get_or c.args.sets.now c.args.number []) c.args.sets.now
+        spread_none c.args.outgoing.now.automaton (g.L.LabelSet.letters c.args.over.now) c.in_ok-blocks.blocks.left (get_or c.args.sets.now c.args.number []) c.args.sets.now
         c.in_ok-blocks.ensures.left;
   };
   count = refl;
   sorted =
-      sorted_in c.args.a.now c.in_ok-outgoing.outgoing (get_or c.args.sets.now c.args.number []) c.get.result.now c.in_ok-outgoing.ensures.automaton c.get.ensures
-      c.in_ok-outgoing.ensures.sorted c.in_ok-blocks.blocks c.in_ok-blocks.ensures.singles c.in_ok-blocks.ensures.others;
+      sorted_in c.args.outgoing.now.automaton c.gather.new.self (get_or c.args.sets.now c.args.number []) c.get.result.now c.in_ok-gather.ensures.automaton c.get.ensures
+      c.in_ok-gather.ensures.sorted c.in_ok-blocks.blocks c.in_ok-blocks.ensures.singles c.in_ok-blocks.ensures.others;
 }
 
 pub loop-blocks-smaller : goal.loop-blocks-smaller
@@ -38,8 +39,8 @@ loop-blocks-smaller g c =
     let taken = some_is c.in-Some.is (λ (b : Block g.row.L.Denot). (k : ℕ) → has left k ≡ (has rest k && not (has (letters b.letters) k))) c.in_ok-block.ensures.taken in
     let alike =
     some_is c.in-Some.is (λ (b : Block g.row.L.Denot). (a : Automaton) (states : List ℕ) → AreSortedOut (moves_from a states) c.loop-blocks.blocks.singles c.loop-blocks.blocks.others
-    → IsAlike a states rest b.letter (letters b.letters)) c.in_ok-block.ensures.alike c.args.a.now set c.loop-blocks.invariant.sorted in
-    fewer_left rest block left letter c.in_ok-block.ensures.size taken member (itself c.args.a.now rest block set letter member alike)
+    → IsAlike a states rest b.letter (letters b.letters)) c.in_ok-block.ensures.alike c.args.outgoing.now.automaton set c.loop-blocks.invariant.sorted in
+    fewer_left rest block left letter c.in_ok-block.ensures.size taken member (itself c.args.outgoing.now.automaton rest block set letter member alike)
 
 pub loop-blocks-preserved : goal.loop-blocks-preserved
 loop-blocks-preserved g c =
@@ -53,18 +54,19 @@ loop-blocks-preserved g c =
     let taken = some_is c.in-Some.is (λ (b : Block g.row.L.Denot). (k : ℕ) → has left k ≡ (has rest k && not (has (letters b.letters) k))) c.in_ok-block.ensures.taken in
     let alike =
     some_is c.in-Some.is (λ (b : Block g.row.L.Denot). (a : Automaton) (states : List ℕ) → AreSortedOut (moves_from a states) c.loop-blocks.blocks.singles c.loop-blocks.blocks.others
-    → IsAlike a states rest b.letter (letters b.letters)) c.in_ok-block.ensures.alike c.args.a.now set c.loop-blocks.invariant.sorted in
+    → IsAlike a states rest b.letter (letters b.letters)) c.in_ok-block.ensures.alike c.args.outgoing.now.automaton set c.loop-blocks.invariant.sorted in
     let least = some_is c.in-Some.is (λ (b : Block g.row.L.Denot). (k : ℕ) → k < b.letter → has rest k ≡ false) c.in_ok-block.ensures.least in
-    let follows =
-    next_of c.args.a.now c.in_ok-outgoing.outgoing set c.get.result.now c.in_ok-outgoing.ensures.automaton c.get.ensures c.in_ok-outgoing.ensures.sorted
-    letter c.in_ok-next.next.items c.in_ok-next.ensures.following in
+    let reaches =
+    next_of c.args.outgoing.now.automaton c.gather.new.self set c.get.result.now c.in_ok-gather.ensures.automaton c.get.ensures c.in_ok-gather.ensures.sorted
+    letter c.following.new.visited.states c.in_ok-following.ensures.following in
+    let follows : Lists (NextFrom c.args.outgoing.now.automaton set letter) c.states-next.result.now = subst (Lists (NextFrom c.args.outgoing.now.automaton set letter)) (sym c.states-next.ensures.states) reaches in
     record {
       spreads =
-          spread_more c.args.a.now (letters c.args.over.now) rest left block set c.args.sets.now c.loop-blocks.sets c.arrive.new.sets letter c.in_ok-next.next.items
+          spread_more c.args.outgoing.now.automaton (letters c.args.over.now) rest left block set c.args.sets.now c.loop-blocks.sets c.arrive.new.sets letter c.states-next.result.now
           member least alike taken follows
           c.args.number c.args.arrivals.now.items c.loop-blocks.arrivals.items c.arrive.new.arrivals.items c.loop-blocks.invariant.spreads c.in_ok-arrive.ensures.arrived;
-      count = c.in_ok-next.ensures.count ∙ c.loop-blocks.invariant.count;
+      count = c.in_ok-following.ensures.count ∙ c.loop-blocks.invariant.count;
       sorted =
-          sorted_same (moves_from c.args.a.now set) c.loop-blocks.blocks.singles c.next.new.self.singles c.loop-blocks.blocks.others c.next.new.self.others
+          sorted_same (moves_from c.args.outgoing.now.automaton set) c.loop-blocks.blocks.singles c.next.new.self.singles c.loop-blocks.blocks.others c.next.new.self.others
           c.in_ok-block.ensures.singles c.in_ok-block.ensures.others c.loop-blocks.invariant.sorted;
     }

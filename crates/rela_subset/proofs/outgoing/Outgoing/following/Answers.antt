@@ -1,6 +1,5 @@
 use Rattle.std.proofs.Common.{Bor, ℕ, ◌↔◌, ◌<◌, List, Some, map, sym, ap, ◌∙◌, subst}
 use Rattle.std.specs.List.{All}
-use Rattle.std.proofs.lemmas.Result.{IfOk-weaker}
 use Rattle.rela_nfa.specs.Automaton.{states}
 use Rattle.rela_nfa.specs.Runs.{StepIn}
 use Rattle.rela_nfa.specs.StateSet.{Adds}
@@ -28,13 +27,12 @@ insert_others-requires g c =
 pub returns-clause-following : goal.returns-clause-following
 returns-clause-following g c =
     let letters = g.L.LabelSet.letters in
-    IfOk-weaker c.sorted.result _ _ (λ next is.
-    subst (λ (s : Sorted). (set : List ℕ) → AreSortedOut (moves_from s.automaton set) s.singles s.others → Lists (NextFrom s.automaton set c.args.letter) next.items) c.self.view_is
+    subst (λ (s : Sorted). (set : List ℕ) → AreSortedOut (moves_from s.automaton set) s.singles s.others → Lists (NextFrom s.automaton set c.args.letter) c.sort.new.self.states) c.self.view_is
     (λ set sorted.
     followers c.self.inside.a.now set c.args.letter c.self.inside.singles.items c.edges_by.result.now (map (λ edge. move_of letters edge.now) c.self.inside.others.items)
-    c.clear.new.self.states c.insert_singles.new.visited.states c.insert_others.new.visited.states c.close.new.visited.states next.items c.clear.ensures.none
+    c.clear.new.self.states c.insert_singles.new.visited.states c.insert_others.new.visited.states c.close.new.visited.states c.sort.new.self.states c.clear.ensures.none
     (subst (λ (es : List LetterEdge). (q : ℕ) → HasEnd es c.args.letter q ↔ ((k : ℕ) × HasEnd c.edges_by.result.now k q)) c.deref.ensures.value c.edges_by.ensures)
     c.in_ok-insert_singles.ensures.adds
     (subst (λ (es : List (Bor (Edge g.row.L.Denot))). Adds (StepIn (map (λ edge. move_of letters edge.now) es) (Some c.args.letter)) c.insert_singles.new.visited.states c.insert_others.new.visited.states)
     c.deref-2.ensures.value c.in_ok-insert_others.ensures.adds)
-    c.in_ok-close.ensures.closed is sorted)) c.sorted.ensures
+    c.in_ok-close.ensures.closed c.sort.ensures.sorted sorted)

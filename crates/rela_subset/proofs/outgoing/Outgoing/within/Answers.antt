@@ -1,9 +1,12 @@
-use Rattle.std.proofs.Common.{map}
+use Rattle.std.proofs.Common.{ap, map}
 use Rattle.rela_nfa.specs.Stored.{move_of}
 use Rattle.rela_subset.specs.Outgoing.{moves_from}
-use Rattle.rela_subset.proofs.OutOfSets.{held, sorted_all, sorted_more}
+use Rattle.rela_subset.proofs.OutOfSets.{held, none_sorted, sorted_all, sorted_more}
 use Rattle.rela_subset.proofs.SortingOut.{sorted_permuted}
-use Rattle.rela_subset.proofs.outgoing.Outgoing.new.Goals as goal
+use Rattle.rela_subset.proofs.outgoing.Outgoing.within.Goals as goal
+
+pub loop-q-init : goal.loop-q-init
+loop-q-init g c = none_sorted c.clear.new.self.items _ c.clear.ensures.items (ap (map (λ edge. move_of g.L.LabelSet.letters edge.now)) c.clear-2.ensures.items)
 
 pub loop-q-preserved : goal.loop-q-preserved
 loop-q-preserved g c =
