@@ -282,14 +282,14 @@ impl<'a> Compiled<'a> {
     }
 
     /// Whether only paths that come new offend, and not those that are missing.
-    pub fn at_most(&self) -> bool
+    pub(crate) fn at_most(&self) -> bool
         ensures { result ≡ self.now.check.at_most }
     {
         self.check.at_most()
     }
 
     /// The number of locations of its level.
-    pub fn locations(&self) -> u32
+    pub(crate) fn locations(&self) -> u32
         ensures { result ≡ self.now.locations }
     {
         self.locations

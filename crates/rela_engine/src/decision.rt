@@ -58,33 +58,13 @@ macro_rules! by_width {
 /// alone.
 ///
 /// The alphabet is the one that the check was compiled with, and the nodes of both graphs stand at
-/// its locations. The only error is want of memory.
+/// its locations. The automata of the flow's paths are taken from `letters` where those of the check's
+/// level are there, and else made by `maker`, which is of the same alphabet, and kept there for the
+/// checks that follow. The only error is want of memory.
 ///
-/// Time and space: linear in the symbols, and in the nodes and edges of the flow; where the two
-/// graphs don't look the same, or the check doesn't treat both sides alike, also those of two images
-/// and of their comparison, each of which makes at most `states` states, at most twice.
-pub fn decide_compiled(
-    alloc: Global,
-    compiled: &Compiled<'_>,
-    pair: &FlowPair,
-    alphabet: &Alphabet,
-) -> Result<Row, AllocError>
-    requires alphabet { length alphabet.now ≡ compiled.now.locations }
-    requires located { IsPairLocated alphabet.now compiled.now.check.level pair.now }
-    ensures { IfOk result (RowOf compiled.now.check (length alphabet.now)
-        (paths_of compiled.now.check.level alphabet.now pair.now.before pair.now.after)
-        compiled.now.states) }
-{
-    let maker = LetterPaths::new(alloc, alphabet)?;
-    let mut letters = FlowLetters::new();
-    decide_with_letters(alloc, compiled, pair, alphabet, &maker, &mut letters)
-}
-
-/// The row of a compiled check for a flow, as [`decide_compiled`] gives it. The automata of the
-/// flow's paths are taken from `letters` where those of the check's level are there, and else made by
-/// `maker`, which is of the same alphabet, and kept there for the checks that follow.
-///
-/// Time and space: those of [`decide_compiled`], without a step for each symbol.
+/// Time and space: linear in the nodes and edges of the flow and in the blocks; where the two graphs
+/// don't look the same, or the check doesn't treat both sides alike, also those of two images and of
+/// their comparison, each of which makes at most `states` states, at most twice.
 pub fn decide_with_letters(
     alloc: Global,
     compiled: &Compiled<'_>,
