@@ -1,55 +1,29 @@
 //! The row of a check for a flow.
-ghost use Rattle.std.specs.Prelude.{◌≡◌, ℕ, ◌+◌, ◌<◌, ◌≤◌, List, IfOk, IfErr, IsTrue, All, length, map};
+ghost use Rattle.std.specs.Prelude.{◌≡◌, ℕ, ◌<◌, List, IfOk, IsTrue, All, length, map};
 ghost use Rattle.rela_build.specs.Reading.{read_by};
-ghost use Rattle.rela_compare.specs.Comparison.{ReachPairsBefore};
 ghost use Rattle.rela_graph.specs.Paths.{Paths};
 ghost use Rattle.rela_graph.specs.Topology.{symbol_at};
 ghost use Rattle.rela_labels.specs.Partition.{block_count, block_of};
 ghost use Rattle.rela_names.specs.Alphabet.{path_symbols};
-ghost use Rattle.rela_nfa.specs.Runs.{Accepts};
 ghost use Rattle.rela_restriction.specs.Excess.{IsReadAs};
 ghost use Rattle.rela_snapshot.specs.PairsLocated.{IsPairLocated};
-ghost use Rattle.rela_translate.specs.Verdict.{Meets, Offends};
-ghost use Rattle.rela_engine.specs.Case.{IsCase, IsRight};
-ghost use Rattle.rela_engine.specs.Compilation.{AreRelations};
+ghost use Rattle.rela_translate.specs.Verdict.{Meets};
 ghost use Rattle.rela_engine.specs.Differing.{path_symbols_of};
 ghost use Rattle.rela_engine.specs.FlowLetters.{AreLettersOf};
-ghost use Rattle.rela_engine.specs.RowOf.{MayBeOpen, RowOf, words_of};
+ghost use Rattle.rela_engine.specs.RowOf.{RowOf};
 ghost use Rattle.rela_engine.specs.Scenes.{paths_of};
-ghost use Rattle.rela_engine.specs.Seen.{AreFiner};
-ghost use Rattle.rela_engine.specs.ToldSides.{HasSources, TellsOfSides, TellsOnSide};
 
-use crate::by_letters::row_by_letters;
-use crate::case::Case;
+use crate::by_automata::row_by_automata;
 use crate::compiled::Compiled;
-use crate::finer_blocks::{finer_blocks, push_locations};
+use crate::finer_blocks::push_locations;
 use crate::flow_letters::FlowLetters;
-use crate::offence::{Offence, first_offence};
-use crate::relations::Relations;
-use crate::seen::{Form, Seen, see};
-use crate::witnesses::violated_row;
 use rela_graph::{Graph, Node};
-use rela_labels::{BlockSet, LabelSet, Partition, WideSet};
+use rela_labels::Partition;
 use rela_letter_paths::LetterPaths;
 use rela_names::{Alphabet, Level, Symbol};
-use rela_nfa::BuildError;
-use rela_report::{Row, Side};
+use rela_report::Row;
 use rela_snapshot::FlowPair;
 use std::alloc::{AllocError, Global};
-
-/// The function at the narrowest sets of letters that hold so many blocks. Above 1,024 blocks these
-/// are wide ones, since most labels of so large an automaton have one letter alone, which takes no
-/// memory on the heap there.
-macro_rules! by_width {
-    ($blocks:expr, $row:ident($($argument:expr),*)) => {
-        match $blocks {
-            0..=64 => $row::<BlockSet<1>>($($argument),*),
-            65..=256 => $row::<BlockSet<4>>($($argument),*),
-            257..=1024 => $row::<BlockSet<16>>($($argument),*),
-            _ => $row::<WideSet>($($argument),*),
-        }
-    };
-}
 
 /// The row of a compiled check for a flow: whether the flow's paths before and after the change have
 /// the same image, and if not the first word in shortlex order that tells, with its first source. It
@@ -176,247 +150,4 @@ fn blocks_of_each(
         found.push(blocks.block_of(*s))?;
     }
     Ok(found)
-}
-
-/// The row, by automata over blocks of symbols in which the locations of the flow's nodes stand
-/// alone.
-fn row_by_automata(
-    alloc: Global,
-    compiled: &Compiled<'_>,
-    relations: &Relations,
-    pair: &FlowPair,
-    alphabet: &Alphabet,
-    maker: &LetterPaths,
-    letters: &mut FlowLetters,
-) -> Result<Row, AllocError>
-    requires alphabet { length alphabet.now ≡ compiled.now.locations }
-    requires located { IsPairLocated alphabet.now compiled.now.check.level pair.now }
-    requires relations { AreRelations compiled.now relations.now }
-    requires maker { maker.now ≡ path_symbols alphabet.now }
-    requires letters { AreLettersOf alphabet.now pair.now letters.old }
-    ensures row { IfOk result (RowOf compiled.now.check (length alphabet.now)
-        (paths_of compiled.now.check.level alphabet.now pair.now.before pair.now.after)
-        compiled.now.states) }
-    ensures letters { AreLettersOf alphabet.now pair.now letters.new }
-{
-    let blocks = finer_blocks(
-        alloc,
-        compiled.blocks(),
-        compiled.locations(),
-        compiled.level(),
-        &pair.before,
-        &pair.after,
-    )?;
-    let case = Case {
-        compiled,
-        relations,
-        pair,
-        alphabet,
-        blocks: &blocks,
-    };
-    by_width!(blocks.blocks(), row_over(alloc, &case, maker, letters))
-}
-
-/// The row of the case. Automata with one letter on each edge are the fastest, and decide nearly every
-/// row; only where they don't, automata do whose edges are labelled by sets.
-fn row_over<L: LabelSet>(
-    alloc: Global,
-    case: &Case<'_, '_>,
-    maker: &LetterPaths,
-    letters: &mut FlowLetters,
-) -> Result<Row, AllocError>
-    requires case { IsCase case.now }
-    requires maker { maker.now ≡ path_symbols case.now.alphabet.now }
-    requires letters { AreLettersOf case.now.alphabet.now case.now.pair.now letters.old }
-    requires fits { L.fits (block_count case.now.blocks.now) }
-    ensures row { IfOk result (IsRight case.now) }
-    ensures letters { AreLettersOf case.now.alphabet.now case.now.pair.now letters.new }
-{
-    if let Some(row) = row_by_letters::<L>(alloc, case, maker, letters)? {
-        return Ok(row);
-    }
-    row_by_sets::<L>(
-        alloc,
-        case.compiled,
-        case.relations,
-        case.pair,
-        case.alphabet,
-        case.blocks,
-    )
-}
-
-/// The row, by automata whose edges are labelled by sets of these blocks. Only where small ones pass
-/// the limit plain ones are made, and a row is left open only where these pass it too.
-fn row_by_sets<L: LabelSet>(
-    alloc: Global,
-    compiled: &Compiled<'_>,
-    relations: &Relations,
-    pair: &FlowPair,
-    alphabet: &Alphabet,
-    blocks: &Partition,
-) -> Result<Row, AllocError>
-    requires alphabet { length alphabet.now ≡ compiled.now.locations }
-    requires located { IsPairLocated alphabet.now compiled.now.check.level pair.now }
-    requires relations { AreRelations compiled.now relations.now }
-    requires blocks { AreFiner compiled.now.blocks (length alphabet.now) compiled.now.check.level
-        pair.now.before pair.now.after blocks.now }
-    requires fits { L.fits (block_count blocks.now) }
-    ensures { IfOk result (RowOf compiled.now.check (length alphabet.now)
-        (paths_of compiled.now.check.level alphabet.now pair.now.before pair.now.after)
-        compiled.now.states) }
-{
-    match row_by::<L>(
-        alloc,
-        compiled,
-        relations,
-        pair,
-        alphabet,
-        blocks,
-        Form::Small,
-    ) {
-        Ok(row) => Ok(row),
-        Err(BuildError::Limit) => plain_row::<L>(
-            alloc, compiled, relations, pair, alphabet, blocks,
-        ),
-        Err(BuildError::Memory) => Err(AllocError),
-    }
-}
-
-/// The row by plain automata, left open where they pass the limit.
-fn plain_row<L: LabelSet>(
-    alloc: Global,
-    compiled: &Compiled<'_>,
-    relations: &Relations,
-    pair: &FlowPair,
-    alphabet: &Alphabet,
-    blocks: &Partition,
-) -> Result<Row, AllocError>
-    requires alphabet { length alphabet.now ≡ compiled.now.locations }
-    requires located { IsPairLocated alphabet.now compiled.now.check.level pair.now }
-    requires relations { AreRelations compiled.now relations.now }
-    requires blocks { AreFiner compiled.now.blocks (length alphabet.now) compiled.now.check.level
-        pair.now.before pair.now.after blocks.now }
-    requires fits { L.fits (block_count blocks.now) }
-    ensures { IfOk result (RowOf compiled.now.check (length alphabet.now)
-        (paths_of compiled.now.check.level alphabet.now pair.now.before pair.now.after)
-        compiled.now.states) }
-{
-    match row_by::<L>(
-        alloc,
-        compiled,
-        relations,
-        pair,
-        alphabet,
-        blocks,
-        Form::Plain,
-    ) {
-        Ok(row) => Ok(row),
-        Err(BuildError::Limit) => Ok(Row::Undecided),
-        Err(BuildError::Memory) => Err(AllocError),
-    }
-}
-
-/// The row by automata of this form.
-///
-/// # Errors
-///
-/// - `Limit` where an image, or the comparison of the two, passes the check's limit. The row of plain
-///   automata may then be left open.
-/// - `Memory` where there isn't memory.
-fn row_by<L: LabelSet>(
-    alloc: Global,
-    compiled: &Compiled<'_>,
-    relations: &Relations,
-    pair: &FlowPair,
-    alphabet: &Alphabet,
-    blocks: &Partition,
-    form: Form,
-) -> Result<Row, BuildError>
-    requires alphabet { length alphabet.now ≡ compiled.now.locations }
-    requires located { IsPairLocated alphabet.now compiled.now.check.level pair.now }
-    requires relations { AreRelations compiled.now relations.now }
-    requires blocks { AreFiner compiled.now.blocks (length alphabet.now) compiled.now.check.level
-        pair.now.before pair.now.after blocks.now }
-    requires fits { L.fits (block_count blocks.now) }
-    ensures row { IfOk result (RowOf compiled.now.check (length alphabet.now)
-        (paths_of compiled.now.check.level alphabet.now pair.now.before pair.now.after)
-        compiled.now.states) }
-    ensures limit { IfErr result (λ e. e ≡ BuildError.Limit → form ≡ Form.Plain →
-        MayBeOpen compiled.now.check (length alphabet.now)
-        (paths_of compiled.now.check.level alphabet.now pair.now.before pair.now.after)
-        compiled.now.states) }
-{
-    // By what each compiled check keeps, its blocks are of its symbols.
-    let _ = compiled.blocks();
-    let before = see::<L>(
-        alloc,
-        compiled,
-        relations.before(),
-        &pair.before,
-        alphabet,
-        blocks,
-        form,
-    )?;
-    let after = see::<L>(
-        alloc,
-        compiled,
-        relations.after(),
-        &pair.after,
-        alphabet,
-        blocks,
-        form,
-    )?;
-    row_of_sides(alloc, compiled, &before, &after, blocks)
-}
-
-/// The row, where both sides are seen so: compliant, or that of the first word that offends.
-///
-/// # Errors
-///
-/// - `Limit` where the comparison of the two images passes the check's limit.
-/// - `Memory` where there isn't memory.
-fn row_of_sides<L: LabelSet>(
-    alloc: Global,
-    compiled: &Compiled<'_>,
-    before: &Seen<L>,
-    after: &Seen<L>,
-    blocks: &Partition,
-) -> Result<Row, BuildError>
-    requires before { HasSources blocks.now before.now.paths before.now.relation before.now.image }
-    requires after { HasSources blocks.now after.now.paths after.now.relation after.now.image }
-    ensures row { IfOk result (TellsOfSides compiled.now.check.at_most blocks.now
-        before.now.paths before.now.relation before.now.image
-        after.now.paths after.now.relation after.now.image) }
-    ensures limit { IfErr result (λ e. e ≡ BuildError.Limit →
-        ReachPairsBefore before.now.image after.now.image
-        (Offends compiled.now.check.at_most (Accepts before.now.image) (Accepts after.now.image))
-        (compiled.now.states + 1)) }
-{
-    let at_most = compiled.at_most();
-    let states = compiled.states();
-    match first_offence(alloc, at_most, &before.image, &after.image, states)? {
-        None => Ok(Row::Compliant),
-        Some(offence) => Ok(row_of_offence(alloc, &offence, before, after, blocks)?),
-    }
-}
-
-/// The row of an offence, by what is seen of its side. The only error is want of memory.
-fn row_of_offence<L: LabelSet>(
-    alloc: Global,
-    offence: &Offence,
-    before: &Seen<L>,
-    after: &Seen<L>,
-    blocks: &Partition,
-) -> Result<Row, AllocError>
-    requires before { HasSources blocks.now before.now.paths before.now.relation before.now.image }
-    requires after { HasSources blocks.now after.now.paths after.now.relation after.now.image }
-    requires offends { words_of offence.now.side (Accepts before.now.image)
-        (Accepts after.now.image) offence.now.letters }
-    ensures { IfOk result (TellsOnSide offence.now.side blocks.now before.now.paths
-        before.now.relation after.now.paths after.now.relation offence.now.letters) }
-{
-    match offence.side {
-        Side::Before => violated_row(alloc, offence, before, blocks),
-        Side::After => violated_row(alloc, offence, after, blocks),
-    }
 }

@@ -18,7 +18,7 @@ use Rattle.rela_engine.proofs.Placed.{placed}
 use Rattle.rela_engine.proofs.PlainRows.{before_passes, after_passes, both_pass}
 use Rattle.rela_engine.proofs.Rows.{before_letters_are, after_letters_are, sides_of, right_row}
 use Rattle.rela_engine.proofs.ToldSides.{sides_told, sources_of}
-use Rattle.rela_engine.proofs.decision.row_by.Goals as goal
+use Rattle.rela_engine.proofs.by_sets.row_by.Goals as goal
 
 pub see-requires-clause-placed : goal.see-requires-clause-placed
 see-requires-clause-placed g c =

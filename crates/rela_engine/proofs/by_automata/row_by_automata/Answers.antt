@@ -1,6 +1,6 @@
 use Rattle.std.proofs.Common.{◌∙◌, sym}
 use Rattle.rela_engine.proofs.Placed.{placed}
-use Rattle.rela_engine.proofs.decision.row_by_automata.Goals as goal
+use Rattle.rela_engine.proofs.by_automata.row_by_automata.Goals as goal
 
 pub finer_blocks-requires-clause-before : goal.finer_blocks-requires-clause-before
 finer_blocks-requires-clause-before c =

@@ -3,7 +3,7 @@ use Rattle.std.proofs.lemmas.Result.{err_from_is_err_and}
 use Rattle.rela_compare.specs.Comparison.{ReachPairsBefore}
 use Rattle.rela_nfa.specs.Runs.{Accepts}
 use Rattle.rela_translate.specs.Verdict.{Offends}
-use Rattle.rela_engine.proofs.decision.row_of_sides.Goals as goal
+use Rattle.rela_engine.proofs.by_sets.row_of_sides.Goals as goal
 
 pub first_offence-requires : goal.first_offence-requires
 first_offence-requires g c = c.requires.before.of_image ∙ sym c.requires.after.of_image
