@@ -1,7 +1,7 @@
 //! What is found of a listed row.
 
 /// What is found of the blocks of a listed row.
-#[derive(Clone, Copy, Debug, PartialEq, Eq)]
+#[derive(Clone, Copy)]
 pub(crate) enum Judgement {
     /// The row's check is met.
     Met,

@@ -27,7 +27,7 @@ use rela_trans::{Transducer, image};
 use std::alloc::{AllocError, Global};
 
 /// How the automata of one side are made.
-#[derive(Clone, Copy, Debug)]
+#[derive(Clone, Copy)]
 pub(crate) enum Form {
     /// For speed: of few states, which need not stand for anything.
     Small,
