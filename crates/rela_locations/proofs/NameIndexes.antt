@@ -1,5 +1,5 @@
 -- The place that a table of places tells for a name.
-use Rattle.std.proofs.Common.{◌≡◌, ◌≢◌, ◌↔◌, ℕ, List, Option, Some, slice_get, ap, ◌∙◌}
+use Rattle.std.proofs.Common.{◌≡◌, ◌↔◌, ℕ, List, Option, Some, slice_get, ap, ◌∙◌}
 use Rattle.rela_locations.specs.Tables.{IsOnce}
 
 -- where names come once each, the one place at which a name stands is its place

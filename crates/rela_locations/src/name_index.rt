@@ -80,11 +80,7 @@ impl NameIndex {
 
 /// A table of places for the first `count` locations of an alphabet, with each location's symbol
 /// where there is room for it. Time: linear in the bytes of the names.
-fn places_of(
-    alloc: Global,
-    alphabet: &Alphabet,
-    count: Symbol,
-) -> Result<Vec<Symbol>, AllocError>
+fn places_of(alloc: Global, alphabet: &Alphabet, count: Symbol) -> Result<Vec<Symbol>, AllocError>
     requires { count ≤ 100000 }
 {
     let size = (2 * count as usize).next_power_of_two();
