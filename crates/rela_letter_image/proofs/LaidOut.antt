@@ -45,7 +45,7 @@ nothing_flat : {X Y : Type 0} (f : X → List Y) (xs : List X) → ((x : X) → 
 nothing_flat f [] none = refl
 nothing_flat f (x ∷ xs) none = ap (λ l. l ++ flat_map f xs) (none x) ∙ nothing_flat f xs none
 
-flat_map-map : {X Y Z : Type 0} (f : Y → List Z) (g : X → Y) (xs : List X) → flat_map f (map g xs) ≡ flat_map (λ x. f (g x)) xs
+pub flat_map-map : {X Y Z : Type 0} (f : Y → List Z) (g : X → Y) (xs : List X) → flat_map f (map g xs) ≡ flat_map (λ x. f (g x)) xs
 flat_map-map f g [] = refl
 flat_map-map f g (x ∷ xs) = ap (λ l. f (g x) ++ l) (flat_map-map f g xs)
 

@@ -1,8 +1,9 @@
 -- How moves are laid out by what they read, one after another.
 use Rattle.std.proofs.Common.{◌≡◌, ◌≢◌, ℕ, zero, suc, ◌+◌, ◌<◌, ◌≤◌, ◌↔◌, ◌⊎◌, ◌||◌, Bool, true, false, IsTrue, List, [], ◌∷◌, ◌++◌, length, get_or, map, take, refl, sym, ap, ◌∙◌, subst, inl, inr, arith}
-use Rattle.std.specs.List.{All, Contains}
+use Rattle.std.specs.List.{All, Contains, flat_map}
 use Rattle.std.proofs.lemmas.Bool.{cases_eq, cases_lt}
-use Rattle.std.proofs.lemmas.List.{ext_get_or, get_or_append_left, get_or_past, get_or_push, length-map, length_push, map-append, map_more, take_more}
+use Rattle.std.proofs.lemmas.List.{append-nil, ext_get_or, get_or_append_left, get_or_past, get_or_push, length-map, length_push, map-append, map_more, take_more}
+use Rattle.std.proofs.lemmas.List.Concat.{flat_map-append}
 use Rattle.std.proofs.lemmas.List.Elements.{All-contains, All-push, Contains-append_left, Contains-append_right, Contains-append_cases, Contains-get_or}
 use Rattle.rela_labels.specs.Letters.{has}
 use Rattle.rela_trans.specs.Machine.{Machine, IsMachine, IsMove, machine_states, moves_of}
@@ -10,13 +11,14 @@ use Rattle.rela_trans.specs.Runs.{Follow, Relates, Step}
 use Rattle.rela_trans.specs.Stored.{kind_of, move_of}
 use Rattle.rela_trans.specs.declared.moves.Move.{Move}
 use Rattle.rela_trans.specs.declared.moves.MoveKind.{MoveKind}
-use Rattle.rela_letter_image.specs.LetterMoves.{AreLaidOut, AreLettersOf, Gains, IsLaidOut, all_moves, alone_move, letter_move, set_move}
+use Rattle.rela_letter_image.specs.Branches.{led_to}
+use Rattle.rela_letter_image.specs.LetterMoves.{AreLaidOut, AreLettersOf, Gains, GainsAll, IsLaidOut, all_moves, alone_move, letter_move, set_move}
 use Rattle.rela_letter_image.specs.declared.letter_moves.AloneMove.{AloneMove}
 use Rattle.rela_letter_image.specs.declared.letter_moves.LetterMove.{LetterMove}
 use Rattle.rela_letter_image.specs.declared.letter_moves.SetMove.{SetMove}
 use Rattle.rela_letter_image.specs.declared.letter_moves.StateMoves.{StateMoves}
 use Rattle.rela_letter_image.proofs.GrownSteps.{only_one}
-use Rattle.rela_letter_image.proofs.StepsGo.{first_in}
+use Rattle.rela_letter_image.proofs.StepsGo.{Contains-nil, first_in}
 
 -- ---- a set that is copied letter by letter
 
@@ -156,9 +158,9 @@ module _ (letters : ℕ) (old new : StateMoves) where
     below = λ all. subst (λ l. All (λ (m : LetterMove). m.letter < letters) l) (sym three) (All-push (λ (m : LetterMove). m.letter < letters) old.by_letter.items x all below);
   }
 
--- the move, by what its kind is
-pub move_is : {L : Type 0} (letters : L → List Bool) (move : Move L) (kind : MoveKind L) → move.kind ≡ kind → record { kind = kind_of letters kind; to = move.to } ≡ move_of letters move
-move_is letters move kind is = λ i. record { kind = kind_of letters (sym is i); to = move.to }
+-- the move, by what its kind is, where it leads to another state
+pub move_is : {L : Type 0} (letters : L → List Bool) (move : Move L) (kind : MoveKind L) (to : ℕ) → move.kind ≡ kind → record { kind = kind_of letters kind; to = to } ≡ led_to (move_of letters move) to
+move_is letters move kind to is = λ i. record { kind = kind_of letters (sym is i); to = to }
 
 -- no move
 pub laid_out_none : (letters : ℕ) (state : StateMoves) → state.alone.items ≡ [] → state.by_set.items ≡ [] → state.by_letter.items ≡ [] → IsLaidOut letters [] state
@@ -169,19 +171,58 @@ laid_out_none letters state one two three = record {
   below = λ k d below. absurd (omega (arith, below, ap (λ (l : List LetterMove). length l) three));
 }
 
--- and one more
-pub laid_out_more : {X : Type 0} (f : X → Move (List Bool)) (xs : List X) (i : ℕ) (x : X) → i < length xs → get_or xs i x ≡ x → (letters : ℕ) (old new : StateMoves)
-    → IsLaidOut letters (map f (take i xs)) old → Gains letters (f x) old new → IsLaidOut letters (map f (take (i + 1) xs)) new
-laid_out_more f xs i x below at letters old new so_far gains = record {
+-- none of several moves
+pub gains_none : (letters : ℕ) (state : StateMoves) → GainsAll letters [] state state
+gains_none letters state = record {
+  same = λ move. (λ among. inl among, λ either. elim either [ inl among ↦ among | inr none ↦ absurd (Contains-nil move none) ]);
+  below = λ all. all;
+}
+
+-- and one more of them
+pub gains_more : {X : Type 0} (f : X → Move (List Bool)) (xs : List X) (i : ℕ) (d : X) → i < length xs → (letters : ℕ) (old mid new : StateMoves)
+    → GainsAll letters (map f (take i xs)) old mid → Gains letters (f (get_or xs i d)) mid new → GainsAll letters (map f (take (i + 1) xs)) old new
+gains_more f xs i d below letters old mid new so_far gains = record {
   same = λ move.
-      subst (λ l. Contains (all_moves letters new) move ↔ Contains l move) (sym (map_more f xs i x below ∙ ap (λ y. map f (take i xs) ++ f y ∷ []) at)) (
+      subst (λ l. Contains (all_moves letters new) move ↔ (Contains (all_moves letters old) move ⊎ Contains l move)) (sym (map_more f xs i d below)) (
         λ among. elim ((gains.same move).0 among) [
-          | inl earlier ↦ Contains-append_left (map f (take i xs)) (f x ∷ []) move ((so_far.same move).0 earlier)
-          | inr new ↦ Contains-append_right (map f (take i xs)) (f x ∷ []) move (subst (Contains (f x ∷ [])) new (first_in (f x) []))
+          | inl earlier ↦ elim ((so_far.same move).0 earlier) [
+            | inl first ↦ inl first
+            | inr gained ↦ inr (Contains-append_left (map f (take i xs)) (f (get_or xs i d) ∷ []) move gained)
+          ]
+          | inr new ↦ inr (Contains-append_right (map f (take i xs)) (f (get_or xs i d) ∷ []) move (subst (Contains (f (get_or xs i d) ∷ [])) new (first_in (f (get_or xs i d)) [])))
         ],
-        λ among. (gains.same move).1 (elim (Contains-append_cases (map f (take i xs)) (f x ∷ []) move among) [
+        λ either. (gains.same move).1 (elim either [
+          | inl first ↦ inl ((so_far.same move).1 (inl first))
+          | inr gained ↦ elim (Contains-append_cases (map f (take i xs)) (f (get_or xs i d) ∷ []) move gained) [
+            | inl earlier ↦ inl ((so_far.same move).1 (inr earlier))
+            | inr new ↦ inr (only_one (f (get_or xs i d)) move new)
+          ]
+        ]),
+      );
+  below = λ all. gains.below (so_far.below all);
+}
+
+-- what is made of one more
+pub flat_more : {X Y Z : Type 0} (g : Y → List Z) (f : X → Y) (xs : List X) (i : ℕ) (x : X) → i < length xs → get_or xs i x ≡ x
+    → flat_map g (map f (take (i + 1) xs)) ≡ flat_map g (map f (take i xs)) ++ g (f x)
+flat_more g f xs i x below at =
+    let so_far = map f (take i xs) in
+    ap (flat_map g) (map_more f xs i x below ∙ ap (λ y. so_far ++ f y ∷ []) at) ∙ flat_map-append g so_far (f x ∷ []) ∙ ap (λ l. flat_map g so_far ++ l) (append-nil (g (f x)))
+
+-- and what is made of one more move
+pub laid_out_more : {X : Type 0} (g : Move (List Bool) → List (Move (List Bool))) (f : X → Move (List Bool)) (xs : List X) (i : ℕ) (x : X) → i < length xs → get_or xs i x ≡ x → (letters : ℕ) (old new : StateMoves)
+    → IsLaidOut letters (flat_map g (map f (take i xs))) old → GainsAll letters (g (f x)) old new → IsLaidOut letters (flat_map g (map f (take (i + 1) xs))) new
+laid_out_more g f xs i x below at letters old new so_far gains = record {
+  same = λ move.
+      let earlier_ones = flat_map g (map f (take i xs)) in
+      subst (λ l. Contains (all_moves letters new) move ↔ Contains l move) (sym (flat_more g f xs i x below at)) (
+        λ among. elim ((gains.same move).0 among) [
+          | inl earlier ↦ Contains-append_left earlier_ones (g (f x)) move ((so_far.same move).0 earlier)
+          | inr new ↦ Contains-append_right earlier_ones (g (f x)) move new
+        ],
+        λ among. (gains.same move).1 (elim (Contains-append_cases earlier_ones (g (f x)) move among) [
           | inl earlier ↦ inl ((so_far.same move).1 earlier)
-          | inr new ↦ inr (only_one (f x) move new)
+          | inr new ↦ inr new
         ]),
       );
   below = gains.below so_far.below;

@@ -7,3 +7,4 @@ mod Spelling
 mod StepsGo
 mod LaidOut
 mod Laying
+mod Passing

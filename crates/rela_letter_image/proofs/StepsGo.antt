@@ -44,14 +44,14 @@ Contains-map_back f (x ∷ xs) y c = elim (Contains-cons_cases (f x) (map f xs) 
   | inr later ↦ let found = Contains-map_back f xs y later in (found.0, found.1, later_in x xs found.0 found.2)
 ]
 
-in_flat_map : {X Y : Type 0} (f : X → List Y) (xs : List X) (x : X) (y : Y) → Contains xs x → Contains (f x) y → Contains (flat_map f xs) y
+pub in_flat_map : {X Y : Type 0} (f : X → List Y) (xs : List X) (x : X) (y : Y) → Contains xs x → Contains (f x) y → Contains (flat_map f xs) y
 in_flat_map f [] x y among here = absurd (Contains-nil x among)
 in_flat_map f (z ∷ xs) x y among here = elim (Contains-cons_cases z xs x among) [
   | inl first ↦ Contains-append_left (f z) (flat_map f xs) y (subst (λ u. Contains (f u) y) (sym first) here)
   | inr later ↦ Contains-append_right (f z) (flat_map f xs) y (in_flat_map f xs x y later here)
 ]
 
-from_flat_map : {X Y : Type 0} (f : X → List Y) (xs : List X) (y : Y) → Contains (flat_map f xs) y → (x : X) × Contains xs x × Contains (f x) y
+pub from_flat_map : {X Y : Type 0} (f : X → List Y) (xs : List X) (y : Y) → Contains (flat_map f xs) y → (x : X) × Contains xs x × Contains (f x) y
 from_flat_map f [] y among = absurd (Contains-nil y among)
 from_flat_map f (z ∷ xs) y among = elim (Contains-append_cases (f z) (flat_map f xs) y among) [
   | inl first ↦ (z, first_in z xs, first)

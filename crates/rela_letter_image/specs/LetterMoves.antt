@@ -57,6 +57,12 @@ pub record Gains (letters : ℕ) (move : Move (List Bool)) (old new : StateMoves
       Contains (all_moves letters new) other ↔ (Contains (all_moves letters old) other ⊎ (move ≡ other))
   pub below : AreLettersOf letters old → AreLettersOf letters new
 
+-- the moves are more
+pub record GainsAll (letters : ℕ) (moves : List (Move (List Bool))) (old new : StateMoves) : Type 0 where
+  pub same : (other : Move (List Bool)) → Contains (all_moves letters new) other
+      ↔ (Contains (all_moves letters old) other ⊎ Contains moves other)
+  pub below : AreLettersOf letters old → AreLettersOf letters new
+
 -- each state has the moves of the machine's
 pub record AreLaidOut (t : Machine) (states : List StateMoves) : Type 0 where
   pub each : length states ≡ machine_states t

@@ -1,3 +1,4 @@
+pub mod Branches
 pub mod ByLetters
 pub mod Coarse
 pub mod Growth

@@ -1,11 +1,12 @@
 //! How the moves of a transducer are laid out by what they read.
 ghost use Rattle.std.specs.Prelude.{◌≡◌, ◌≢◌, ℕ, ◌<◌, ◌||◌, [], IfOk, OnOk, length, map};
-ghost use Rattle.std.specs.List.{All};
+ghost use Rattle.std.specs.List.{All, flat_map};
 ghost use Rattle.std.specs.Option.{ForSome};
 ghost use Rattle.rela_labels.specs.Letters.{has};
 ghost use Rattle.rela_trans.specs.Machine.{IsSized};
-ghost use Rattle.rela_trans.specs.Stored.{kind_of, move_of};
-ghost use Rattle.rela_letter_image.specs.LetterMoves.{AreLaidOut, AreLettersOf, Gains, IsLaidOut, all_moves, only_letter, reading};
+ghost use Rattle.rela_trans.specs.Stored.{kind_of, lists_of, move_of};
+ghost use Rattle.rela_letter_image.specs.Branches.{AreEnds, led_to, passed_on, passing};
+ghost use Rattle.rela_letter_image.specs.LetterMoves.{AreLaidOut, AreLettersOf, Gains, GainsAll, IsLaidOut, all_moves, only_letter, reading};
 
 use crate::letter_by_letter::is_only;
 use crate::letter_moves::{AloneMove, LetterMove, SetMove, StateMoves};
@@ -83,17 +84,18 @@ fn push_reading<M: LabelSet>(
     }
 }
 
-/// Adds the move, of a transducer with so many letters.
+/// Adds the move, of a transducer with so many letters, as one that leads to this state.
 fn push_move<M: LabelSet>(
     alloc: Global,
     state: &mut StateMoves,
     letters: u32,
     step: &Move<M>,
+    to: usize,
 ) -> Result<(), AllocError>
     requires { IsSized letters (kind_of M.letters step.now.kind) }
-    ensures { OnOk result (Gains letters (move_of M.letters step.now) state.old state.new) }
+    ensures { OnOk result (Gains letters (led_to (move_of M.letters step.now) to)
+        state.old state.new) }
 {
-    let to = step.to;
     match &step.kind {
         MoveKind::Silent => {
             state.alone.push(AloneMove { written: None, to })?;
@@ -109,14 +111,36 @@ fn push_move<M: LabelSet>(
     }
 }
 
-/// The moves of one state, laid out by what they read.
+/// Adds the move, as one to each of these states.
+fn push_each<M: LabelSet>(
+    alloc: Global,
+    state: &mut StateMoves,
+    letters: u32,
+    step: &Move<M>,
+    ends: &[usize],
+) -> Result<(), AllocError>
+    requires { IsSized letters (kind_of M.letters step.now.kind) }
+    ensures { OnOk result (GainsAll letters (map (led_to (move_of M.letters step.now)) ends.now)
+        state.old state.new) }
+{
+    for to in ends {
+        push_move(alloc, state, letters, step, *to)?;
+    }
+    Ok(())
+}
+
+/// The moves of one state, laid out by what they read, each as one to each of the states that stand
+/// for its end.
 fn laid_out<M: LabelSet>(
     alloc: Global,
     letters: u32,
     moves: &[Move<M>],
+    ends: &[Vec<usize>],
 ) -> Result<StateMoves, AllocError>
-    requires { All (λ step. IsSized letters (kind_of M.letters step.kind)) moves.now }
-    ensures { IfOk result (λ state. IsLaidOut letters (map (move_of M.letters) moves.now) state) }
+    requires sized { All (λ step. IsSized letters (kind_of M.letters step.kind)) moves.now }
+    requires lead { All (λ step. step.to < length ends.now) moves.now }
+    ensures { IfOk result (λ state. IsLaidOut letters
+        (flat_map (passed_on (lists_of ends.now)) (map (move_of M.letters) moves.now)) state) }
 {
     let mut state = StateMoves {
         alone: Vec::new(alloc),
@@ -124,23 +148,27 @@ fn laid_out<M: LabelSet>(
         by_letter: Vec::new(alloc),
     };
     for step in moves {
-        push_move(alloc, &mut state, letters, step)?;
+        push_each(alloc, &mut state, letters, step, &ends[step.to])?;
     }
     Ok(state)
 }
 
-/// The moves of each state, laid out by what they read. Time: linear in the states and the moves,
-/// and a step for each letter for each move whose set has several.
+/// The moves of each state, laid out by what they read, each as one to each of the states that stand
+/// for its end. Time: linear in the states and in the moves that are made, and a step for each
+/// letter for each of these whose set has several.
 pub(crate) fn states_of<M: LabelSet>(
     alloc: Global,
     relation: &Transducer<M>,
+    ends: &[Vec<usize>],
 ) -> Result<Vec<StateMoves>, AllocError>
-    ensures { IfOk result (λ states. AreLaidOut relation.now states.items) }
+    requires { AreEnds relation.now (lists_of ends.now) }
+    ensures { IfOk result (λ states. AreLaidOut (passing (lists_of ends.now) relation.now)
+        states.items) }
 {
     let letters = relation.letters();
     let mut states = Vec::with_capacity(alloc, relation.states())?;
     for q in 0..relation.states() {
-        states.push(laid_out(alloc, letters, relation.moves(q))?)?;
+        states.push(laid_out(alloc, letters, relation.moves(q), ends)?)?;
     }
     Ok(states)
 }

@@ -4,6 +4,7 @@ ghost use Rattle.rela_trans.specs.Machine.{IsFinal, IsMachine, machine_states, m
 ghost use Rattle.rela_trans.specs.Runs.{Relates};
 ghost use Rattle.rela_letter_image.specs.LetterMoves.{AreLettersOf, LeadBelow, all_moves};
 
+use crate::branches::branch_ends;
 use crate::laying_out::{finals_of, states_of};
 use crate::letter_moves::StateMoves;
 use rela_labels::LabelSet;
@@ -12,8 +13,9 @@ use std::alloc::{AllocError, Global};
 use std::marker::Model;
 
 /// A transducer for reading letter by letter: the moves of a state that read one letter, and no
-/// other, stand apart with that letter, and so do those that read nothing. It is made once, and then
-/// used for many images. Contracts see it as a `Machine`.
+/// other, stand apart with that letter, and so do those that read nothing. Silent branches are
+/// passed over: moves lead at once to where these lead. It is made once, and then used for many
+/// images. Contracts see it as a `Machine`.
 #[derive(Drop)]
 pub struct LetterRelation {
     /// The number of letters.
@@ -50,8 +52,11 @@ impl Model for LetterRelation {
 }
 
 impl LetterRelation {
-    /// The relation of the transducer. Time and space: linear in its states and moves; besides, a
-    /// move whose set has several letters costs a step for each letter, and a bit for each.
+    /// The relation of the transducer. A state is a silent branch if it isn't final and each of its
+    /// moves is silent; a move to one gives way to moves to the states to which it leads, where
+    /// these are few. So each move is copied a bounded number of times. Time and space: linear in
+    /// the states and moves; besides, a move whose set has several letters costs a step for each
+    /// letter, and a bit for each.
     pub fn new<M: LabelSet>(
         alloc: Global,
         relation: &Transducer<M>,
@@ -63,7 +68,8 @@ impl LetterRelation {
         let letters = relation.letters();
         let start = relation.start();
         let finals = finals_of(alloc, relation)?;
-        let states = states_of(alloc, relation)?;
+        let ends = branch_ends(alloc, relation)?;
+        let states = states_of(alloc, relation, &ends)?;
         Ok(LetterRelation {
             letters,
             start,

@@ -2,6 +2,7 @@
 //! one letter on each edge. A want of memory is told as `AllocError` or as `BuildError::Memory`.
 #![tactic(auto)]
 
+mod branches;
 mod counted;
 mod found;
 mod growing;
