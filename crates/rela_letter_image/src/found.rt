@@ -1,5 +1,5 @@
 //! The pairs of states that were found, and their numbers.
-ghost use Rattle.std.specs.Prelude.{◌≡◌, ◌<◌, ◌≤◌, ◌^◌, [], Some, IfOk, IfErr, OnOk, length, slice_get};
+ghost use Rattle.std.specs.Prelude.{◌≡◌, ◌<◌, ◌≤◌, ◌⊎◌, ◌^◌, [], Some, IfOk, IfErr, OnOk, length, slice_get};
 ghost use Rattle.rela_letter_image.specs.Growth.{IsFoundIn};
 
 use rela_letter_nfa::MAX_STATES;
@@ -104,6 +104,12 @@ impl Found {
     pub(crate) fn number(&mut self, pair: Pair, most: usize) -> Result<u32, BuildError>
         ensures numbered { IfOk result (λ number. slice_get self.new number ≡ Some pair) }
         ensures found { IsFoundIn self.old self.new pair }
+        ensures grown { OnOk result ((self.new ≡ self.old)
+            ⊎ ((length self.old < most) × (length self.old < 2 ^ 31))) }
+        ensures limit { IfErr result (λ e. e ≡ BuildError.Limit →
+            (self.new ≡ self.old) × ((most ≤ length self.old) ⊎ (2 ^ 31 ≤ length self.old))) }
+        ensures memory { IfErr result (λ e. e ≡ BuildError.Memory →
+            (length self.old < most) × (length self.old < 2 ^ 31)) }
     {
         match look_up(&self.pairs, &self.places, self.addressing, pair) {
             Ok(number) => Ok(number),
