@@ -1,20 +1,24 @@
 //! Minimal automata.
 
 ghost use Rattle.std.specs.Prelude.{◌≡◌, IfOk, length};
+ghost use Rattle.rela_subset.specs.Deterministic.{IsByArrival, IsReachable};
 
 use crate::far_letters::one_before;
 use crate::subsets::determinised;
 use crate::three_letters::{Letters, Question, Table, is_so_of_classes, is_so_of_words};
 use rela_labels::{LabelSet, WideSet};
-use rela_minimise::minimise;
+use rela_minimise::merge_equivalent;
 use rela_nfa::Nfa;
 use rela_subset::{BuildError, Dfa, determinise};
 use std::alloc::{AllocError, Global};
 
 /// All words but those of the automaton, minimal.
-fn minimal_others(alloc: Global, dfa: Dfa<Letters>) -> Result<Dfa<Letters>, AllocError> {
-    let others = dfa.into_complement(alloc)?;
-    minimise(alloc, &others)
+fn minimal_others(alloc: Global, dfa: &Dfa<Letters>) -> Result<Dfa<Letters>, AllocError>
+    requires reachable { IsReachable dfa.now }
+    requires arrival { IsByArrival dfa.now }
+{
+    let least = merge_equivalent(alloc, dfa)?;
+    least.into_complement(alloc)
 }
 
 /// Whether it has a state for the empty word, one for letter 0 alone and one for all other words, and
@@ -29,7 +33,10 @@ fn lacks_zero(made: &Dfa<Letters>) -> bool {
 }
 
 /// Whether the minimal automaton of all words but those lacks letter 0.
-fn others_lack_zero(alloc: Global, dfa: Dfa<Letters>) -> bool {
+fn others_lack_zero(alloc: Global, dfa: &Dfa<Letters>) -> bool
+    requires reachable { IsReachable dfa.now }
+    requires arrival { IsByArrival dfa.now }
+{
     match minimal_others(alloc, dfa) {
         Ok(made) => lacks_zero(&made),
         Err(_) => false,
@@ -42,7 +49,7 @@ struct Others;
 impl Question for Others {
     fn is_so(&self, alloc: Global, zero: &Table, _one: &Table) -> bool {
         match determinised(alloc, zero, &[0, 1, 2], 10) {
-            Ok(dfa) => others_lack_zero(alloc, dfa),
+            Ok(dfa) => others_lack_zero(alloc, &dfa),
             Err(_) => false,
         }
     }
@@ -56,8 +63,11 @@ fn all_words_but_one_letter(rt: HostRuntime) {
 }
 
 /// Whether the minimal automaton has four states, and two edges from where it starts.
-fn has_four_states(alloc: Global, dfa: &Dfa<Letters>) -> bool {
-    match minimise(alloc, dfa) {
+fn has_four_states(alloc: Global, dfa: &Dfa<Letters>) -> bool
+    requires reachable { IsReachable dfa.now }
+    requires arrival { IsByArrival dfa.now }
+{
+    match merge_equivalent(alloc, dfa) {
         Ok(made) => made.states() == 4 && made.edges(0).len() == 2,
         Err(_) => false,
     }
@@ -132,14 +142,19 @@ fn many_letters(alloc: Global, all: &WideSet) -> Result<Nfa<WideSet>, AllocError
 /// The deterministic automaton of the sets of states that these words reach, over these letters.
 fn many_letters_determinised(alloc: Global, all: &WideSet) -> Result<Dfa<WideSet>, BuildError>
     requires { length all.now ≡ 300 }
+    ensures reachable { IfOk result IsReachable }
+    ensures arrival { IfOk result IsByArrival }
 {
     let words = many_letters(alloc, all)?;
     determinise(alloc, &words, all, 100)
 }
 
 /// Whether the minimal automaton has 64 states.
-fn has_64_states(alloc: Global, dfa: &Dfa<WideSet>) -> bool {
-    match minimise(alloc, dfa) {
+fn has_64_states(alloc: Global, dfa: &Dfa<WideSet>) -> bool
+    requires reachable { IsReachable dfa.now }
+    requires arrival { IsByArrival dfa.now }
+{
+    match merge_equivalent(alloc, dfa) {
         Ok(made) => made.states() == 64,
         Err(_) => false,
     }

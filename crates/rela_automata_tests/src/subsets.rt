@@ -1,6 +1,7 @@
 //! The subset construction, complements and first words.
 
-ghost use Rattle.std.specs.Prelude.{◌≡◌, ◌≤◌, length};
+ghost use Rattle.std.specs.Prelude.{◌≡◌, ◌≤◌, IfOk, length};
+ghost use Rattle.rela_subset.specs.Deterministic.{IsByArrival, IsReachable};
 
 use crate::far_letters::one_before;
 use crate::three_letters::{
@@ -9,7 +10,7 @@ use crate::three_letters::{
 };
 use rela_labels::LabelSet;
 use rela_names::Word;
-use rela_subset::{BuildError, Dfa, Wanted, complement, determinise, first_word};
+use rela_subset::{BuildError, Dfa, Wanted, determinise, first_word};
 use std::alloc::{AllocError, Global};
 
 /// The deterministic automaton of the sets of states that the words reach, over these of three
@@ -22,14 +23,16 @@ pub(crate) fn determinised(
 ) -> Result<Dfa<Letters>, BuildError>
     requires letters { words.now.letters ≡ 3 }
     requires limit { 1 ≤ limit }
+    ensures reachable { IfOk result IsReachable }
+    ensures arrival { IfOk result IsByArrival }
 {
     let over = set_of(alloc, over)?;
     determinise(alloc, words, &over, limit)
 }
 
 /// The words over the same letters that the automaton doesn't accept.
-fn others(alloc: Global, dfa: &Dfa<Letters>) -> Result<Table, AllocError> {
-    let others = complement(alloc, dfa)?;
+fn others(alloc: Global, dfa: Dfa<Letters>) -> Result<Table, AllocError> {
+    let others = dfa.into_complement(alloc)?;
     others.into_nfa(alloc)
 }
 
@@ -40,7 +43,7 @@ struct Other<'a>(&'a [u32], bool);
 impl Question for Other<'_> {
     fn is_so(&self, alloc: Global, words: &Table, _second: &Table) -> bool {
         match determinised(alloc, words, &[0, 1, 2], 3) {
-            Ok(dfa) => has(alloc, others(alloc, &dfa), self.0) == Some(self.1),
+            Ok(dfa) => has(alloc, others(alloc, dfa), self.0) == Some(self.1),
             Err(_) => false,
         }
     }

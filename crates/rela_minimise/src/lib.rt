@@ -19,4 +19,4 @@ mod refining;
 mod signature;
 mod signatures;
 
-pub use minimising::{into_minimal, merge_equivalent, minimise};
+pub use minimising::merge_equivalent;

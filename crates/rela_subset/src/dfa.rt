@@ -6,7 +6,6 @@ ghost use Rattle.rela_nfa.specs.Stored.{move_of, moves_in};
 ghost use Rattle.rela_subset.specs.Deterministic.{IsDeterministic, IsFinal, IsAccepted, IsOver, LeadsTo, automaton_of, moves_of, next, states, state_after, target};
 ghost use Rattle.rela_subset.specs.Stored.{deterministic};
 
-use crate::copies::copy_all;
 use rela_labels::LabelSet;
 use rela_nfa::{Edge, Nfa};
 use std::alloc::{AllocError, Global};
@@ -134,30 +133,6 @@ impl<L: LabelSet> Dfa<L> {
         ensures state { result < states self.now }
     {
         target_of(&self.edges[q], letter).unwrap()
-    }
-
-    /// A copy of the automaton. Time and space: linear in the states and the edges, whose labels
-    /// are copied.
-    pub fn copy(&self, alloc: Global) -> Result<Dfa<L>, AllocError>
-        ensures { IfOk result (λ dfa. dfa ≡ self.now) }
-    {
-        let over = self.over.copy(alloc)?;
-        let finals = Vec::from_slice(alloc, &self.finals)?;
-        let edges = copy_all(alloc, &self.edges)?;
-        Ok(Dfa::new(over, self.start, finals, edges))
-    }
-
-    /// The same automaton, as one that need not be deterministic. Time and space: linear in the
-    /// states and the edges, whose labels are copied.
-    pub fn to_nfa(&self, alloc: Global) -> Result<Nfa<L>, AllocError>
-        ensures automaton { IfOk result (λ nfa. nfa ≡ automaton_of self.now) }
-        ensures reach { IfOk result (λ nfa. (q : ℕ) (word : List ℕ) → Reach nfa q word ↔
-            LeadsTo self.now q word) }
-        ensures language { IfOk result (λ nfa. (word : List ℕ) → Accepts nfa word ↔
-            IsAccepted self.now word) }
-    {
-        let copy = self.copy(alloc)?;
-        copy.into_nfa(alloc)
     }
 
     /// The same automaton, as one that need not be deterministic. Its edges are moved. Time and

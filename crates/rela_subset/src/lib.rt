@@ -8,7 +8,6 @@ mod blocks;
 mod bundle;
 mod closure;
 mod construction;
-mod copies;
 mod dfa;
 mod expansion;
 mod letter_edge;
@@ -23,7 +22,6 @@ mod wanted;
 
 pub use construction::determinise;
 pub use dfa::Dfa;
-pub use opposite::complement;
 pub use rela_nfa::BuildError;
 pub use search::first_word;
 pub use wanted::Wanted;

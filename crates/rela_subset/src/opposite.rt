@@ -6,27 +6,9 @@ use crate::dfa::Dfa;
 use rela_labels::LabelSet;
 use std::alloc::{AllocError, Global};
 
-/// The automaton with the same states and edges that accepts the words over the same letters which
-/// the given one doesn't accept. Time and space: linear in the states and the edges, whose labels
-/// are copied.
-pub fn complement<L: LabelSet>(alloc: Global, dfa: &Dfa<L>) -> Result<Dfa<L>, AllocError>
-    ensures over { IfOk result (λ other. other.over ≡ dfa.now.over) }
-    ensures start { IfOk result (λ other. other.start ≡ dfa.now.start) }
-    ensures edges { IfOk result (λ other. other.edges ≡ dfa.now.edges) }
-    ensures finals { IfOk result (λ other. other.finals ≡ map not dfa.now.finals) }
-    ensures states { IfOk result (λ other. (word : List ℕ) → state_after other word
-        ≡ state_after dfa.now word) }
-    ensures language { IfOk result (λ other. (word : List ℕ) → IsAccepted other word ↔
-        (IsOver dfa.now.over word × ¬ IsAccepted dfa.now word)) }
-{
-    let copy = dfa.copy(alloc)?;
-    copy.into_complement(alloc)
-}
-
 impl<L: LabelSet> Dfa<L> {
     /// The automaton with the same states and edges that accepts the words over the same letters
-    /// which this one doesn't accept, as by [`complement`]. Its edges are moved. Time and space:
-    /// linear in the states.
+    /// which this one doesn't accept. Its edges are moved. Time and space: linear in the states.
     pub fn into_complement(self, alloc: Global) -> Result<Dfa<L>, AllocError>
         ensures over { IfOk result (λ other. other.over ≡ self.over) }
         ensures start { IfOk result (λ other. other.start ≡ self.start) }

@@ -1,7 +1,0 @@
-use Rattle.std.proofs.Common.{◌≡◌, map, take}
-use Rattle.rela_nfa.specs.Stored.{move_of}
-use Rattle.rela_subset.proofs.copies.copy_edges.Given as goal
-
-abbrev pub invariant-loop-edge : goal.invariant-loop-edge
-invariant-loop-edge g l =
-    map (move_of g.L.LabelSet.letters) l.copies.items ≡ map (move_of g.L.LabelSet.letters) (take l.edge-index l.edges)
