@@ -1,9 +1,9 @@
 -- Edges that are put among others, or joined to one of them.
 use Rattle.std.proofs.Common.{◌≡◌, ℕ, zero, suc, ◌+◌, ◌<◌, ◌≤◌, Bool, true, false, cond, ◌||◌, List, [], ◌∷◌, ◌++◌, length, get_or, set, map, take, None, Some, refl, sym, ap, ◌∙◌, subst, inl, inr, arith}
 use Rattle.std.specs.List.{All, Contains, count_by}
-use Rattle.std.specs.Option.{ForSome, IsSome, option_map, option_map_or}
+use Rattle.std.specs.Option.{IsSome, option_map, option_map_or}
 use Rattle.std.proofs.lemmas.Bool.{cases_Bool, cases_lt}
-use Rattle.std.proofs.lemmas.List.{get_or-map, get_or_append_left, get_or_push, length-map, map-set, map_push, take_more}
+use Rattle.std.proofs.lemmas.List.{get_or-map, get_or_append_left, get_or_push, length-map, map_push, take_more}
 use Rattle.std.proofs.lemmas.List.Elements.{All-get_or, All-nil, All-push, All-set, Contains-get_or}
 use Rattle.std.proofs.lemmas.List.Sums.{get_or-le-sum_by, sum_by-cons, sum_by-set, sum_by_more_le, sum_by_push}
 use Rattle.rela_labels.specs.Letters.{has}
@@ -11,6 +11,7 @@ use Rattle.rela_nfa.specs.Automaton.{IsMove, Move}
 use Rattle.rela_nfa.specs.Stored.{move_of}
 use Rattle.rela_nfa.specs.declared.edge.Edge.{Edge}
 use Rattle.rela_subset.specs.Deterministic.{Deterministic, IsDeterministic, moves_of, states, takes, target}
+use Rattle.rela_subset.specs.Expansion.{IsPutIn}
 use Rattle.rela_subset.proofs.Words.{moves_at, split_at}
 use Rattle.rela_minimise.specs.Classes.{onto}
 use Rattle.rela_minimise.specs.Joining.{AreOnto, HasSize, IsPut}
@@ -77,7 +78,7 @@ module _ (label : List Bool) (to : ℕ) (old : List Move) (sizes : All (HasSize 
   has_size : (both : List Bool) → length both ≡ length label → HasSize (length label) (edge_of both to)
   has_size both size x e = let same : both ≡ x = cc in sym (ap length same) ∙ size
 
-  pub put_behind : IsPut label to old (old ++ edge_of label to ∷ [])
+  put_behind : IsPut label to old (old ++ edge_of label to ∷ [])
   put_behind = record {
     counts = λ k. sum_by_push (takes_one k) old (edge_of label to);
     leads = λ k. target_push old (edge_of label to) k (free k);
@@ -117,7 +118,7 @@ module _ (label : List Bool) (to : ℕ) (old : List Move) (sizes : All (HasSize 
           ∙ sym (ap (λ b. cond b (Some to) (target old k)) no')
     ]
 
-    pub put_joined : IsPut label to old (set old i (edge_of both to))
+    put_joined : IsPut label to old (set old i (edge_of both to))
     put_joined = record {
       counts = joined_count;
       leads = joined_target;
@@ -126,34 +127,13 @@ module _ (label : List Bool) (to : ℕ) (old : List Move) (sizes : All (HasSize 
       within = λ classes here are. All-set (λ (move : Move). Contains classes move.to) old i (edge_of both to) here are;
     }
 
--- the edge that is read at a place
-module _ {L : Type 0} (letters : L → List Bool) (edges : List (Edge L)) (place to : ℕ) (within : place < length edges) (leads : (edge : Edge L) → (get_or edges place edge).to ≡ to)
-    (edge : Edge L) (at : edge ≡ get_or edges place edge) where
-  move_read : (move : Move) → get_or (map (move_of letters) edges) place move ≡ move_of letters edge
-  move_read move = get_or-map (move_of letters) edges place edge move within ∙ ap (move_of letters) (sym at)
-
-  pub read_sized : (n : ℕ) → All (HasSize n) (map (move_of letters) edges) → ForSome edge.label (λ s. length (letters s) ≡ n)
-  read_sized n sizes x e =
-      sizes place (move_of letters edge) (omega (arith, within, length-map edges (move_of letters))) (letters x)
-      (ap (λ (m : Move). m.label) (move_read (move_of letters edge)) ∙ ap (option_map letters) e)
-
-  pub read_joined : (joined : L) (label : List Bool) → All (HasSize (length label)) (map (move_of letters) edges) → ((k : ℕ) → has label k ≡ true → count_by (takes k) (map (move_of letters) edges) ≡ 0)
-      → length (letters joined) ≡ length label → ((k : ℕ) → has (letters joined) k ≡ (takes k (move_of letters edge) || has label k))
-      → IsPut label to (map (move_of letters) edges) (map (move_of letters) (set edges place (record { label = Some joined; to = to })))
-  read_joined joined label sizes free size either =
-      let moved : Move = edge_of (letters joined) to in
-      subst (IsPut label to (map (move_of letters) edges)) (sym (map-set (move_of letters) edges place (record { label = Some joined; to = to })))
-      (put_joined label to (map (move_of letters) edges) sizes free place (omega (arith, within, length-map edges (move_of letters))) (letters joined) size
-      (ap (λ (m : Move). m.to) (move_read moved) ∙ ap (λ (e : Edge L). e.to) at ∙ leads edge)
-      (λ k. either k ∙ ap (λ (m : Move). takes k m || has label k) (sym (move_read moved))))
-
-pub read_behind : {L : Type 0} (letters : L → List Bool) (edges : List (Edge L)) (to : ℕ) (last : L) (label : List Bool) → letters last ≡ label → All (HasSize (length label)) (map (move_of letters) edges)
-    → ((k : ℕ) → has label k ≡ true → count_by (takes k) (map (move_of letters) edges) ≡ 0)
-    → IsPut label to (map (move_of letters) edges) (map (move_of letters) (edges ++ record { label = Some last; to = to } ∷ []))
-read_behind letters edges to last label same sizes free =
-    subst (IsPut label to (map (move_of letters) edges)) (sym (map_push (move_of letters) edges (record { label = Some last; to = to })))
-    (subst (λ l. IsPut label to (map (move_of letters) edges) (map (move_of letters) edges ++ edge_of l to ∷ [])) (sym same)
-    (put_behind label to (map (move_of letters) edges) sizes free))
+  pub put_in : (new : List Move) → IsPutIn label to old new → IsPut label to old new
+  put_in new put = elim put [
+    | inl pushed ↦ subst (IsPut label to old) (sym pushed) put_behind
+    | inr joined ↦
+        let move = edge_of joined.1 to in
+        subst (IsPut label to old) (sym joined.3) (put_joined joined.0 joined.2 joined.1 joined.5 (joined.4 move) (λ k. joined.6 k move))
+  ]
 
 -- edges to classes have the same labels
 pub count_onto : (classes : List ℕ) (k : ℕ) (moves : List Move) → count_by (takes k) (map (onto classes) moves) ≡ count_by (takes k) moves

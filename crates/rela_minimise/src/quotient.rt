@@ -6,11 +6,11 @@ ghost use Rattle.rela_subset.specs.Deterministic.{IsAccepted, IsByArrival, IsDet
 ghost use Rattle.rela_minimise.specs.Classes.{AreAlike, AreClasses, AreFirst, finality};
 ghost use Rattle.rela_minimise.specs.Joining.{AreOnto, HaveEdgesOnto};
 
-use crate::joining::JoinedEdges;
+use crate::joining::put;
 use crate::ordering::OrderedClasses;
 use rela_labels::LabelSet;
 use rela_nfa::Edge;
-use rela_subset::Dfa;
+use rela_subset::{Bundle, Dfa};
 use std::alloc::{AllocError, Global};
 
 /// The automaton with one state for each class, where states are in one class that accept the same
@@ -72,7 +72,7 @@ fn edges_of<L: LabelSet>(
     ensures { IfOk result (λ edges. HaveEdgesOnto dfa.now classes.now heads.now
         (moves_in L.letters edges.items)) }
 {
-    let mut joined = JoinedEdges::new(alloc, heads.len())?;
+    let mut joined = Bundle::new(alloc);
     let mut edges = Vec::with_capacity(alloc, heads.len())?;
     for q in heads {
         put_all(alloc, dfa, classes, *q, &mut joined)?;
@@ -87,7 +87,7 @@ fn put_all<L: LabelSet>(
     dfa: &Dfa<L>,
     classes: &[usize],
     q: usize,
-    joined: &mut JoinedEdges<L>,
+    joined: &mut Bundle<L>,
 ) -> Result<(), AllocError>
     requires deterministic { IsDeterministic dfa.now }
     requires classes { length classes.now ≡ states dfa.now }
@@ -98,7 +98,7 @@ fn put_all<L: LabelSet>(
 {
     for edge in dfa.edges(q) {
         if let Some(label) = &edge.label {
-            joined.put(alloc, label, classes[edge.to])?;
+            put(alloc, joined, label, classes[edge.to])?;
         }
     }
     Ok(())

@@ -15,7 +15,7 @@ use std::marker::Model;
 /// Edges out of one state, of which one leads to each end. The edges of one state after the other
 /// are put here, and the memory is kept. Contracts see them as the list of the edges.
 #[derive(Drop)]
-pub(crate) struct Bundle<L: LabelSet> {
+pub struct Bundle<L: LabelSet> {
     /// The edges, in the order in which their ends came.
     edges: Vec<Edge<L>>,
     /// For each end the place that its edge had last: if an edge leads there now, it is at this
@@ -35,7 +35,7 @@ impl<L: LabelSet> Model for Bundle<L> {
 
 impl<L: LabelSet> Bundle<L> {
     /// No edges.
-    pub(crate) fn new(alloc: Global) -> Bundle<L>
+    pub fn new(alloc: Global) -> Bundle<L>
         ensures { result ≡ [] }
     {
         Bundle {
@@ -47,7 +47,7 @@ impl<L: LabelSet> Bundle<L> {
     /// Puts an edge with this label to this end among the others: where one leads there, its label
     /// is joined to that one's. Time: a set operation, and a step for each end below this one where
     /// there was none so high before.
-    pub(crate) fn put(&mut self, alloc: Global, label: L, to: usize) -> Result<(), AllocError>
+    pub fn put(&mut self, alloc: Global, label: L, to: usize) -> Result<(), AllocError>
         requires { All (λ move. ForSome move.label (λ set. length set
             ≡ length (L.letters label))) self.old }
         ensures { IfOk result (λ _. IsPutIn (L.letters label) to self.old self.new) }
@@ -70,7 +70,7 @@ impl<L: LabelSet> Bundle<L> {
 
     /// Takes all edges out, into a vector without room for more: an automaton keeps one for each of
     /// its states.
-    pub(crate) fn take_edges(&mut self, alloc: Global) -> Result<Vec<Edge<L>>, AllocError>
+    pub fn take_edges(&mut self, alloc: Global) -> Result<Vec<Edge<L>>, AllocError>
         ensures taken { IfOk result (λ edges. map (move_of L.letters) edges.items ≡ self.old) }
         ensures none { IfOk result (λ _. self.new ≡ []) }
     {

@@ -20,6 +20,7 @@ mod state_sets;
 mod visited;
 mod wanted;
 
+pub use bundle::Bundle;
 pub use construction::determinise;
 pub use dfa::Dfa;
 pub use rela_nfa::BuildError;

@@ -31,7 +31,7 @@ loop-edge-preserved g c = elim c.match-edge.branch [
   | in-Some+in_ok-put w ↦
       subst (AreOnto (length c.args.dfa.now.over) c.args.classes.now (take (c.loop-edge.edge-index + 1) (moves_of c.args.dfa.now c.args.q))) (sym w.joined-is)
       (all_more c.args.dfa.now c.requires.deterministic c.args.q c.requires.state c.args.classes.now c.requires.classes g.L.LabelSet.letters c.edges-edge-items.result.now c.edges-edge-items.ensures c.loop-edge.edge-index c.loop-edge-test.true
-      c.edge-item.result c.edge-item.is c.loop-edge.joined c.loop-edge.invariant w.in-Some.label w.in-Some.is w.put.new.self w.in_ok-put.ensures)
+      c.edge-item.result c.edge-item.is c.loop-edge.joined c.loop-edge.invariant w.in-Some.label w.in-Some.is w.put.new.bundle w.in_ok-put.ensures)
   | in_default w ↦
       subst (AreOnto (length c.args.dfa.now.over) c.args.classes.now (take (c.loop-edge.edge-index + 1) (moves_of c.args.dfa.now c.args.q))) (sym w.joined-is)
       (all_silent c.args.dfa.now c.requires.deterministic c.args.q c.requires.state c.args.classes.now c.requires.classes g.L.LabelSet.letters c.edges-edge-items.result.now c.edges-edge-items.ensures c.loop-edge.edge-index c.loop-edge-test.true
