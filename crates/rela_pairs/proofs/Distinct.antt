@@ -1,11 +1,13 @@
 -- Lists that grow and in which no two are equal.
-use Rattle.std.proofs.Common.{◌≡◌, ◌≢◌, ℕ, zero, suc, eqb, ◌&&◌, ◌+◌, ◌<◌, ◌≤◌, Bool, true, false, if◌then◌else◌, List, [], ◌∷◌, ◌++◌, length, get_or, take, drop, refl, sym, ap, ◌∙◌, subst, inl, inr, arith, length-append, length-drop}
+use Rattle.std.proofs.Common.{◌≡◌, ◌≢◌, ℕ, zero, suc, eqb, ◌&&◌, ◌+◌, ◌<◌, ◌≤◌, Bool, true, false, if◌then◌else◌, List, [], ◌∷◌, ◌++◌, length, get_or, Option, Some, None, take, drop, refl, sym, ap, ◌∙◌, subst, inl, inr, arith, length-append, length-drop}
 use Rattle.std.specs.Bool.{Decides}
-use Rattle.std.specs.List.{Contains, list_any}
+use Rattle.std.specs.Prelude.{IfSome}
+use Rattle.std.specs.List.{Contains, list_any, position, slice_get}
 use Rattle.std.proofs.lemmas.Bool.{cases_Bool, both_ways, and_parts, and_from, eqb-true, eq-eqb}
 use Rattle.std.proofs.lemmas.List.{take-append-drop, drop_more, length-take-le}
 use Rattle.std.proofs.lemmas.List.Elements.{All-contains, Contains-append_left, Contains-append_right, Contains-append_cases, Contains-push, Contains-get_or}
-use Rattle.std.proofs.lemmas.List.Quantifiers.{all_pairs_push}
+use Rattle.std.proofs.lemmas.List.Quantifiers.{all_pairs_push, position-Some}
+use Rattle.std.proofs.lemmas.Option.{slice_get-get_or}
 use Rattle.std.proofs.lemmas.Map.Made.{is_member-Decides}
 use Rattle.indexmap.specs.IndexSet.{insert_key}
 use Rattle.rela_pairs.specs.Finding.{Finds}
@@ -96,3 +98,10 @@ pair_found old new k = key_found pair_eq same_pair old k new
 
 pub pairs_distinct : (old new : List Pair) (k : Pair) → AreDistinct old → new ≡ insert_key pair_eq old k → AreDistinct new
 pairs_distinct old new k = keys_distinct pair_eq same_pair old k new
+
+-- a pair that was found among the keys
+pub pair_at : (keys : List Pair) (k : Pair) (o : Option ℕ) → o ≡ position (pair_eq k) keys → IfSome o (λ n. slice_get keys n ≡ Some k)
+pair_at keys k None is = tt
+pair_at keys k (Some n) is =
+    let at = position-Some (pair_eq k) keys n k (sym is) in
+    slice_get-get_or keys n k at.0 ∙ ap Some (sym ((same_pair k (get_or keys n k)).0 at.1))

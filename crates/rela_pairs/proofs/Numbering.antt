@@ -1,10 +1,13 @@
 -- Numbers in a list that grows at its end.
-use Rattle.std.proofs.Common.{◌≡◌, ℕ, zero, suc, ◌+◌, ◌<◌, List, [], ◌∷◌, ◌++◌, length, get_or, take, map, Some, refl, sym, ap, ◌∙◌, subst, inl, inr, arith, append_assoc, length-append}
+use Rattle.std.proofs.Common.{◌≡◌, ℕ, zero, suc, ◌+◌, ◌<◌, List, [], ◌∷◌, ◌++◌, length, get_or, take, map, Option, None, Some, ◌≢◌, ◌≤◌, ◌^◌, refl, sym, ap, ◌∙◌, subst, inl, inr, arith, append_assoc, length-append}
+use Rattle.std.specs.Prelude.{IfErr, IsNone, ok_or}
 use Rattle.std.specs.List.{All, Contains, slice_get}
 use Rattle.std.proofs.lemmas.List.{append-nil, map-append, take_more, get_or_append_left}
-use Rattle.std.proofs.lemmas.List.Elements.{All-nil, All-push, All-append, All-weaker}
+use Rattle.std.proofs.lemmas.List.Elements.{All-nil, All-push, All-append, All-weaker, Contains-get_or}
+use Rattle.std.proofs.lemmas.List.Quantifiers.{all_pairs_push}
 use Rattle.std.proofs.lemmas.Option.{slice_get_within, slice_get-get_or, get_or_from_slice_get}
 use Rattle.rela_pairs.specs.Finding.{Finds, GrowsBy, AreNumbers, Passes}
+use Rattle.rela_pairs.specs.Reachable.{AreDistinct}
 
 -- a place that was there stays
 pub slice_get_grown : {X : Type 0} (old more : List X) (k : ℕ) (x : X) → slice_get old k ≡ Some x → slice_get (old ++ more) k ≡ Some x
@@ -69,10 +72,26 @@ pub only_one : {X : Type 0} (x y : X) → Contains (x ∷ []) y → x ≡ y
 only_one x y (zero, below, is) = is
 only_one x y (suc k, below, is) = absurd (omega (arith, below))
 
-pub passes_later : {X : Type 0} (limit : ℕ) (xs old mid new : List X) (x : X) → GrowsBy xs old mid → Contains xs x → Passes limit (x ∷ []) mid new → Passes limit xs old new
-passes_later limit xs old mid new x grows among passes = record {
-  grows = grows_both xs (x ∷ []) old mid new grows passes.grows (λ y c. subst (λ z. Contains xs z) (only_one x y c) among);
+pub passes_later : {X : Type 0} (limit : ℕ) (xs old mid : List X) (x : X) → GrowsBy xs old mid → Contains xs x → Passes limit (x ∷ []) mid → Passes limit xs old
+passes_later limit xs old mid x grows among passes = record {
+  more = passes.more;
+  grows = grows_both xs (x ∷ []) old mid passes.more grows passes.grows (λ y c. subst (λ z. Contains xs z) (only_one x y c) among);
   distinct = passes.distinct;
   past = passes.past;
   small = passes.small;
 }
+
+-- to put in another one where there are as many as there may be
+pub would_pass : {X : Type 0} (limit : ℕ) (x : X) (old : List X) → AreDistinct old → length old < 2 ^ 63 → limit ≤ length old → (Contains old x → ⊥) → Passes limit (x ∷ []) old
+would_pass limit x old distinct few full absent = record {
+  more = old ++ x ∷ [];
+  grows = (x ∷ [], refl, All-push (Contains (x ∷ [])) [] x (All-nil (Contains (x ∷ []))) (0, omega arith, refl));
+  distinct = all_pairs_push ◌≢◌ old x distinct (λ i d below equal. absent (subst (λ z. Contains old z) equal (Contains-get_or old i d below)));
+  past = omega (arith, full, length-append old (x ∷ []));
+  small = omega (arith, full, few);
+}
+
+-- what comes only where there is no number
+pub unless_known : {E : Type 0} (P : Type 0) (Q : E → Type 0) (e : E) (o : Option ℕ) → (IsNone o → P) → IfErr (ok_or o e) (λ f. Q f → P)
+unless_known P Q e None absent = λ q. absent refl
+unless_known P Q e (Some n) absent = tt

@@ -51,8 +51,8 @@ pub grown_all : {X : Type 0} (P : X → Type 0) (xs old new : List X) → GrowsB
 grown_all P xs old new grows before added =
     subst (λ l. All P l) (sym grows.1) (All-append P old grows.0 before (All-weaker (Contains xs) P added grows.0 grows.2))
 
-pub passed_limit : {X : Type 0} (limit : ℕ) (P : X → Type 0) (xs old new : List X) → Passes limit xs old new → All P old → ((x : X) → Contains xs x → P x) → MoreThan limit P
-passed_limit limit P xs old new passes before added = more_than limit P new passes.distinct (grown_all P xs old new passes.grows before added) passes.past
+pub passed_limit : {X : Type 0} (limit : ℕ) (P : X → Type 0) (xs old : List X) → Passes limit xs old → All P old → ((x : X) → Contains xs x → P x) → MoreThan limit P
+passed_limit limit P xs old passes before added = more_than limit P passes.more passes.distinct (grown_all P xs old passes.more passes.grows before added) passes.past
 
 pub only_start : {X : Type 0} (next : X → List X) (start x : X) → Contains (start ∷ []) x → Reachable next start x
 only_start next start x (zero, below, is) = subst (λ y. Reachable next start y) is (reachable_start next start)

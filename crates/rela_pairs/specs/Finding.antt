@@ -15,9 +15,10 @@ GrowsBy {X} xs old new = (more : List X) × (new ≡ old ++ more) × All (Contai
 abbrev pub AreNumbers : {X : Type 0} → List X → List X → List ℕ → Type 0
 AreNumbers found xs numbers = map (slice_get found) numbers ≡ map Some xs
 
--- putting in some of xs has passed the limit, which isn't the greatest number
-pub record Passes {X : Type 0} (limit : ℕ) (xs old new : List X) : Type 0 where
-  pub grows : GrowsBy xs old new
-  pub distinct : AreDistinct new
-  pub past : limit < length new
+-- to put in some of xs would pass the limit, which isn't the greatest number
+pub record Passes {X : Type 0} (limit : ℕ) (xs old : List X) : Type 0 where
+  pub more : List X
+  pub grows : GrowsBy xs old more
+  pub distinct : AreDistinct more
+  pub past : limit < length more
   pub small : limit < 2 ^ 63

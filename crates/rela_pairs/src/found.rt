@@ -1,5 +1,5 @@
 //! The pairs that were found, and their numbers.
-ghost use Rattle.std.specs.Prelude.{◌≡◌, ◌<◌, ◌≤◌, ◌^◌, [], ◌∷◌, Some, IfOk, IfErr, OnOk, length, slice_get};
+ghost use Rattle.std.specs.Prelude.{◌≡◌, ◌<◌, ◌≤◌, ◌^◌, [], ◌∷◌, Some, Contains, IsNone, IfSome, IfOk, IfErr, OnOk, OnErr, IsErrOf, length, slice_get};
 ghost use Rattle.std.specs.List.{All};
 ghost use Rattle.rela_pairs.specs.Finding.{Finds, GrowsBy, AreNumbers, Passes};
 ghost use Rattle.rela_pairs.specs.Keeping.{pairs_of, Takes};
@@ -48,12 +48,26 @@ impl Found {
         }
     }
 
+    /// The number of a pair, if it was found.
+    fn known(&self, pair: Pair) -> Option<usize>
+        requires { Takes self.now pair }
+        ensures numbered { IfSome result (λ number.
+            slice_get (pairs_of self.now) number ≡ Some pair) }
+        ensures absent { IsNone result → ¬ Contains (pairs_of self.now) pair }
+    {
+        match self {
+            Found::Tabled(table) => table.known(pair),
+            Found::Hashed(hashed) => hashed.known(pair),
+        }
+    }
+
     /// The number of a pair, which is put in unless it is there.
     fn find(&mut self, pair: Pair) -> Result<usize, AllocError>
         requires { Takes self.old pair }
         ensures numbered { IfOk result (λ number.
             slice_get (pairs_of self.new) number ≡ Some pair) }
         ensures finds { IfOk result (λ _. Finds (pairs_of self.old) (pairs_of self.new) pair) }
+        ensures absent { OnErr result (¬ Contains (pairs_of self.old) pair) }
         ensures takes { (x : Pair) → Takes self.old x → Takes self.new x }
     {
         match self {
@@ -62,8 +76,8 @@ impl Found {
         }
     }
 
-    /// The number of a pair, which is put in unless it is there. `Limit` where there are then more
-    /// pairs than `limit`, and `Memory` where there isn't memory for it.
+    /// The number of a pair, which is put in unless it is there. `Limit` where there would then be
+    /// more pairs than `limit`, and `Memory` where there isn't memory for a pair that is put in.
     pub(crate) fn number(&mut self, pair: Pair, limit: usize) -> Result<usize, BuildError>
         requires few { length (pairs_of self.old) ≤ limit }
         requires takes { Takes self.old pair }
@@ -72,14 +86,15 @@ impl Found {
         ensures finds { IfOk result (λ _. Finds (pairs_of self.old) (pairs_of self.new) pair) }
         ensures few { IfOk result (λ _. length (pairs_of self.new) ≤ limit) }
         ensures limit { IfErr result (λ e. e ≡ BuildError.Limit →
-            Passes limit (pair ∷ []) (pairs_of self.old) (pairs_of self.new)) }
+            Passes limit (pair ∷ []) (pairs_of self.old)) }
+        ensures room { IsErrOf result BuildError.Memory → length (pairs_of self.old) < limit }
+        ensures absent { IsErrOf result BuildError.Memory → ¬ Contains (pairs_of self.old) pair }
         ensures takes { (x : Pair) → Takes self.old x → Takes self.new x }
     {
-        let number = self.find(pair)?;
-        if self.pairs().len() > limit {
-            return Err(BuildError::Limit);
+        if self.pairs().len() >= limit {
+            return self.known(pair).ok_or(BuildError::Limit);
         }
-        Ok(number)
+        Ok(self.find(pair)?)
     }
 
     /// Puts the numbers of the pairs in place of those that are there, as by
@@ -96,7 +111,7 @@ impl Found {
         ensures grows { OnOk result (GrowsBy pairs.now (pairs_of self.old) (pairs_of self.new)) }
         ensures few { OnOk result (length (pairs_of self.new) ≤ limit) }
         ensures limit { IfErr result (λ e. e ≡ BuildError.Limit →
-            Passes limit pairs.now (pairs_of self.old) (pairs_of self.new)) }
+            Passes limit pairs.now (pairs_of self.old)) }
         ensures takes { (x : Pair) → Takes self.old x → Takes self.new x }
     {
         numbers.clear();

@@ -1,5 +1,5 @@
 //! Pairs that are looked up by their hash.
-ghost use Rattle.std.specs.Prelude.{◌≡◌, ◌<◌, ◌^◌, [], Some, IfOk, length, slice_get};
+ghost use Rattle.std.specs.Prelude.{◌≡◌, ◌<◌, ◌^◌, [], Some, Contains, IsNone, IfSome, IfOk, OnErr, length, slice_get};
 ghost use Rattle.rela_pairs.specs.Finding.{Finds};
 ghost use Rattle.rela_pairs.specs.Reachable.{AreDistinct};
 
@@ -48,10 +48,19 @@ impl Hashed {
         self.found.as_slice()
     }
 
+    /// The number of a pair, if it was found. Time: constant in expectation.
+    pub(crate) fn known(&self, pair: Pair) -> Option<usize>
+        ensures numbered { IfSome result (λ number. slice_get self.now number ≡ Some pair) }
+        ensures absent { IsNone result → ¬ Contains self.now pair }
+    {
+        self.found.get_index_of(&pair)
+    }
+
     /// The number of a pair, which is put in unless it is there. Time: constant in expectation.
     pub(crate) fn number(&mut self, pair: Pair) -> Result<usize, AllocError>
         ensures numbered { IfOk result (λ number. slice_get self.new number ≡ Some pair) }
         ensures finds { IfOk result (λ _. Finds self.old self.new pair) }
+        ensures absent { OnErr result (¬ Contains self.old pair) }
     {
         let (number, _) = self.found.insert_full(pair)?;
         Ok(number)

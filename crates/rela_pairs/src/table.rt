@@ -1,5 +1,5 @@
 //! Pairs that are looked up in a table of them all.
-ghost use Rattle.std.specs.Prelude.{◌≡◌, ◌*◌, ◌<◌, ◌≤◌, ◌^◌, [], Some, IfOk, length, slice_get};
+ghost use Rattle.std.specs.Prelude.{◌≡◌, ◌*◌, ◌<◌, ◌≤◌, ◌^◌, [], Some, Contains, IsNone, IfSome, IfOk, OnErr, length, slice_get};
 ghost use Rattle.rela_pairs.specs.Finding.{Finds};
 ghost use Rattle.rela_pairs.specs.Places.{Fits};
 ghost use Rattle.rela_pairs.specs.Reachable.{AreDistinct};
@@ -56,11 +56,22 @@ impl Table {
         self.found.as_slice()
     }
 
+    /// The number of a pair, if it was found. Time: constant.
+    pub(crate) fn known(&self, pair: Pair) -> Option<usize>
+        requires { Fits self.now.shape pair }
+        ensures numbered { IfSome result (λ number. slice_get self.now.pairs number ≡ Some pair) }
+        ensures absent { IsNone result → ¬ Contains self.now.pairs pair }
+    {
+        let place = pair.left * self.shape.rights + pair.right;
+        self.numbers[place].map(|number| number as usize)
+    }
+
     /// The number of a pair, which is put in unless it is there. Time: constant.
     pub(crate) fn number(&mut self, pair: Pair) -> Result<usize, AllocError>
         requires { Fits self.old.shape pair }
         ensures numbered { IfOk result (λ number. slice_get self.new.pairs number ≡ Some pair) }
         ensures finds { IfOk result (λ _. Finds self.old.pairs self.new.pairs pair) }
+        ensures absent { OnErr result (¬ Contains self.old.pairs pair) }
         ensures shape { self.new.shape ≡ self.old.shape }
     {
         let place = pair.left * self.shape.rights + pair.right;

@@ -67,8 +67,8 @@ returns-in_err-number-clause-limit g c =
     let next = g.S.Successors.next c.args.successors.now in
     let p = err_from_is_err_and c.from_residual-in_err-number.result c.from_residual-in_err-number.ensures.1 in
     rw (p.1, p.2) (λ e.
-    passed_limit c.args.limit (Reachable next c.args.start) (c.args.start ∷ []) [] (pairs_of c.number.new.self)
-    (subst (λ (l : List Pair). Passes c.args.limit (c.args.start ∷ []) l (pairs_of c.number.new.self)) c.in_ok-found.ensures.none (c.in_err-number.ensures.limit e))
+    passed_limit c.args.limit (Reachable next c.args.start) (c.args.start ∷ []) []
+    (subst (λ (l : List Pair). Passes c.args.limit (c.args.start ∷ []) l) c.in_ok-found.ensures.none (c.in_err-number.ensures.limit e))
     (All-nil (Reachable next c.args.start)) (only_start next c.args.start))
 
 pub returns-in_err-number_all-clause-limit : goal.returns-in_err-number_all-clause-limit
@@ -83,8 +83,8 @@ returns-in_err-number_all-clause-limit g c =
     let follow : c.deref.result.now ≡ next pair = c.deref.ensures.value ∙ c.in_ok-add_next.ensures.next ∙ ap (λ l. l ++ next pair) c.clear.ensures.items in
     let p = err_from_is_err_and c.from_residual-in_err-number_all.result c.from_residual-in_err-number_all.ensures.1 in
     rw (p.1, p.2) (λ e.
-    passed_limit c.args.limit (Reachable next c.args.start) (next pair) (pairs_of c.queue.found) (pairs_of c.number_all.new.self)
-    (subst (λ (l : List Pair). Passes c.args.limit l (pairs_of c.queue.found) (pairs_of c.number_all.new.self)) follow (c.in_err-number_all.ensures.limit e))
+    passed_limit c.args.limit (Reachable next c.args.start) (next pair) (pairs_of c.queue.found)
+    (subst (λ (l : List Pair). Passes c.args.limit l (pairs_of c.queue.found)) follow (c.in_err-number_all.ensures.limit e))
     c.queue.invariant.so_far.reached (λ x among. reachable_next next c.args.start pair x here among))
 
 pub returns-clause-first : goal.returns-clause-first

@@ -32,5 +32,5 @@ returns-in_err-number-clause-limit c =
     let none : Pair = record { left = 0; right = 0 } in
     let p = err_from_is_err_and c.from_residual.result c.from_residual.ensures.1 in
     rw (p.1, p.2) (λ e.
-    passes_later c.args.limit pairs (pairs_of c.args.self.now) (pairs_of c.loop-pair.self) (pairs_of c.number.new.self) (get_or pairs i none) c.loop-pair.invariant.grows
+    passes_later c.args.limit pairs (pairs_of c.args.self.now) (pairs_of c.loop-pair.self) (get_or pairs i none) c.loop-pair.invariant.grows
     (Contains-get_or pairs i none c.loop-pair-test.true) (c.in_err-number.ensures.limit e))
