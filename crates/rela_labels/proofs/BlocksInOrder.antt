@@ -3,7 +3,7 @@ use Rattle.std.proofs.Common.{zero, suc, ◌≡◌, ℕ, ◌-◌, ◌^◌, ◌<�
 use Rattle.std.proofs.lemmas.Bool.{cases_lt, cases_order}
 use Rattle.std.proofs.lemmas.Grind.{same_number_lists}
 use Rattle.std.proofs.lemmas.List.{get_or_default, get_or-replicate, length-replicate}
-use Rattle.std.specs.List.{All, Contains}
+use Rattle.std.specs.List.{All}
 use Rattle.rela_labels.specs.Partition.{block_count, IsLeastOf, IsPartition, IsNumbered, Together}
 
 count_at_most : (blocks : List ℕ) (n : ℕ) → ((s : ℕ) → s < length blocks → get_or blocks s 0 < n) → block_count blocks ≤ n
@@ -95,12 +95,6 @@ least_of_value blocks firsts value block s is e below read =
     let same : s ≡ get_or firsts block 0 = read ∙ get_or_default firsts block s 0 within in
     subst (λ bs. IsLeastOf bs block s) e (subst (λ r. IsLeastOf blocks block r) (sym same) (is.first block within))
 
-pub blocks_all_below : (blocks firsts lent : List ℕ) (n : ℕ) → IsNumbered blocks firsts → lent ≡ blocks → n ≡ length firsts → All (λ b. b < n) lent
-blocks_all_below blocks firsts lent n is e n_is = subst (λ bs. All (λ b. b < n) bs) (sym e) (λ k d within.
-    let below = is.counted k within in
-    let same : get_or blocks k d ≡ get_or blocks k 0 = get_or_default blocks k d 0 within in
-    omega arith)
-
 -- two partitions whose symbols share blocks alike are the same
 alike : (p q : List ℕ) → IsPartition p → IsPartition q → length p ≡ length q
     → ((s t : ℕ) → s < length p → t < length p → Together p s t ↔ Together q s t)
@@ -129,26 +123,3 @@ alike p q p_is q_is len same (suc n) s below most =
 pub same_partitions : (p q : List ℕ) → IsPartition p → IsPartition q → length p ≡ length q
     → ((s t : ℕ) → s < length p → t < length p → Together p s t ↔ Together q s t) → p ≡ q
 same_partitions p q p_is q_is len same = same_number_lists p q len (λ k within. alike p q p_is q_is len same (length p) k within (omega arith))
-
--- a partition by keys that tell the members of each block from the others
-pub refined : (value old lent_old keys lent_keys blocks given view members : List ℕ) → old ≡ value → lent_old ≡ old → length keys ≡ length lent_old
-    → ((s t : ℕ) → s < length lent_old → t < length lent_old
-    → (get_or keys s 0 ≡ get_or keys t 0) ↔ ((get_or lent_old s 0 ≡ get_or lent_old t 0) × (Contains members s ↔ Contains members t)))
-    → lent_keys ≡ keys
-    → ((s t : ℕ) → s < length lent_keys → t < length lent_keys → Together blocks s t ↔ (get_or lent_keys s 0 ≡ get_or lent_keys t 0))
-    → view ≡ given → given ≡ blocks → (s t : ℕ) → s < length value → t < length value
-    → Together view s t ↔ (Together value s t × (Contains members s ↔ Contains members t))
-refined value old lent_old keys lent_keys blocks given view members old_is lent_is keys_len split keys_is numbered view_is given_is s t s_in t_in =
-    let lent : lent_old ≡ value = lent_is ∙ old_is in
-    let lent_len : length lent_old ≡ length value = ap length lent in
-    let lent_keys_len : length lent_keys ≡ length keys = ap length keys_is in
-    let by_keys = split s t (omega arith) (omega arith) in
-    let by_numbers = numbered s t (omega arith) (omega arith) in
-    let shown : view ≡ blocks = view_is ∙ given_is in (
-      λ same.
-          let both = by_keys.0 (subst (λ ks. Together ks s t) keys_is (by_numbers.0 (subst (λ bs. Together bs s t) shown same))) in
-          (subst (λ bs. Together bs s t) lent both.0, both.1),
-      λ both.
-          subst (λ bs. Together bs s t) (sym shown)
-          (by_numbers.1 (subst (λ ks. Together ks s t) (sym keys_is) (by_keys.1 (subst (λ bs. Together bs s t) (sym lent) both.0, both.1)))),
-    )

@@ -4,7 +4,6 @@ pub mod AscendingLists
 pub mod BlocksInOrder
 pub mod KeysInOrder
 pub mod LettersOfWords
-pub mod Members
 pub mod MovedKeys
 pub mod OneWord
 pub mod ReachedSymbols

@@ -1,9 +1,8 @@
 //! Numbers for the keys of a list, in the order in which the keys first come.
-ghost use Rattle.std.specs.Prelude.{◌≡◌, ℕ, ◌+◌, ◌*◌, ◌^◌, ◌<◌, ◌≤◌, ◌↔◌, ◌++◌, List, [], ◌∷◌, IfOk, All, Contains, length, slice_index};
+ghost use Rattle.std.specs.Prelude.{◌≡◌, ℕ, ◌^◌, ◌<◌, ◌≤◌, ◌↔◌, ◌++◌, List, [], ◌∷◌, IfOk, All, length, slice_index};
 ghost use Rattle.rela_labels.specs.Numbering.{IsNumbering};
 ghost use Rattle.rela_labels.specs.Partition.{Together, IsNumbered};
 
-use rela_names::Symbol;
 use std::alloc::{AllocError, Global};
 
 /// The numbers below `n`, in order.

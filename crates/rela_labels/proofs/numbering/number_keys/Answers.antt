@@ -1,4 +1,4 @@
-use Rattle.std.proofs.Common.{take, get_or, ◌∙◌, arith}
+use Rattle.std.proofs.Common.{take, ◌∙◌, arith}
 use Rattle.std.proofs.lemmas.List.{length-take-le}
 use Rattle.rela_labels.proofs.KeysInOrder.{every_key, all_numbered, keys_pushed, same_numbers}
 use Rattle.rela_labels.proofs.numbering.number_keys.Goals as goal
