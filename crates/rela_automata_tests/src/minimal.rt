@@ -21,14 +21,18 @@ fn minimal_others(alloc: Global, dfa: &Dfa<Letters>) -> Result<Dfa<Letters>, All
     least.into_complement(alloc)
 }
 
-/// Whether it has a state for the empty word, one for letter 0 alone and one for all other words, and
-/// accepts all but letter 0.
+/// Whether it has a state for the empty word, one for letter 0 alone and one for all other words,
+/// with one edge to each state that follows, and accepts all but letter 0.
 fn lacks_zero(made: &Dfa<Letters>) -> bool {
     made.states() == 3
         && made.start() == 0
         && made.over().contains(0)
         && made.over().contains(1)
-        && [made.next(0, 0), made.next(0, 1), made.next(1, 0)] == [1, 2, 2]
+        && [
+            made.edges(0).len(),
+            made.edges(1).len(),
+            made.edges(2).len(),
+        ] == [2, 1, 1]
         && [made.is_final(0), made.is_final(1), made.is_final(2)] == [true, false, true]
 }
 

@@ -63,7 +63,7 @@ fn all_words_but_one(rt: HostRuntime) {
     hold(&rt, rt.alloc(), &[0], &[1], ALL_BUT_ZERO);
 }
 
-/// Whether it reads letters 0 and 2 of three, and accepts the word of letter 2.
+/// Whether it reads letters 0 and 2 of three.
 fn is_reading(dfa: &Dfa<Letters>) -> bool {
     let start = dfa.start();
     dfa.letters() == 3
@@ -72,7 +72,6 @@ fn is_reading(dfa: &Dfa<Letters>) -> bool {
         && !dfa.over().contains(1)
         && dfa.over().contains(2)
         && !dfa.is_final(start)
-        && dfa.is_final(dfa.next(start, 2))
 }
 
 /// That an automaton over letters 0 and 2 alone reads the word of letter 2 so.
@@ -81,7 +80,7 @@ struct Reading;
 impl Question for Reading {
     fn is_so(&self, alloc: Global, words: &Table, _second: &Table) -> bool {
         match determinised(alloc, words, &[0, 2], 3) {
-            Ok(dfa) => is_reading(&dfa),
+            Ok(dfa) => is_reading(&dfa) && has(alloc, dfa.into_nfa(alloc), &[2]) == Some(true),
             Err(_) => false,
         }
     }

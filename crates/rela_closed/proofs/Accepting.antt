@@ -8,9 +8,10 @@ use Rattle.std.proofs.lemmas.List.Elements.{All-from_get_or, All-get_or}
 use Rattle.std.proofs.lemmas.Option.{get_or_from_slice_get, slice_get_within}
 use Rattle.rela_nfa.specs.Automaton.{Automaton}
 use Rattle.rela_nfa.specs.Runs.{Accepts}
+use Rattle.rela_nfa.specs.StateSet.{Lists}
 use Rattle.rela_closed.specs.Closed.{AreAccepted}
 use Rattle.rela_closed.specs.Listing.{AreListed, TellAllFinals, TellsFinals}
-use Rattle.rela_closed.specs.Sets.{AreMet, HasFinal, Lists, ReachedBy}
+use Rattle.rela_closed.specs.Sets.{AreMet, HasFinal, ReachedBy}
 use Rattle.rela_closed.proofs.JointSets.{reached_at, reached_each}
 use Rattle.rela_closed.proofs.Listed.{all_met}
 

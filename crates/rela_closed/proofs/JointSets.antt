@@ -2,9 +2,10 @@
 use Rattle.std.proofs.Common.{◌≡◌, ◌≢◌, ℕ, zero, suc, ◌<◌, List, [], ◌∷◌, ◌++◌, length, get_or, refl, sym, ap, ◌∙◌, subst, inl, inr, arith}
 use Rattle.std.proofs.lemmas.List.Elements.{All-head, All-tail, All-nil, All-cons}
 use Rattle.rela_nfa.specs.Automaton.{Automaton}
+use Rattle.rela_nfa.specs.StateSet.{Lists}
 use Rattle.rela_closed.specs.Closed.{AreApart, SameStates}
 use Rattle.rela_build.specs.Complement.{ReachSame}
-use Rattle.rela_closed.specs.Sets.{AreReached, Lists, ReachedBy}
+use Rattle.rela_closed.specs.Sets.{AreReached, ReachedBy}
 use Rattle.rela_closed.proofs.Ascending.{same_lists, same_or_apart}
 use Rattle.rela_closed.proofs.Targets.{Contains-head, Contains-tail}
 

@@ -11,14 +11,12 @@ pub mod LedAlike
 pub mod LeftLetters
 pub mod Listed
 pub mod Machine
-pub mod Marking
 pub mod Narrowing
 pub mod Placing
 pub mod Readers
 pub mod Searching
 pub mod SetsFound
 pub mod SortedOut
-pub mod Stamps
 pub mod TakenBlocks
 pub mod Targets
 pub mod Walks

@@ -9,11 +9,12 @@ use Rattle.std.proofs.lemmas.List.Elements.{All-from_get_or, All-get_or, All-hea
 use Rattle.rela_labels.specs.Letters.{has}
 use Rattle.rela_nfa.specs.Automaton.{Automaton, IsAutomaton, IsFinal, IsMove, Move, moves_of}
 use Rattle.rela_nfa.specs.Runs.{Accepts, HasStep, Reach, StepIn}
+use Rattle.rela_nfa.specs.StateSet.{Lists}
 use Rattle.rela_nfa.proofs.Reaching.{reach_each, reach_start, reach_step}
 use Rattle.rela_closed.specs.Closed.{SameStates}
 use Rattle.rela_build.specs.Complement.{IsComplement, IsOver, ReachApart, ReachSame, TellsAll}
 use Rattle.rela_closed.specs.Listing.{AreAllEdges, AreListed, takes}
-use Rattle.rela_closed.specs.Sets.{AreDistinct, AreMet, AreReached, HasFinal, Lists, ReachedBy}
+use Rattle.rela_closed.specs.Sets.{AreDistinct, AreMet, AreReached, HasFinal, ReachedBy}
 use Rattle.rela_closed.specs.Words.{words_of}
 use Rattle.rela_closed.specs.declared.step.Step.{Step}
 use Rattle.rela_closed.proofs.Accepting.{accepts_final}

@@ -4,7 +4,8 @@ use Rattle.std.specs.List.{All}
 use Rattle.std.proofs.lemmas.List.{get_or-map, length-map, map_more, map_push}
 use Rattle.std.proofs.lemmas.List.Elements.{All-get_or}
 use Rattle.rela_nfa.specs.Automaton.{Automaton}
-use Rattle.rela_closed.specs.Sets.{AreReached, Lists, ReachedBy}
+use Rattle.rela_nfa.specs.StateSet.{Lists}
+use Rattle.rela_closed.specs.Sets.{AreReached, ReachedBy}
 use Rattle.rela_closed.proofs.JointSets.{reached_at, reached_each, reached_more}
 
 -- one item more

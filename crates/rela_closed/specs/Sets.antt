@@ -1,16 +1,8 @@
--- Sets of numbers as lists in ascending order, and the sets of states that words reach.
-use Rattle.std.specs.Prelude.{◌≡◌, ◌≢◌, ℕ, ◌<◌, ◌⊎◌, ◌↔◌, Bool, List, [], ◌∷◌, ◌++◌, length, slice_index_or, Contains, nat_eq}
-use Rattle.std.specs.List.{IsDistinct}
-use Rattle.std.specs.List.Sorted.{IsStrictlySortedBy}
-use Rattle.std.specs.Ordering.{nat_cmp}
+-- The sets of states that words reach.
+use Rattle.std.specs.Prelude.{◌≡◌, ◌≢◌, ℕ, ◌<◌, ◌⊎◌, List, [], ◌∷◌, ◌++◌, length, slice_index_or, Contains}
 use Rattle.rela_nfa.specs.Automaton.{Automaton, IsFinal}
 use Rattle.rela_nfa.specs.Runs.{Reach}
-use Rattle.rela_nfa.specs.StateSet.{AreFlagged}
-
--- the numbers of P, each once, in ascending order
-pub record Lists (P : ℕ → Type 0) (set : List ℕ) : Type 0 where
-  pub ordered : IsStrictlySortedBy nat_cmp set
-  pub members : (q : ℕ) → Contains set q ↔ P q
+use Rattle.rela_nfa.specs.StateSet.{Lists}
 
 -- the word reaches q
 abbrev pub ReachedBy : Automaton → List ℕ → ℕ → Type 0
@@ -19,11 +11,6 @@ ReachedBy a word q = Reach a q word
 -- a state of the set is final
 abbrev pub HasFinal : Automaton → List ℕ → Type 0
 HasFinal a set = (q : ℕ) × Contains set q × IsFinal a q
-
--- the flags of just the states are set, and no state stands twice
-pub record AreMarked (flags : List Bool) (states : List ℕ) : Type 0 where
-  pub flagged : AreFlagged flags states
-  pub distinct : IsDistinct nat_eq states
 
 -- for each automaton the states of it that the word reaches
 abbrev pub AreReached : List Automaton → List ℕ → List (List ℕ) → Type 0

@@ -11,7 +11,8 @@ use crate::step::Step;
 use crate::table::Table;
 use rela_labels::LabelSet;
 use rela_nfa::{BuildError, Nfa};
-use std::alloc::{AllocError, Global};
+use rela_pairs::within;
+use std::alloc::Global;
 
 /// The list of words that is closed for the automata and lists, for each list of sets of states
 /// that words over the letters reach, just the first such word, in shortlex order. It begins with
@@ -110,9 +111,7 @@ fn leave<'a, L: LabelSet>(
         }
         let parent = number as u32;
         steps.push(Step { parent, letter })?;
-        if table.len() > limit {
-            return Err(BuildError::Limit);
-        }
+        within(table.len(), limit)?;
     }
     Ok(())
 }

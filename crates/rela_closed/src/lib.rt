@@ -14,14 +14,12 @@ mod finding;
 mod followers;
 mod following;
 mod labels;
-mod marks;
 mod numbering;
 mod reader;
 mod single;
 mod step;
 mod table;
 mod transitions;
-mod visited;
 
 pub use closed_laws::{closed_lists_decide, listed_words_are_over};
 pub use complementing::complement;

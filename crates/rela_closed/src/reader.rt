@@ -9,9 +9,8 @@ ghost use Rattle.rela_closed.specs.Splitting.{AreTold, remains};
 use crate::blocks::Blocks;
 use crate::closure::{first_set, next_set};
 use crate::labels::Labels;
-use crate::visited::Visited;
 use rela_labels::LabelSet;
-use rela_nfa::Nfa;
+use rela_nfa::{Nfa, StateSet};
 use std::alloc::{AllocError, Global};
 use std::marker::Model;
 
@@ -21,7 +20,7 @@ pub(crate) struct Reader<'a, L: LabelSet> {
     /// The automata.
     automata: &'a [&'a Nfa<L>],
     /// Room for the states of any one of them.
-    visited: Visited,
+    visited: StateSet,
 }
 
 impl<'a, L: LabelSet> Model for Reader<'a, L> {
@@ -45,7 +44,7 @@ impl<'a, L: LabelSet> Reader<'a, L> {
     ) -> Result<Reader<'a, L>, AllocError>
         ensures { IfOk result (λ reader. reader ≡ map (λ a. a.now) automata.now) }
     {
-        let visited = Visited::new(alloc, most_states(automata))?;
+        let visited = StateSet::new(alloc, most_states(automata))?;
         Ok(Reader { automata, visited })
     }
 

@@ -5,7 +5,8 @@ use Rattle.std.proofs.lemmas.Bool.{cases_Bool, cases_lt, false≢true}
 use Rattle.std.proofs.lemmas.List.{get_or_past}
 use Rattle.rela_nfa.specs.Automaton.{Automaton, IsFinal, states}
 use Rattle.rela_nfa.specs.Runs.{Accepts, Reach}
-use Rattle.rela_subset.specs.Sets.{Lists, ReachedBy}
+use Rattle.rela_nfa.specs.StateSet.{Lists}
+use Rattle.rela_subset.specs.Sets.{ReachedBy}
 use Rattle.rela_subset.specs.Subsets.{AreApart}
 use Rattle.rela_compare.specs.Halves.{AreCopied, HasFinalFrom, IsAgreed, IsSought}
 use Rattle.rela_compare.specs.declared.sought.Sought.{Sought}

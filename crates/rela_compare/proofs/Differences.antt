@@ -6,8 +6,9 @@ use Rattle.rela_labels.specs.Letters.{has}
 use Rattle.rela_names.specs.Shortlex.{First, IsBefore}
 use Rattle.rela_nfa.specs.Automaton.{Automaton, IsAutomaton, states}
 use Rattle.rela_nfa.specs.Runs.{Accepts}
+use Rattle.rela_nfa.specs.StateSet.{Lists}
 use Rattle.rela_subset.specs.Deterministic.{IsOver}
-use Rattle.rela_subset.specs.Sets.{Lists, ReachedBy}
+use Rattle.rela_subset.specs.Sets.{ReachedBy}
 use Rattle.rela_subset.specs.Subsets.{AreApart, IsUnwantedWord, IsWantedWord, ReachSetsBefore}
 use Rattle.rela_compare.specs.Comparison.{ReachPairsBefore}
 use Rattle.rela_compare.specs.Halves.{AreCopied, Differs, HasFinalFrom, IsAgreed, IsSought}

@@ -1,18 +1,19 @@
 -- Lists of states that grow at the end.
 use Rattle.std.proofs.Common.{◌≡◌, ℕ, Bool, true, false, ◌+◌, ◌<◌, ◌≤◌, ◌⊎◌, ◌↔◌, List, [], ◌∷◌, ◌++◌, length, get_or, take, Option, None, Some, inl, inr, arith, refl, sym, ap, ◌∙◌, subst, append_assoc, length-append}
-use Rattle.std.specs.List.{Contains}
+use Rattle.std.specs.List.{All, Contains}
 use Rattle.std.specs.Option.{option_to_list}
-use Rattle.std.proofs.lemmas.Bool.{cases_lt, false≢true}
-use Rattle.std.proofs.lemmas.List.{append-nil, get_or_append_left, get_or_default, take_more, same_from_push}
-use Rattle.std.proofs.lemmas.List.Elements.{Contains-append_left, Contains-push, Contains-push_cases}
-use Rattle.rela_nfa.specs.Automaton.{Automaton, Move}
+use Rattle.std.proofs.lemmas.Bool.{false≢true}
+use Rattle.std.proofs.lemmas.List.{append-nil, get_or_append_left, take_more, same_from_push}
+use Rattle.std.proofs.lemmas.List.Elements.{All-contains, All-from_get_or, Contains-append_left, Contains-get_or, Contains-push, Contains-push_cases}
+use Rattle.rela_nfa.specs.Automaton.{Automaton, Move, IsAutomaton, states}
 use Rattle.rela_nfa.specs.Reading.{takes, AreReached, Closes}
 use Rattle.rela_nfa.specs.Runs.{StepIn, HasStep, Reach}
 use Rattle.rela_nfa.specs.StateSet.{Inserts, Adds}
 use Rattle.rela_nfa.proofs.Moves.{Contains-nil, Contains-cons_cases, no_step, step_left, step_right, step_cases}
-use Rattle.rela_nfa.proofs.Reaching.{reach_start, reach_step, reach_silent, reach_each}
+use Rattle.rela_nfa.proofs.Parts.{leads_to_state}
+use Rattle.rela_nfa.proofs.Reaching.{reach_start, reach_step, reach_each}
 
-adds_keeps : {P : ℕ → Type 0} (old new : List ℕ) → Adds P old new → (m : ℕ) → Contains old m → Contains new m
+pub adds_keeps : {P : ℕ → Type 0} (old new : List ℕ) → Adds P old new → (m : ℕ) → Contains old m → Contains new m
 adds_keeps old new adds m c = subst (λ l. Contains l m) (sym adds.longer.1) (Contains-append_left old adds.longer.0 m c)
 
 pub adds_nothing : (P : ℕ → Type 0) (now : List ℕ) → ((m : ℕ) → P m → ⊥) → Adds P now now
@@ -96,45 +97,19 @@ one_after a from i letter old mid new below before one =
       | inr here ↦ inr (subst (λ n. HasStep a n letter m) (sym here) step)
     ]))
 
--- the first `done` of the states have been followed silently
-pub record Closing (a : Automaton) (done : ℕ) (first now : List ℕ) : Type 0 where
-  pub kept : (q : ℕ) → Contains first q → Contains now q
-  pub only : (word : List ℕ) → ((q : ℕ) → Contains first q → Reach a q word) → (q : ℕ) → Contains now q → Reach a q word
-  pub followed : (k q : ℕ) → k < done → HasStep a (get_or now k 0) None q → Contains now q
-
 pub adds_length : {P : ℕ → Type 0} (old new : List ℕ) → Adds P old new → length old ≤ length new
 adds_length old new adds = omega (arith, ap length adds.longer.1, length-append old adds.longer.0)
 
-adds_at : {P : ℕ → Type 0} (old new : List ℕ) → Adds P old new → (k : ℕ) → k < length old → get_or new k 0 ≡ get_or old k 0
+pub adds_at : {P : ℕ → Type 0} (old new : List ℕ) → Adds P old new → (k : ℕ) → k < length old → get_or new k 0 ≡ get_or old k 0
 adds_at old new adds k within = ap (λ l. get_or l k 0) adds.longer.1 ∙ get_or_append_left old adds.longer.0 0 k within
 
-module _ (a : Automaton) (first : List ℕ) where
-  pub closing_none : Closing a 0 first first
-  closing_none = record { kept = λ q c. c; only = λ word all q c. all q c; followed = λ k q below. absurd (omega arith) }
-
-  pub closing_more : (done : ℕ) (before after : List ℕ) → Closing a done first before → done < length before → Adds (HasStep a (get_or before done 0) None) before after
-      → Closing a (done + 1) first after
-  closing_more done before after so_far within adds = record {
-    kept = λ q c. adds_keeps before after adds q (so_far.kept q c);
-    only = λ word all q c. elim (adds.each q c) [
-      | inl old ↦ so_far.only word all q old
-      | inr step ↦ reach_silent a (get_or before done 0) q word (so_far.only word all (get_or before done 0) (done, within, get_or_default before done (get_or before done 0) 0 within)) step
-    ];
-    followed = λ k q below step. elim (cases_lt k done) [
-      | inl less ↦ adds_keeps before after adds q (so_far.followed k q less (subst (λ n. HasStep a n None q) (adds_at before after adds k (omega arith)) step))
-      | inr more ↦
-          let same : k ≡ done = omega arith in
-          adds.all q (subst (λ n. HasStep a n None q) (ap (λ j. get_or after j 0) same ∙ adds_at before after adds done within) step)
-    ];
-  }
-
-  pub closing_all : (done : ℕ) (now : List ℕ) → Closing a done first now → length now ≤ done → Closes a first now
-  closing_all done now so_far over = record {
-    kept = so_far.kept;
-    closed = λ p q from step.
-        so_far.followed from.0 q (omega (arith, from.1, over)) (subst (λ n. HasStep a n None q) (sym (get_or_default now from.0 0 p from.1 ∙ from.2)) step);
-    only = so_far.only;
-  }
+-- states to which edges lead are states
+pub adds_within : (a : Automaton) → IsAutomaton a → (letter : Option ℕ) (p : ℕ) (old new : List ℕ) → Adds (HasStep a p letter) old new → All (λ q. q < states a) old → All (λ q. q < states a) new
+adds_within a ok letter p old new adds below = All-from_get_or (λ q. q < states a) new 0 (λ i within.
+    elim (adds.each (get_or new i 0) (Contains-get_or new i 0 within)) [
+      | inl before ↦ All-contains (λ q. q < states a) old (get_or new i 0) below before
+      | inr step ↦ leads_to_state a ok p (get_or new i 0) letter step
+    ])
 
 -- a closed set that has the start and is reached by the empty word
 pub first_reached : (a : Automaton) (new : List ℕ) → Closes a (a.start ∷ []) new → AreReached a [] new

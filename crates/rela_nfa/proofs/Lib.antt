@@ -9,6 +9,8 @@ pub mod Chains
 pub mod InTurn
 pub mod Flagged
 pub mod Growing
+pub mod Marking
+pub mod Closing
 pub mod Joint
 pub mod Meets
 pub mod Numbers

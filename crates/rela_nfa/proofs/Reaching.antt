@@ -6,11 +6,11 @@ use Rattle.rela_nfa.specs.Automaton.{Automaton}
 use Rattle.rela_nfa.specs.Runs.{Step, HasStep, Follow, spelled, Reach}
 
 module _ (a : Automaton) where
-  follow_push : (x p q : ℕ) (letter : Option ℕ) (steps : List Step) → Follow a x steps p → HasStep a p letter q → Follow a x (steps ++ record { letter = letter; to = q } ∷ []) q
+  pub follow_push : (x p q : ℕ) (letter : Option ℕ) (steps : List Step) → Follow a x steps p → HasStep a p letter q → Follow a x (steps ++ record { letter = letter; to = q } ∷ []) q
   follow_push x p q letter [] here step = (subst (λ n. HasStep a n letter q) (sym here) step, refl)
   follow_push x p q letter (first ∷ rest) follows step = (follows.0, follow_push first.to p q letter rest follows.1 step)
 
-spelled_push : (steps : List Step) (letter : Option ℕ) (q : ℕ) → spelled (steps ++ record { letter = letter; to = q } ∷ []) ≡ spelled steps ++ option_to_list letter
+pub spelled_push : (steps : List Step) (letter : Option ℕ) (q : ℕ) → spelled (steps ++ record { letter = letter; to = q } ∷ []) ≡ spelled steps ++ option_to_list letter
 spelled_push [] letter q = append-nil (option_to_list letter)
 spelled_push (first ∷ rest) letter q =
     ap (λ l. option_to_list first.letter ++ l) (spelled_push rest letter q) ∙ sym (append_assoc (option_to_list first.letter) (spelled rest) (option_to_list letter))

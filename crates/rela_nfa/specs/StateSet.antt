@@ -1,5 +1,8 @@
 -- A set of states, kept as a flag for each state and the list of the members.
-use Rattle.std.specs.Prelude.{◌≡◌, ℕ, ◌+◌, ◌⊎◌, ◌↔◌, Bool, false, IsTrue, not, List, [], ◌∷◌, ◌++◌, length, count_by, Contains, slice_index_or}
+use Rattle.std.specs.Prelude.{◌≡◌, ℕ, ◌+◌, ◌⊎◌, ◌↔◌, Bool, false, IsTrue, not, List, [], ◌∷◌, ◌++◌, length, count_by, Contains, slice_index_or, nat_eq}
+use Rattle.std.specs.List.{IsDistinct}
+use Rattle.std.specs.List.Sorted.{IsStrictlySortedBy}
+use Rattle.std.specs.Ordering.{nat_cmp}
 
 -- the flag is set for n, which it is for no number past the last
 abbrev pub HasFlag : List Bool → ℕ → Type 0
@@ -10,10 +13,20 @@ pub record Members : Type 0 where
   pub count : ℕ
   pub states : List ℕ
 
--- the flags of just the members are set, and no member stands twice
+-- the flags of just the members are set, which are as many as the members
 pub record AreFlagged (flags : List Bool) (members : List ℕ) : Type 0 where
   pub set : (n : ℕ) → HasFlag flags n ↔ Contains members n
   pub once : length members + count_by not flags ≡ length flags
+
+-- the flags of just the members are set, and no member stands twice
+pub record AreMarked (flags : List Bool) (members : List ℕ) : Type 0 where
+  pub flagged : AreFlagged flags members
+  pub distinct : IsDistinct nat_eq members
+
+-- the numbers of P, each once, in ascending order
+pub record Lists (P : ℕ → Type 0) (set : List ℕ) : Type 0 where
+  pub ordered : IsStrictlySortedBy nat_cmp set
+  pub members : (q : ℕ) → Contains set q ↔ P q
 
 -- new is old with n put in at the end, unless old has it
 abbrev pub Inserts : List ℕ → List ℕ → ℕ → Type 0

@@ -24,3 +24,4 @@ pub use edge_lists::EdgeLists;
 pub use nfa::Nfa;
 pub use rela_pairs::BuildError;
 pub use relabel::{parents_of, relabelled_set};
+pub use state_set::StateSet;

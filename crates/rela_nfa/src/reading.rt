@@ -1,7 +1,8 @@
-//! Whether an automaton accepts a word.
+//! The states that words reach, and whether an automaton accepts a word.
 ghost use Rattle.std.specs.Prelude.{◌≡◌, ℕ, ◌<◌, ◌≤◌, ◌↔◌, List, [], ◌∷◌, ◌++◌, IsTrue, IfOk, OnOk, Contains};
-ghost use Rattle.rela_nfa.specs.Automaton.{states, IsFinal};
-ghost use Rattle.rela_nfa.specs.Reading.{takes, AreReached, Closes};
+ghost use Rattle.std.specs.List.{All};
+ghost use Rattle.rela_nfa.specs.Automaton.{states, IsAutomaton, IsFinal};
+ghost use Rattle.rela_nfa.specs.Reading.{takes, AreReached, Closes, SilentlyFrom};
 ghost use Rattle.rela_nfa.specs.Runs.{StepIn, HasStep, Accepts};
 ghost use Rattle.rela_nfa.specs.StateSet.{Adds};
 ghost use Rattle.rela_nfa.specs.Stored.{move_of};
@@ -11,6 +12,7 @@ use crate::nfa::Nfa;
 use crate::state_set::StateSet;
 use rela_labels::LabelSet;
 use std::alloc::{AllocError, Global};
+use std::mem::swap;
 
 impl<L: LabelSet> Edge<L> {
     /// Whether the edge may be taken by the letter, or is silent where there is none.
@@ -25,8 +27,8 @@ impl<L: LabelSet> Edge<L> {
     }
 
     /// Adds the state to which the edge leads, if it may be taken by the letter, or is silent where
-    /// there is none.
-    fn follow(&self, letter: Option<u32>, set: &mut StateSet) -> Result<(), AllocError>
+    /// there is none. Time: that of a look at the label.
+    pub fn follow(&self, letter: Option<u32>, set: &mut StateSet) -> Result<(), AllocError>
         requires { self.now.to < set.old.count }
         ensures count { set.new.count ≡ set.old.count }
         ensures adds { OnOk result (Adds (StepIn (move_of L.letters self.now ∷ []) letter)
@@ -40,60 +42,54 @@ impl<L: LabelSet> Edge<L> {
 }
 
 impl<L: LabelSet> Nfa<L> {
-    /// Whether the word is in the language. Time: for each letter of the word a step for each
-    /// state, and a look at each edge out of the states that are reached, once for the letter and
-    /// once to follow silent edges; space: linear in the states.
+    /// Whether the word is in the language. Time: a step for each state, and for each letter of the
+    /// word a look at each edge out of the states that are reached, once for the letter and once to
+    /// follow silent edges; space: linear in the states.
     pub fn accepts(&self, alloc: Global, word: &[u32]) -> Result<bool, AllocError>
         ensures { IfOk result (λ accepted. IsTrue accepted ↔ Accepts self.now word.now) }
     {
-        let mut reached = self.reached_first(alloc)?;
+        let mut reached = StateSet::new(alloc, self.states())?;
+        let mut next = StateSet::new(alloc, self.states())?;
+        self.reach_first(&mut reached)?;
         for letter in word {
-            reached = self.reached_next(alloc, &reached, *letter)?;
+            self.reach_next(reached.states(), *letter, &mut next)?;
+            swap(&mut reached, &mut next);
         }
         Ok(self.any_final(&reached))
     }
 
-    /// The states that the empty word reaches.
-    fn reached_first(&self, alloc: Global) -> Result<StateSet, AllocError>
-        ensures count { IfOk result (λ set. set.count ≡ states self.now) }
-        ensures reached { IfOk result (λ set. AreReached self.now [] set.states) }
+    /// Puts the states that the empty word reaches in place of those of the set. Time: a look at
+    /// each edge out of them.
+    pub fn reach_first(&self, set: &mut StateSet) -> Result<(), AllocError>
+        requires { states self.now ≤ set.old.count }
+        ensures count { set.new.count ≡ set.old.count }
+        ensures reached { OnOk result (AreReached self.now [] set.new.states) }
     {
-        let mut set = StateSet::new(alloc, self.states())?;
+        set.clear();
         set.insert(self.start())?;
-        self.close(&mut set)?;
-        Ok(set)
+        self.close(set)
     }
 
-    /// The states that a word reaches with one letter more.
-    fn reached_next(
+    /// Puts the states that a word reaches with the letter behind it in place of those of the set,
+    /// where the word reaches just these states. Time: a look at each edge out of these, and at
+    /// each out of those put in.
+    pub fn reach_next(
         &self,
-        alloc: Global,
-        reached: &StateSet,
+        from: &[usize],
         letter: u32,
-    ) -> Result<StateSet, AllocError>
-        requires { reached.now.count ≡ states self.now }
-        ensures count { IfOk result (λ set. set.count ≡ states self.now) }
-        ensures reached { IfOk result (λ set. (w : List ℕ) →
-            AreReached self.now w reached.now.states →
-            AreReached self.now (w ++ letter ∷ []) set.states) }
+        set: &mut StateSet,
+    ) -> Result<(), AllocError>
+        requires states { All (λ q. q < states self.now) from.now }
+        requires room { states self.now ≤ set.old.count }
+        ensures count { set.new.count ≡ set.old.count }
+        ensures reached { OnOk result ((w : List ℕ) → AreReached self.now w from.now →
+            AreReached self.now (w ++ letter ∷ []) set.new.states) }
     {
-        let mut set = self.after(alloc, reached, letter)?;
-        self.close(&mut set)?;
-        Ok(set)
-    }
-
-    /// The states to which edges lead from these by the letter.
-    fn after(&self, alloc: Global, from: &StateSet, letter: u32) -> Result<StateSet, AllocError>
-        requires { from.now.count ≡ states self.now }
-        ensures count { IfOk result (λ set. set.count ≡ states self.now) }
-        ensures after { IfOk result (λ set. (q : ℕ) → Contains set.states q ↔
-            ((p : ℕ) × Contains from.now.states p × HasStep self.now p (Some letter) q)) }
-    {
-        let mut set = StateSet::new(alloc, self.states())?;
-        for q in from.members() {
-            self.follow_all(*q, Some(letter), &mut set)?;
+        set.clear();
+        for q in from {
+            self.follow_all(*q, Some(letter), set)?;
         }
-        Ok(set)
+        self.close(set)
     }
 
     /// Adds the states to which edges lead from `q` by the letter, or silently where there is none.
@@ -104,7 +100,8 @@ impl<L: LabelSet> Nfa<L> {
         set: &mut StateSet,
     ) -> Result<(), AllocError>
         requires state { q < states self.now }
-        requires set { set.old.count ≡ states self.now }
+        requires room { states self.now ≤ set.old.count }
+        ensures automaton { IsAutomaton self.now }
         ensures count { set.new.count ≡ set.old.count }
         ensures adds { OnOk result (Adds (HasStep self.now q letter) set.old.states
             set.new.states) }
@@ -115,28 +112,33 @@ impl<L: LabelSet> Nfa<L> {
         Ok(())
     }
 
-    /// Adds the states that members reach by silent edges: a breadth-first search.
-    fn close(&self, set: &mut StateSet) -> Result<(), AllocError>
-        requires { set.old.count ≡ states self.now }
+    /// Adds the states that silent edges lead to from those of the set: a breadth-first search.
+    /// Time: a look at each edge out of the states that the set then has. Space: none, once the set
+    /// has room.
+    pub fn close(&self, set: &mut StateSet) -> Result<(), AllocError>
+        requires states { All (λ q. q < states self.now) set.old.states }
+        requires room { states self.now ≤ set.old.count }
         ensures count { set.new.count ≡ set.old.count }
+        ensures silently { OnOk result ((q : ℕ) → Contains set.new.states q ↔
+            SilentlyFrom self.now set.old.states q) }
         ensures closes { OnOk result (Closes self.now set.old.states set.new.states) }
     {
-        // The members stand in a queue: those before `done` have been followed.
+        // The states stand in a queue: those before `done` have been followed.
         let mut done = 0;
-        while done < set.members().len() {
-            let q = set.members()[done];
+        while done < set.states().len() {
+            let q = set.states()[done];
             self.follow_all(q, None, set)?;
             done += 1;
         }
         Ok(())
     }
 
-    /// Whether some member is final.
+    /// Whether some state of the set is final.
     fn any_final(&self, set: &StateSet) -> bool
         requires { set.now.count ≡ states self.now }
         ensures { IsTrue result ↔ ((q : ℕ) × Contains set.now.states q × IsFinal self.now q) }
     {
-        for q in set.members() {
+        for q in set.states() {
             if self.is_final(*q) {
                 return true;
             }

@@ -5,7 +5,7 @@ use Rattle.std.specs.List.Sorted.{IsStrictlySortedBy}
 use Rattle.std.specs.Ordering.{nat_cmp}
 use Rattle.std.proofs.lemmas.Bool.{cases_lt}
 use Rattle.std.proofs.lemmas.Map.Keys.{below_from_sorted, sorted_tail}
-use Rattle.rela_subset.specs.Sets.{Lists}
+use Rattle.rela_nfa.specs.StateSet.{Lists}
 use Rattle.rela_subset.proofs.Targets.{Contains-nil, Contains-cons_cases, Contains-head, Contains-tail}
 
 head_below : (x : ℕ) (xs : List ℕ) (q : ℕ) → IsStrictlySortedBy nat_cmp (x ∷ xs) → Contains xs q → x < q

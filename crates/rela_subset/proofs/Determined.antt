@@ -12,9 +12,10 @@ use Rattle.std.proofs.lemmas.Map.Views.{Contains-from_any, exact_unsigned_eq}
 use Rattle.rela_labels.specs.Letters.{has}
 use Rattle.rela_nfa.specs.Automaton.{Automaton, IsMove, Move}
 use Rattle.rela_nfa.specs.Runs.{Accepts}
+use Rattle.rela_nfa.specs.StateSet.{Lists}
 use Rattle.rela_subset.specs.Deterministic.{Deterministic, IsAccepted, IsByArrival, IsDeterministic, IsOver, IsReachable, IsSplit, LeadsTo, led_from, moves_of, next, state_after}
 use Rattle.rela_subset.specs.Expansion.{IsExplored, IsOut, IsUpTo}
-use Rattle.rela_subset.specs.Sets.{AreDistinct, HasFinal, Lists, NextFrom, ReachedBy}
+use Rattle.rela_subset.specs.Sets.{AreDistinct, HasFinal, NextFrom, ReachedBy}
 use Rattle.rela_subset.specs.Subsets.{AreApart, KeepsApart, ReachSame, ReachSets}
 use Rattle.rela_subset.proofs.Ascending.{apart_lists, same_lists}
 use Rattle.rela_subset.proofs.LastLetters.{before_upto, upto_push, upto_transitive}

@@ -6,9 +6,10 @@ use Rattle.std.proofs.lemmas.Bool.{cases_Bool, false≢true}
 use Rattle.std.proofs.lemmas.List.Elements.{All-nil, All-weaker}
 use Rattle.rela_labels.specs.Letters.{has}
 use Rattle.rela_nfa.specs.Automaton.{Automaton, Move, IsMove}
+use Rattle.rela_nfa.specs.StateSet.{Lists}
 use Rattle.rela_subset.specs.Deterministic.{takes}
 use Rattle.rela_subset.specs.Expansion.{HasGrown, IsAlike, IsExpanded, IsPutIn}
-use Rattle.rela_subset.specs.Sets.{Lists, NextFrom}
+use Rattle.rela_subset.specs.Sets.{NextFrom}
 use Rattle.rela_subset.proofs.TakenAway.{after, before_or_here, in_rest, not_before, still}
 use Rattle.rela_subset.proofs.Bundling.{digit, put_count, put_labelled, put_target, put_target_old}
 use Rattle.rela_subset.proofs.Growing.{GrowsBy, comes_new, comes_old, grows_by, grows_new, no_letters}

@@ -6,8 +6,9 @@ use Rattle.std.proofs.lemmas.List.{get_or_append_left, get_or_push, length_push}
 use Rattle.std.proofs.lemmas.List.Elements.{All-weaker}
 use Rattle.rela_labels.specs.Letters.{has}
 use Rattle.rela_nfa.specs.Automaton.{Automaton, IsAutomaton, Move, IsMove, states}
+use Rattle.rela_nfa.specs.StateSet.{Lists}
 use Rattle.rela_subset.specs.Expansion.{AreFound, AreLabelled, Follows, HasGrown, IsExpandedOver, IsExplored, IsOut, Leads}
-use Rattle.rela_subset.specs.Sets.{AreDistinct, Lists, ReachedBy}
+use Rattle.rela_subset.specs.Sets.{AreDistinct, ReachedBy}
 use Rattle.rela_subset.specs.Subsets.{ReachSets}
 use Rattle.rela_subset.proofs.Bundling.{digit}
 use Rattle.rela_subset.proofs.Finding.{found_more, found_sets, found_start, found_within, more_sets, new_arrives, old_arrives, with_longer}

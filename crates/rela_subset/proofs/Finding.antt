@@ -7,9 +7,10 @@ use Rattle.std.proofs.lemmas.List.Elements.{All-from_get_or, All-get_or, All-nil
 use Rattle.rela_labels.specs.Letters.{has}
 use Rattle.rela_names.specs.Shortlex.{IsBefore}
 use Rattle.rela_nfa.specs.Automaton.{Automaton, IsAutomaton, states}
+use Rattle.rela_nfa.specs.StateSet.{Lists}
 use Rattle.rela_subset.specs.Deterministic.{IsOver}
 use Rattle.rela_subset.specs.Expansion.{AreFound, Arrives, Comes, HasGrown, IsUpTo}
-use Rattle.rela_subset.specs.Sets.{AreDistinct, Lists, NextFrom, ReachedBy}
+use Rattle.rela_subset.specs.Sets.{AreDistinct, NextFrom, ReachedBy}
 use Rattle.rela_subset.specs.Subsets.{AreApart, ReachSets}
 use Rattle.rela_subset.proofs.Ascending.{apart_lists}
 use Rattle.rela_subset.proofs.LastLetters.{before_last, before_push, nil_before}

@@ -2,7 +2,9 @@
 use Rattle.std.proofs.Common.{ℕ, ◌↔◌, List}
 use Rattle.std.specs.List.{Contains}
 use Rattle.rela_nfa.specs.Automaton.{Automaton}
-use Rattle.rela_subset.specs.Sets.{Lists, NextFrom, SilentlyFrom, StepFrom}
+use Rattle.rela_nfa.specs.Reading.{SilentlyFrom}
+use Rattle.rela_nfa.specs.StateSet.{Lists}
+use Rattle.rela_subset.specs.Sets.{NextFrom, StepFrom}
 
 -- the numbers of a set that is told in two ways
 pub lists_same : (P Q : ℕ → Type 0) (set : List ℕ) → ((q : ℕ) → P q ↔ Q q) → Lists P set → Lists Q set
@@ -14,12 +16,4 @@ pub next_from : (a : Automaton) (set ends now : List ℕ) (letter : ℕ) → ((q
 next_from a set ends now letter steps closed q = (
   λ c. let (p, among, silent) = (closed q).0 c in (p, (steps p).0 among, silent),
   λ (p, step, silent). (closed q).1 (p, (steps p).1 step, silent),
-)
-
--- silent edges lead on from the starts
-pub silent_from : (a : Automaton) (starts first now : List ℕ) → ((q : ℕ) → Contains first q ↔ Contains starts q) → ((q : ℕ) → Contains now q ↔ SilentlyFrom a first q)
-    → (q : ℕ) → Contains now q ↔ SilentlyFrom a starts q
-silent_from a starts first now same closed q = (
-  λ c. let (p, among, silent) = (closed q).0 c in (p, (same p).0 among, silent),
-  λ (p, among, silent). (closed q).1 (p, (same p).1 among, silent),
 )

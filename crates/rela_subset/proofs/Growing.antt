@@ -6,8 +6,9 @@ use Rattle.std.proofs.lemmas.List.{append-nil, append_assoc, get_or_append_left,
 use Rattle.std.proofs.lemmas.List.Elements.{All-nil, All-push}
 use Rattle.rela_labels.specs.Letters.{has}
 use Rattle.rela_nfa.specs.Automaton.{Automaton}
+use Rattle.rela_nfa.specs.StateSet.{Lists}
 use Rattle.rela_subset.specs.Expansion.{Comes, HasGrown}
-use Rattle.rela_subset.specs.Sets.{Lists, NextFrom}
+use Rattle.rela_subset.specs.Sets.{NextFrom}
 
 -- how the sets and the letters by which they were found stand after one that was asked for by a letter
 pub record GrowsBy (a : Automaton) (over : List Bool) (set : List ℕ) (old mid new : List (List ℕ)) (letters letters' : List ℕ) (letter to : ℕ) : Type 0 where

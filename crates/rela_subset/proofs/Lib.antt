@@ -1,7 +1,6 @@
 pub mod Ascending
 pub mod Bundling
 pub mod ByLetter
-pub mod Closing
 pub mod Determined
 pub mod Expanding
 pub mod Exploring
@@ -10,7 +9,6 @@ pub mod Finding
 pub mod Following
 pub mod Growing
 pub mod LastLetters
-pub mod Marking
 pub mod Narrowing
 pub mod OutOfSets
 pub mod Placing
@@ -20,7 +18,6 @@ pub mod SetsFound
 pub mod SetsSpread
 pub mod SortingOut
 pub mod Splitting
-pub mod Stamps
 pub mod Standing
 pub mod TakenAway
 pub mod Targets

@@ -7,9 +7,10 @@ use Rattle.std.proofs.lemmas.List.Elements.{All-contains, All-nil, All-pop, All-
 use Rattle.rela_labels.specs.Letters.{has}
 use Rattle.rela_nfa.specs.Automaton.{Automaton, Move, moves_of}
 use Rattle.rela_nfa.specs.Runs.{StepIn}
+use Rattle.rela_nfa.specs.StateSet.{Lists}
 use Rattle.rela_subset.specs.Deterministic.{takes}
 use Rattle.rela_subset.specs.Expansion.{AreTakenAlike}
-use Rattle.rela_subset.specs.Sets.{Lists, NextFrom}
+use Rattle.rela_subset.specs.Sets.{NextFrom}
 
 -- what holds of each and of one more
 All-more_iff : {X : Type 0} (P : X → Type 0) (xs : List X) (x : X) → All P (xs ++ x ∷ []) ↔ (All P xs × P x)

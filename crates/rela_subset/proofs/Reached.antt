@@ -6,9 +6,11 @@ use Rattle.std.proofs.lemmas.Bool.{cases_lt}
 use Rattle.std.proofs.lemmas.List.{get_or_past}
 use Rattle.std.proofs.lemmas.List.Elements.{All-get_or, All-from_get_or, Contains-get_or}
 use Rattle.rela_nfa.specs.Automaton.{Automaton, IsAutomaton, IsMove, moves_of, states}
+use Rattle.rela_nfa.specs.Reading.{Silently}
 use Rattle.rela_nfa.specs.Runs.{Step, StepIn, HasStep, Follow, Reach, spelled}
-use Rattle.rela_subset.specs.Sets.{Lists, Silently, SilentlyFrom, NextFrom, ReachedBy}
-use Rattle.rela_subset.proofs.Targets.{Contains-nil, Contains-head, Contains-one, step_within}
+use Rattle.rela_nfa.specs.StateSet.{Lists}
+use Rattle.rela_subset.specs.Sets.{NextFrom, ReachedBy}
+use Rattle.rela_subset.proofs.Targets.{Contains-nil, step_within}
 
 no_step : (letter : Option ℕ) (q : ℕ) → ¬ StepIn [] letter q
 no_step None q step = Contains-nil _ step
@@ -40,13 +42,6 @@ pub spelled_join : (first second : List Step) → spelled (first ++ second) ≡ 
 spelled_join [] second = refl
 spelled_join (step ∷ rest) second =
     ap (λ w. option_to_list step.letter ++ w) (spelled_join rest second) ∙ sym (append_assoc (option_to_list step.letter) (spelled rest) (spelled second))
-
-module _ (a : Automaton) where
-  -- one silent edge more
-  pub silently_more : (p q r : ℕ) → Silently a p q → HasStep a q None r → Silently a p r
-  silently_more p q r silently step =
-      let last : List Step = record { letter = None; to = r } ∷ [] in
-      (silently.0 ++ last, follow_join a silently.0 last p q r silently.1 (step, refl), spelled_join silently.0 last ∙ ap (λ w. w ++ []) silently.2)
 
 -- a run that reads a word, then a last letter, and then silent edges
 record IsPushed (a : Automaton) (p q k : ℕ) (word : List ℕ) : Type 0 where
@@ -129,15 +124,6 @@ module _ (a : Automaton) where
     members = λ q. (
       λ c. let (to, (p, among, step), silent) = (follows.members q).0 c in (reach_push q k word).1 (to, (p, (is.members p).0 among, step), silent),
       λ reach. let (to, (p, before, step), silent) = (reach_push q k word).0 reach in (follows.members q).1 (to, (p, (is.members p).1 before, step), silent),
-    );
-  }
-
-  pub reached_start : (set : List ℕ) → Lists (SilentlyFrom a (a.start ∷ [])) set → Lists (ReachedBy a []) set
-  reached_start set is = record {
-    ordered = is.ordered;
-    members = λ q. (
-      λ c. let from = (is.members q).0 c in subst (λ p. Silently a p q) (sym (Contains-one a.start from.0 from.1)) from.2,
-      λ reach. (is.members q).1 (a.start, Contains-head a.start [], reach),
     );
   }
 

@@ -3,11 +3,12 @@ use Rattle.std.proofs.Common.{◌≡◌, ℕ, ◌+◌, ◌-◌, ◌<◌, ◌≤�
 use Rattle.std.proofs.lemmas.Bool.{cases_Bool, cases_lt, false≢true}
 use Rattle.std.proofs.lemmas.List.{get_or-map, get_or_append_left, get_or-append_right, length-map}
 use Rattle.rela_nfa.specs.Automaton.{Automaton}
+use Rattle.rela_nfa.specs.StateSet.{Lists}
 use Rattle.rela_labels.specs.Letters.{has}
 use Rattle.rela_subset.specs.declared.arrival.Arrival.{Arrival}
 use Rattle.rela_subset.specs.Expansion.{Arrives}
 use Rattle.rela_subset.specs.Searching.{AreUnwanted, IsSearched, IsSpread, LeadsPast, arrivals_from}
-use Rattle.rela_subset.specs.Sets.{Lists, ReachedBy}
+use Rattle.rela_subset.specs.Sets.{ReachedBy}
 use Rattle.rela_subset.proofs.Finding.{found_more, found_start, new_arrives, new_word, old_arrives, old_word, past_all, with_longer}
 
 -- the first set alone

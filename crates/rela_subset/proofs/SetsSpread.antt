@@ -5,10 +5,11 @@ use Rattle.std.proofs.lemmas.List.{append_assoc, map_push}
 use Rattle.std.proofs.lemmas.List.Elements.{All-nil}
 use Rattle.rela_labels.specs.Letters.{has}
 use Rattle.rela_nfa.specs.Automaton.{Automaton}
+use Rattle.rela_nfa.specs.StateSet.{Lists}
 use Rattle.rela_subset.specs.declared.arrival.Arrival.{Arrival}
 use Rattle.rela_subset.specs.Expansion.{IsAlike}
 use Rattle.rela_subset.specs.Searching.{HasArrived, IsSpread, arrivals_from}
-use Rattle.rela_subset.specs.Sets.{Lists, NextFrom}
+use Rattle.rela_subset.specs.Sets.{NextFrom}
 use Rattle.rela_subset.proofs.TakenAway.{after, before_or_here, not_before, still}
 use Rattle.rela_subset.proofs.Growing.{GrowsBy, comes_new, comes_old, grows_new, grows_old, no_letters}
 use Rattle.rela_subset.proofs.Narrowing.{next_alike}

@@ -8,10 +8,11 @@ use Rattle.rela_labels.specs.Letters.{has}
 use Rattle.rela_names.specs.Shortlex.{First, IsBefore}
 use Rattle.rela_names.proofs.ShortlexLaws.{before_irreflexive, before_transitive}
 use Rattle.rela_nfa.specs.Automaton.{Automaton}
+use Rattle.rela_nfa.specs.StateSet.{Lists}
 use Rattle.rela_subset.specs.Deterministic.{IsOver}
 use Rattle.rela_subset.specs.Expansion.{AreFound, Arrives, IsUpTo}
 use Rattle.rela_subset.specs.Searching.{AreUnwanted, IsFirstAt, LeadsPast}
-use Rattle.rela_subset.specs.Sets.{AreDistinct, Lists, ReachedBy}
+use Rattle.rela_subset.specs.Sets.{AreDistinct, ReachedBy}
 use Rattle.rela_subset.specs.Subsets.{IsUnwantedWord, IsWantedWord, ReachSetsBefore}
 use Rattle.rela_subset.proofs.Ascending.{same_lists}
 use Rattle.rela_subset.proofs.Finding.{found_sets, found_sets_words}

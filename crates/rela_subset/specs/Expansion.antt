@@ -4,8 +4,9 @@ use Rattle.std.specs.List.{All}
 use Rattle.rela_labels.specs.Letters.{has}
 use Rattle.rela_names.specs.Shortlex.{IsBefore}
 use Rattle.rela_nfa.specs.Automaton.{Automaton, Move, IsMove, moves_of}
+use Rattle.rela_nfa.specs.StateSet.{Lists}
 use Rattle.rela_subset.specs.Deterministic.{takes, target, IsOver, IsSplit}
-use Rattle.rela_subset.specs.Sets.{Lists, NextFrom, ReachedBy}
+use Rattle.rela_subset.specs.Sets.{NextFrom, ReachedBy}
 
 -- by the two letters the same edges may be taken
 abbrev pub AreTakenAlike : List Move → ℕ → ℕ → Type 0

@@ -1,24 +1,8 @@
--- Sets of numbers as lists in ascending order, and sets of the states of an automaton.
-use Rattle.std.specs.Prelude.{◌≡◌, ◌≢◌, ℕ, ◌<◌, ◌↔◌, Bool, List, [], length, slice_index_or, Contains, Some, nat_eq}
-use Rattle.std.specs.List.{IsDistinct}
-use Rattle.std.specs.List.Sorted.{IsStrictlySortedBy}
-use Rattle.std.specs.Ordering.{nat_cmp}
+-- Sets of the states of an automaton.
+use Rattle.std.specs.Prelude.{◌≢◌, ℕ, ◌<◌, List, [], length, slice_index_or, Contains, Some}
 use Rattle.rela_nfa.specs.Automaton.{Automaton, IsFinal}
-use Rattle.rela_nfa.specs.Runs.{Step, Follow, HasStep, Reach, spelled}
-use Rattle.rela_nfa.specs.StateSet.{AreFlagged}
-
--- the numbers of P, each once, in ascending order
-pub record Lists (P : ℕ → Type 0) (set : List ℕ) : Type 0 where
-  pub ordered : IsStrictlySortedBy nat_cmp set
-  pub members : (q : ℕ) → Contains set q ↔ P q
-
--- silent edges lead from p to q
-abbrev pub Silently : Automaton → ℕ → ℕ → Type 0
-Silently a p q = (steps : List Step) × Follow a p steps q × (spelled steps ≡ [])
-
--- silent edges lead from one of the states to q
-abbrev pub SilentlyFrom : Automaton → List ℕ → ℕ → Type 0
-SilentlyFrom a starts q = (p : ℕ) × Contains starts p × Silently a p q
+use Rattle.rela_nfa.specs.Reading.{Silently}
+use Rattle.rela_nfa.specs.Runs.{HasStep, Reach}
 
 -- an edge by the letter leads from one of the states to q
 abbrev pub StepFrom : Automaton → List ℕ → ℕ → ℕ → Type 0
@@ -40,8 +24,3 @@ HasFinal a set = (q : ℕ) × Contains set q × IsFinal a q
 abbrev pub AreDistinct : List (List ℕ) → Type 0
 AreDistinct sets = (i j : ℕ) → i < j → j < length sets → slice_index_or sets i []
     ≢ slice_index_or sets j []
-
--- the flags of just the states are set, and no state stands twice
-pub record AreMarked (flags : List Bool) (states : List ℕ) : Type 0 where
-  pub flagged : AreFlagged flags states
-  pub distinct : IsDistinct nat_eq states

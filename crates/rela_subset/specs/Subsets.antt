@@ -3,9 +3,10 @@ use Rattle.std.specs.Prelude.{◌≡◌, ◌≢◌, ℕ, ◌⊎◌, ◌↔◌, B
 use Rattle.std.specs.List.{All, AllPairs}
 use Rattle.rela_nfa.specs.Automaton.{Automaton}
 use Rattle.rela_nfa.specs.Runs.{Reach}
+use Rattle.rela_nfa.specs.StateSet.{Lists}
 use Rattle.rela_names.specs.Shortlex.{IsBefore}
 use Rattle.rela_subset.specs.Deterministic.{Deterministic, IsOver, state_after}
-use Rattle.rela_subset.specs.Sets.{Lists, ReachedBy}
+use Rattle.rela_subset.specs.Sets.{ReachedBy}
 
 -- the two words reach the same states
 abbrev pub ReachSame : Automaton → List ℕ → List ℕ → Type 0

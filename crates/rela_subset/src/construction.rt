@@ -1,5 +1,5 @@
 //! The subset construction.
-ghost use Rattle.std.specs.Prelude.{◌≡◌, ◌≢◌, ℕ, ◌+◌, ◌^◌, ◌<◌, ◌≤◌, ◌↔◌, List, [], Bool, false, IfOk, IfErr, IsTrue, length, map, slice_index_or};
+ghost use Rattle.std.specs.Prelude.{◌≡◌, ℕ, ◌+◌, ◌^◌, ◌<◌, ◌≤◌, ◌↔◌, List, [], false, IfOk, IfErr, IsTrue, length, slice_index_or};
 ghost use Rattle.std.specs.List.{All};
 ghost use Rattle.rela_nfa.specs.Automaton.{IsAutomaton, states as nfa_states};
 ghost use Rattle.rela_nfa.specs.Runs.{Accepts};
@@ -10,14 +10,12 @@ ghost use Rattle.rela_subset.specs.Sets.{AreDistinct, HasFinal};
 ghost use Rattle.rela_subset.specs.Subsets.{KeepsApart, ReachSame, ReachSets};
 
 use crate::bundle::Bundle;
-use crate::closure::closure;
 use crate::dfa::Dfa;
 use crate::expansion::expand;
 use crate::outgoing::Outgoing;
 use crate::state_sets::StateSets;
-use crate::visited::Visited;
 use rela_labels::LabelSet;
-use rela_nfa::{BuildError, Edge, Nfa};
+use rela_nfa::{BuildError, Edge, Nfa, StateSet};
 use std::alloc::{AllocError, Global};
 
 /// The automaton over these letters whose states are the sets of states that words over the letters
@@ -92,9 +90,9 @@ fn explore_from_start<L: LabelSet>(
     ensures bounded { IfErr result (λ e. e ≡ BuildError.Limit → limit < 2 ^ 63) }
 {
     prove!(a.start() < a.states());
-    let mut visited = Visited::new(alloc, a.states())?;
-    let start = a.start();
-    closure(a, &[start], &mut visited)?;
+    let mut visited = StateSet::new(alloc, a.states())?;
+    a.reach_first(&mut visited)?;
+    visited.sort();
     let first = visited.states();
     sets.number(alloc, first, limit)?;
     explore(alloc, a, over, sets, limit, &mut visited)
@@ -108,7 +106,7 @@ fn explore<L: LabelSet>(
     over: &L,
     sets: &mut StateSets,
     limit: usize,
-    visited: &mut Visited,
+    visited: &mut StateSet,
 ) -> Result<Vec<Vec<Edge<L>>>, BuildError>
     requires automaton { IsAutomaton a.now }
     requires letters { length (L.letters over.now) ≡ a.now.letters }

@@ -1,9 +1,8 @@
 //! What a deterministic automaton is, and what it tells of itself.
-ghost use Rattle.std.specs.Prelude.{◌≡◌, ℕ, ◌<◌, ◌↔◌, List, Bool, true, false, IsTrue, IfOk, Option, Some, length, map, not};
-ghost use Rattle.rela_labels.specs.Letters.{has};
+ghost use Rattle.std.specs.Prelude.{◌≡◌, ℕ, ◌<◌, ◌↔◌, List, IsTrue, IfOk, length, map};
 ghost use Rattle.rela_nfa.specs.Runs.{Reach, Accepts};
 ghost use Rattle.rela_nfa.specs.Stored.{move_of, moves_in};
-ghost use Rattle.rela_subset.specs.Deterministic.{IsDeterministic, IsFinal, IsAccepted, IsOver, LeadsTo, automaton_of, moves_of, next, states, state_after, target};
+ghost use Rattle.rela_subset.specs.Deterministic.{IsDeterministic, IsFinal, IsAccepted, LeadsTo, automaton_of, moves_of, states};
 ghost use Rattle.rela_subset.specs.Stored.{deterministic};
 
 use rela_labels::LabelSet;
@@ -124,17 +123,6 @@ impl<L: LabelSet> Dfa<L> {
         self.edges[q].as_slice()
     }
 
-    /// The state to which the letter, one of `over`, leads from the state. Time: a look at each of
-    /// its edges.
-    pub fn next(&self, q: usize, letter: u32) -> usize
-        requires state { q < states self.now }
-        requires letter { has self.now.over letter ≡ true }
-        ensures next { result ≡ next self.now q letter }
-        ensures state { result < states self.now }
-    {
-        target_of(&self.edges[q], letter).unwrap()
-    }
-
     /// The same automaton, as one that need not be deterministic. Its edges are moved. Time and
     /// space: linear in the states and the edges.
     pub fn into_nfa(self, alloc: Global) -> Result<Nfa<L>, AllocError>
@@ -154,18 +142,4 @@ impl<L: LabelSet> Dfa<L> {
         let nfa = Nfa::from_parts(alloc, letters, start, &finals, edges)?;
         Ok(nfa)
     }
-}
-
-/// Where the first edge leads whose label has the letter, and `None` where none has it.
-fn target_of<L: LabelSet>(edges: &[Edge<L>], letter: u32) -> Option<usize>
-    ensures { result ≡ target (map (move_of L.letters) edges.now) letter }
-{
-    for edge in edges {
-        if let Some(label) = &edge.label {
-            if label.contains(letter) {
-                return Some(edge.to);
-            }
-        }
-    }
-    None
 }

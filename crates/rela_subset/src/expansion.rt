@@ -9,9 +9,8 @@ ghost use Rattle.rela_subset.specs.Sets.{AreDistinct};
 use crate::bundle::Bundle;
 use crate::outgoing::Outgoing;
 use crate::state_sets::StateSets;
-use crate::visited::Visited;
 use rela_labels::LabelSet;
-use rela_nfa::{BuildError, Edge};
+use rela_nfa::{BuildError, Edge, StateSet};
 use std::alloc::Global;
 
 /// The edges out of the set of this number, one for each set that follows it by a letter of `over`.
@@ -27,7 +26,7 @@ pub(crate) fn expand<L: LabelSet>(
     sets: &mut StateSets,
     number: usize,
     limit: usize,
-    visited: &mut Visited,
+    visited: &mut StateSet,
     bundle: &mut Bundle<L>,
 ) -> Result<Vec<Edge<L>>, BuildError>
     requires number { number < length sets.old }

@@ -6,18 +6,15 @@ mod alike;
 mod arrival;
 mod blocks;
 mod bundle;
-mod closure;
 mod construction;
 mod dfa;
 mod expansion;
 mod letter_edge;
-mod marks;
 mod opposite;
 mod outgoing;
 mod search;
 mod spreading;
 mod state_sets;
-mod visited;
 mod wanted;
 
 pub use bundle::Bundle;

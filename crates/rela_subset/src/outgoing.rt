@@ -3,17 +3,15 @@ ghost use Rattle.std.specs.Prelude.{◌≡◌, ℕ, ◌<◌, ◌++◌, ◌∷◌
 ghost use Rattle.std.specs.List.{All};
 ghost use Rattle.rela_nfa.specs.Automaton.{IsAutomaton, Move, states};
 ghost use Rattle.rela_nfa.specs.Runs.{StepIn};
-ghost use Rattle.rela_nfa.specs.StateSet.{Adds};
+ghost use Rattle.rela_nfa.specs.StateSet.{Adds, Lists};
 ghost use Rattle.rela_nfa.specs.Stored.{move_of};
 ghost use Rattle.rela_subset.specs.Outgoing.{AreSortedOut, HasEnd, moves_from};
-ghost use Rattle.rela_subset.specs.Sets.{Lists, NextFrom};
+ghost use Rattle.rela_subset.specs.Sets.{NextFrom};
 
 use crate::blocks::Blocks;
-use crate::closure::{close, insert_end};
 use crate::letter_edge::{LetterEdge, edges_by, only_letter, sorted_by_letter};
-use crate::visited::Visited;
 use rela_labels::LabelSet;
-use rela_nfa::{Edge, Nfa};
+use rela_nfa::{Edge, Nfa, StateSet};
 use std::alloc::{AllocError, Global};
 use std::marker::Model;
 use std::mem::replace;
@@ -116,9 +114,10 @@ impl<'a, L: LabelSet> Outgoing<'a, L> {
     }
 
     /// Visits the states that follow by the letter, with those that silent edges then lead to, and
-    /// puts them in ascending order. Time: two binary searches, a look at each edge by this letter alone, at
-    /// each by more than one and at each silent edge on the way, and a sort of the states.
-    pub(crate) fn following(&self, letter: u32, visited: &mut Visited) -> Result<(), AllocError>
+    /// puts them in ascending order. Time: two binary searches, a look at each edge by this letter
+    /// alone, at each by more than one and at each edge out of the states that follow, and a sort of
+    /// these.
+    pub(crate) fn following(&self, letter: u32, visited: &mut StateSet) -> Result<(), AllocError>
         requires count { visited.old.count ≡ states self.now.automaton }
         ensures following { IfOk result (λ _. (set : List ℕ) →
             AreSortedOut (moves_from self.now.automaton set) self.now.singles self.now.others
@@ -128,7 +127,8 @@ impl<'a, L: LabelSet> Outgoing<'a, L> {
         visited.clear();
         insert_singles(visited, edges_by(&self.singles, letter))?;
         insert_others(visited, &self.others, letter)?;
-        close(self.a, visited)?;
+        prove!(visited.states().len() <= self.a.states());
+        self.a.close(visited)?;
         visited.sort();
         Ok(())
     }
@@ -180,7 +180,7 @@ fn sort_out_one<'a, L: LabelSet>(
 }
 
 /// Puts the ends of the edges behind the other states, unless they are among them.
-fn insert_singles(visited: &mut Visited, edges: &[LetterEdge]) -> Result<(), AllocError>
+fn insert_singles(visited: &mut StateSet, edges: &[LetterEdge]) -> Result<(), AllocError>
     requires { All (λ edge. edge.to < visited.old.count) edges.now }
     ensures adds { IfOk result (λ _. Adds (λ q. (k : ℕ) × HasEnd edges.now k q) visited.old.states
         visited.new.states) }
@@ -195,7 +195,7 @@ fn insert_singles(visited: &mut Visited, edges: &[LetterEdge]) -> Result<(), All
 /// Puts the ends of those edges that may be taken by the letter behind the other states, unless
 /// they are among them.
 fn insert_others<L: LabelSet>(
-    visited: &mut Visited,
+    visited: &mut StateSet,
     edges: &[&Edge<L>],
     letter: u32,
 ) -> Result<(), AllocError>
@@ -206,7 +206,7 @@ fn insert_others<L: LabelSet>(
     ensures count { visited.new.count ≡ visited.old.count }
 {
     for edge in edges {
-        insert_end(visited, edge, Some(letter))?;
+        edge.follow(Some(letter), visited)?;
     }
     Ok(())
 }

@@ -8,15 +8,14 @@ ghost use Rattle.rela_subset.specs.declared.arrival.Arrival.{Arrival};
 ghost use Rattle.rela_subset.specs.Subsets.{IsUnwantedWord, IsWantedWord, ReachSetsBefore};
 
 use crate::arrival::Arrival;
-use crate::closure::closure;
 use crate::outgoing::Outgoing;
 use crate::spreading::spread;
 use crate::state_sets::StateSets;
-use crate::visited::Visited;
 use crate::wanted::Wanted;
 use rela_labels::LabelSet;
 use rela_names::Word;
-use rela_nfa::{BuildError, Nfa};
+use rela_nfa::{BuildError, Nfa, StateSet};
+use rela_pairs::within;
 use std::alloc::{AllocError, Global};
 
 /// The first word over these letters, in shortlex order, for which the set of the states that it
@@ -85,9 +84,9 @@ fn search_from_start<L: LabelSet, W: Wanted>(
     ensures bounded { IfErr result (λ e. e ≡ BuildError.Limit → limit < 2 ^ 63) }
 {
     prove!(a.start() < a.states());
-    let start = a.start();
-    let mut visited = Visited::new(alloc, a.states())?;
-    closure(a, &[start], &mut visited)?;
+    let mut visited = StateSet::new(alloc, a.states())?;
+    a.reach_first(&mut visited)?;
+    visited.sort();
     let first = visited.states();
     sets.number(alloc, first, limit)?;
     search(alloc, a, over, wanted, sets, arrivals, limit, &mut visited)
@@ -104,7 +103,7 @@ fn search<L: LabelSet, W: Wanted>(
     sets: &mut StateSets,
     arrivals: &mut Vec<Arrival>,
     limit: usize,
-    visited: &mut Visited,
+    visited: &mut StateSet,
 ) -> Result<Option<usize>, BuildError>
     requires automaton { IsAutomaton a.now }
     requires letters { length (L.letters over.now) ≡ a.now.letters }
@@ -142,9 +141,7 @@ fn search<L: LabelSet, W: Wanted>(
         if let Some(found) = first_wanted(wanted, sets, known) {
             return Ok(Some(found));
         }
-        if sets.len() > limit {
-            return Err(BuildError::Limit);
-        }
+        within(sets.len(), limit)?;
         number += 1;
     }
     Ok(None)

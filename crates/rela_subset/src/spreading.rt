@@ -7,9 +7,8 @@ ghost use Rattle.rela_subset.specs.Searching.{HasArrived, IsSpreadUpTo, arrivals
 use crate::arrival::Arrival;
 use crate::outgoing::Outgoing;
 use crate::state_sets::StateSets;
-use crate::visited::Visited;
 use rela_labels::LabelSet;
-use rela_nfa::BuildError;
+use rela_nfa::{BuildError, StateSet};
 use std::alloc::Global;
 
 /// Numbers the sets that follow the set by a letter of `over`, and puts how each new one was found
@@ -24,7 +23,7 @@ pub(crate) fn spread<L: LabelSet>(
     arrivals: &mut Vec<Arrival>,
     number: usize,
     limit: usize,
-    visited: &mut Visited,
+    visited: &mut StateSet,
 ) -> Result<(), BuildError>
     requires number { number < length sets.old }
     requires states { All (λ q. q < states outgoing.old.automaton)

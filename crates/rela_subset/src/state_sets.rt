@@ -1,10 +1,10 @@
 //! Sets of states, and their numbers.
-ghost use Rattle.std.specs.Prelude.{◌≡◌, ◌⊎◌, ℕ, ◌+◌, ◌^◌, ◌<◌, ◌≤◌, List, [], ◌∷◌, ◌++◌, IfOk, IfErr, length, slice_index_or};
+ghost use Rattle.std.specs.Prelude.{◌≡◌, ◌⊎◌, ℕ, ◌+◌, ◌^◌, ◌<◌, ◌≤◌, List, [], ◌∷◌, ◌++◌, IfOk, IfErr, IsErrOf, length, slice_index_or};
 ghost use Rattle.rela_subset.specs.Sets.{AreDistinct};
 
 use indexmap::IndexSet;
 use rela_nfa::BuildError;
-use std::alloc::{AllocError, Global};
+use std::alloc::Global;
 use std::marker::Model;
 
 /// Sets of states, each a list in ascending order, numbered as they are found. Contracts see them
@@ -73,7 +73,7 @@ impl StateSets {
         ensures limit { IfErr result (λ e. e ≡ BuildError.Limit → length self.old ≡ limit) }
         ensures lacking { IfErr result (λ e. e ≡ BuildError.Limit →
             AreDistinct (self.old ++ set.now ∷ [])) }
-        ensures memory { IfErr result (λ e. e ≡ BuildError.Memory → length self.old < limit) }
+        ensures room { IsErrOf result BuildError.Memory → length self.old < limit }
         ensures bounded { IfErr result (λ e. e ≡ BuildError.Limit → limit < 2 ^ 63) }
     {
         if let Some(number) = self.sets.get_index_of(set) {

@@ -1,4 +1,5 @@
 use Rattle.std.proofs.Common.{◌≡◌, ◌+◌, ◌<◌, ◌≤◌, [], get_or, length, sym, ap, ◌∙◌, subst, inr, arith}
+use Rattle.std.proofs.lemmas.Result.{err_from_is_err_and}
 use Rattle.rela_closed.specs.Listing.{IsLed}
 use Rattle.rela_closed.specs.Words.{words_of}
 use Rattle.rela_closed.proofs.Leaving.{no_more_letters}
@@ -65,8 +66,8 @@ loop-letter-preserved-then-branch-known g c =
           words table' kept searched p_in (λ k led. subst (λ t. IsLed automata words t p k) (sym same) led);
     }
 
-pub returns-then-len-limit-clause-limit : goal.returns-then-len-limit-clause-limit
-returns-then-len-limit-clause-limit g c = λ _.
+pub returns-in_err-within-clause-limit : goal.returns-in_err-within-clause-limit
+returns-in_err-within-clause-limit g c =
     let over = g.L.LabelSet.letters c.args.over.now in
     let automata = c.args.reader.now in
     let words = words_of c.loop-letter.steps.items in
@@ -78,16 +79,19 @@ returns-then-len-limit-clause-limit g c = λ _.
     let is = c.in_ok-_block.ensures.block in
     let next = sets_in c.in_ok-next.next.items in
     let numbered = c.in_ok-number.ensures.numbered in
-    let past : length table ≤ n = omega (arith, c.if-branch-known.false, c.len-known.ensures.len) in
+    let new : length table ≤ n = omega (arith, c.if-branch-known.false, c.len-known.ensures.len) in
     let p_in : p < length words = omega (arith, c.loop-letter.invariant.searched.each, c.loop-letter.invariant.more, c.requires.number) in
     let leads =
     leads_from automata c.loop-letter.reader (get_or table p []) (sets_in c.get-in-loop-letter.result.now) next letter c.loop-letter.invariant.same c.get-in-loop-letter.ensures
     c.in_ok-next.ensures.leads in
     let searched =
     searched_new over automata c.loop-letter.steps.items c.push.new.self.items table table' p letter n next c.in_ok-push.ensures.items c.loop-letter.invariant.searched p_in numbered leads
-    (c.loop-letter.invariant.over letter (is.within letter is.member)) past in
-    search_passed over automata (words_of c.push.new.self.items) table' p (letter + 1) c.args.limit searched c.len.ensures.distinct (omega (arith, c.len.ensures.len, c.if-len-limit.true))
-    (omega (arith, table_one_longer automata next table table' n numbered, c.loop-letter.invariant.few))
+    (c.loop-letter.invariant.over letter (is.within letter is.member)) new in
+    let past = c.in_err-within.ensures.limit.1 in
+    let e = err_from_is_err_and c.from_residual-in_err-within.result c.from_residual-in_err-within.ensures.1 in
+    rw (e.1, e.2) (λ _.
+    search_passed over automata (words_of c.push.new.self.items) table' p (letter + 1) c.args.limit searched c.len.ensures.distinct (omega (arith, c.len.ensures.len, past))
+    (omega (arith, table_one_longer automata next table table' n numbered, c.loop-letter.invariant.few)))
 
 pub loop-letter-preserved : goal.loop-letter-preserved
 loop-letter-preserved g c =
@@ -119,7 +123,7 @@ loop-letter-preserved g c =
     record {
       same = c.in_ok-next.ensures.same ∙ c.loop-letter.invariant.same;
       more = omega (arith, table_longer automata next table table' n numbered, c.loop-letter.invariant.more);
-      few = omega (arith, c.len.ensures.len, c.if-len-limit.false);
+      few = omega (arith, c.len.ensures.len, c.in_ok-within.ensures.few);
       ordered = ordered_push steps steps' (record { parent = p; letter = letter }) c.in_ok-push.ensures.items c.loop-letter.invariant.ordered
           (omega (arith, c.loop-letter.invariant.searched.each, words_of_length steps, p_in));
       searched = searched;

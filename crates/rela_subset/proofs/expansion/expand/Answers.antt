@@ -2,9 +2,10 @@ use Rattle.std.proofs.Common.{◌≡◌, ℕ, ◌<◌, ◌&&◌, not, true, fals
 use Rattle.std.proofs.lemmas.Result.{err_from_is_err_and}
 use Rattle.rela_labels.specs.Letters.{has}
 use Rattle.rela_nfa.specs.Automaton.{Automaton}
+use Rattle.rela_nfa.specs.StateSet.{Lists}
 use Rattle.rela_subset.specs.Expansion.{HasGrown, IsAlike}
 use Rattle.rela_subset.specs.Outgoing.{AreSortedOut, moves_from}
-use Rattle.rela_subset.specs.Sets.{AreDistinct, Lists, NextFrom}
+use Rattle.rela_subset.specs.Sets.{AreDistinct, NextFrom}
 use Rattle.rela_subset.specs.declared.blocks.Block.{Block}
 use Rattle.rela_subset.proofs.Expanding.{expanded_none, expanded_more, grown_last}
 use Rattle.rela_subset.proofs.Fewer.{fewer_left}

@@ -16,12 +16,12 @@ loop-edge-preserved g c =
     let edge = c.edge-item.result in
     let so_far = map move (take i edges) in
     record {
-      count = c.in_ok-insert_end.ensures.count ∙ c.loop-edge.invariant.count;
+      count = c.in_ok-follow.ensures.count ∙ c.loop-edge.invariant.count;
       adds =
-          subst (λ (l : List Move). Adds (StepIn l (Some c.args.letter)) c.args.visited.now.states c.insert_end.new.visited.states)
+          subst (λ (l : List Move). Adds (StepIn l (Some c.args.letter)) c.args.visited.now.states c.follow.new.set.states)
           (sym (map_more move edges i edge c.loop-edge-test.true ∙ ap (λ e. so_far ++ move e ∷ []) (sym c.edge-item.is)))
-          (one_edge so_far (move edge) (Some c.args.letter) c.args.visited.now.states c.loop-edge.visited.states c.insert_end.new.visited.states c.loop-edge.invariant.adds
-          c.in_ok-insert_end.ensures.adds);
+          (one_edge so_far (move edge) (Some c.args.letter) c.args.visited.now.states c.loop-edge.visited.states c.follow.new.set.states c.loop-edge.invariant.adds
+          c.in_ok-follow.ensures.adds);
     }
 
 pub returns-clause-adds : goal.returns-clause-adds

@@ -1,5 +1,6 @@
 use Rattle.std.proofs.Common.{◌≡◌, ℕ, ◌+◌, ◌<◌, ◌∙◌, [], false, get_or, length, ap, sym, subst, inl, inr, arith}
 use Rattle.std.specs.List.{All}
+use Rattle.std.proofs.lemmas.Result.{err_from_is_err_and}
 use Rattle.rela_labels.specs.Letters.{has}
 use Rattle.rela_nfa.specs.Automaton.{Automaton, states}
 use Rattle.rela_subset.specs.Searching.{IsSearched, IsSpreadUpTo}
@@ -44,8 +45,8 @@ returns-in-Some-first_wanted-clause-found g c =
       ),
     )
 
-pub returns-then-len-limit-clause-limit : goal.returns-then-len-limit-clause-limit
-returns-then-len-limit-clause-limit g c = λ _.
+pub returns-in_err-within-clause-limit : goal.returns-in_err-within-clause-limit
+returns-in_err-within-clause-limit g c =
     let over = g.L.LabelSet.letters c.args.over.now in
     let wants = g.W.Wanted.wants c.args.wanted.now in
     let sets = c.loop-number.sets in
@@ -55,11 +56,13 @@ returns-then-len-limit-clause-limit g c = λ _.
     let searched : IsSearched c.args.a.now over upto.0 c.spread.new.sets c.spread.new.arrivals.items (c.loop-number.number + 1) =
     searched_more c.args.a.now over upto.0 sets c.loop-number.arrivals.items c.loop-number.number c.loop-number.invariant.searched left c.spread.new.sets letters c.spread.new.arrivals.items arrived
     upto.1 in
+    let e = err_from_is_err_and c.from_residual-in_err-within.result c.from_residual-in_err-within.ensures.1 in
+    rw (e.1, e.2) (λ _.
     sets_before c.args.a.now over upto.0 c.spread.new.sets searched.words (c.loop-number.number + 1) searched.found searched.out wants (c.args.limit + 1)
-    (omega (arith, c.if-len-limit.true, c.len-in-loop-number.ensures.len)) c.len-in-loop-number.ensures.distinct
+    (omega (arith, c.in_err-within.ensures.limit.1, c.len-in-loop-number.ensures.len)) c.len-in-loop-number.ensures.distinct
     (more_unwanted c.args.a.now over upto.0 sets c.loop-number.arrivals.items c.loop-number.number c.loop-number.invariant.searched left c.spread.new.sets letters c.spread.new.arrivals.items arrived
     upto.1 wants c.loop-number.invariant.unwanted (length c.spread.new.sets)
-    (λ i new below. c.in_default-first_wanted.ensures.none i (omega (arith, new, c.len-known.ensures.len)) below))
+    (λ i new below. c.in_default-first_wanted.ensures.none i (omega (arith, new, c.len-known.ensures.len)) below)))
 
 pub loop-number-preserved : goal.loop-number-preserved
 loop-number-preserved g c =
@@ -70,7 +73,7 @@ loop-number-preserved g c =
     let upto = subst (λ (a : Automaton). IsSpreadUpTo c.args.limit a over (get_or sets c.loop-number.number []) sets c.spread.new.sets letters) c.loop-number.invariant.same spreads in
     let none : (k : ℕ) → has upto.0 k ≡ false = elim upto.2 [
       | inl none ↦ none
-      | inr past ↦ absurd (omega (arith, past, c.if-len-limit.false, c.len-in-loop-number.ensures.len))
+      | inr past ↦ absurd (omega (arith, past, c.in_ok-within.ensures.few, c.len-in-loop-number.ensures.len))
     ] in
     record {
       searched =
@@ -79,7 +82,7 @@ loop-number-preserved g c =
           c.spread.new.arrivals.items arrived upto.1);
       same = c.in_ok-spread.ensures.automaton ∙ c.loop-number.invariant.same;
       count = c.in_ok-spread.ensures.count ∙ c.loop-number.invariant.count;
-      few = omega (arith, c.if-len-limit.false, c.len-in-loop-number.ensures.len);
+      few = omega (arith, c.in_ok-within.ensures.few, c.len-in-loop-number.ensures.len);
       unwanted =
           more_unwanted c.args.a.now over upto.0 sets c.loop-number.arrivals.items c.loop-number.number c.loop-number.invariant.searched left c.spread.new.sets letters c.spread.new.arrivals.items
           arrived upto.1 (g.W.Wanted.wants c.args.wanted.now) c.loop-number.invariant.unwanted (length c.spread.new.sets)

@@ -2,9 +2,10 @@ use Rattle.std.proofs.Common.{◌≡◌, ℕ, ◌<◌, ◌&&◌, not, true, fals
 use Rattle.std.proofs.lemmas.List.{append-nil}
 use Rattle.rela_labels.specs.Letters.{has}
 use Rattle.rela_nfa.specs.Automaton.{Automaton}
+use Rattle.rela_nfa.specs.StateSet.{Lists}
 use Rattle.rela_subset.specs.Expansion.{IsAlike}
 use Rattle.rela_subset.specs.Outgoing.{AreSortedOut, moves_from}
-use Rattle.rela_subset.specs.Sets.{Lists, NextFrom}
+use Rattle.rela_subset.specs.Sets.{NextFrom}
 use Rattle.rela_subset.specs.declared.blocks.Block.{Block}
 use Rattle.rela_subset.proofs.Fewer.{fewer_left}
 use Rattle.rela_subset.proofs.OutOfSets.{next_of, some_is, sorted_in, sorted_same}

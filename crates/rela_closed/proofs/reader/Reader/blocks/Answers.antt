@@ -3,8 +3,9 @@ use Rattle.std.specs.List.{Contains}
 use Rattle.std.proofs.lemmas.Bool.{cases_lt}
 use Rattle.std.proofs.lemmas.List.{get_or-map, length-map}
 use Rattle.rela_nfa.specs.Automaton.{Automaton, moves_of}
+use Rattle.rela_nfa.specs.StateSet.{Lists}
 use Rattle.rela_nfa.specs.declared.nfa.Nfa.{Nfa}
-use Rattle.rela_closed.specs.Sets.{AreMet, Lists, ReachedBy}
+use Rattle.rela_closed.specs.Sets.{AreMet, ReachedBy}
 use Rattle.rela_closed.specs.Splitting.{AreSorted}
 use Rattle.rela_closed.proofs.Accepting.{set_at}
 use Rattle.rela_closed.proofs.LedAlike.{are_told}

@@ -1,8 +1,9 @@
 use Rattle.std.proofs.Common.{rules, ◌≡◌, ◌<◌, ◌≤◌, Bor, [], ◌∷◌, ◌++◌, length, get_or, map, take, refl, sym, ap, ◌∙◌, subst, arith}
 use Rattle.std.proofs.lemmas.List.{get_or-map, get_or_default, take_all}
 use Rattle.rela_nfa.specs.Automaton.{Automaton, states}
+use Rattle.rela_nfa.specs.StateSet.{Lists}
 use Rattle.rela_nfa.specs.declared.nfa.Nfa.{Nfa}
-use Rattle.rela_closed.specs.Sets.{AreReached, Lists, ReachedBy}
+use Rattle.rela_closed.specs.Sets.{AreReached, ReachedBy}
 use Rattle.rela_closed.proofs.Readers.{all_at, map_pushed, map_take_more, place_of, reached_pushed, sets_as_many}
 use Rattle.rela_closed.proofs.SetsFound.{sets_in}
 use Rattle.rela_closed.proofs.reader.Reader.next.Given
