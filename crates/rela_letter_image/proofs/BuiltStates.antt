@@ -5,14 +5,14 @@ use Rattle.std.proofs.lemmas.Bool.{cases_lt}
 use Rattle.std.proofs.lemmas.List.{get_or_append_left, get_or_default, get_or_push, length_push}
 use Rattle.std.proofs.lemmas.List.Elements.{Contains-get_or}
 use Rattle.std.proofs.lemmas.Option.{slice_get-get_or, slice_get_within}
-use Rattle.rela_letter_nfa.specs.LetterAutomaton.{IsFinal, IsLetterAutomaton, LetterAutomaton, LetterParts, edges_of, from_parts, no_parts, silents_of, states, with_state}
+use Rattle.rela_letter_nfa.specs.LetterAutomaton.{IsFinal, IsLetterAutomaton, LetterAutomaton, edges_of, from_parts, silents_of, states, with_state}
 use Rattle.rela_letter_nfa.specs.Runs.{HasStep}
 use Rattle.rela_letter_nfa.specs.declared.edge.LetterEdge.{LetterEdge}
 use Rattle.rela_nfa.specs.Meeting.{pair_of}
 use Rattle.rela_pairs.specs.declared.pair.Pair.{Pair}
 use Rattle.rela_trans.specs.Machine.{Machine, IsMachine, machine_states, IsFinal as IsFinalMachine}
 use Rattle.rela_letter_image.specs.Coarse.{coarse_of}
-use Rattle.rela_letter_image.specs.Growth.{AddsState, Growth, HasEnd, IsFoundIn, Stand, with_parts}
+use Rattle.rela_letter_image.specs.Growth.{AddsState, Growth, HasEnd, Stand, with_parts}
 use Rattle.rela_letter_image.specs.Product.{IsProduct}
 use Rattle.rela_letter_image.specs.Steps.{step_to, steps_from}
 use Rattle.rela_letter_image.proofs.GrownSteps.{stand_longer, still_at}
@@ -42,31 +42,6 @@ module _ (coarse : List ℕ) (a : LetterAutomaton) (t : Machine) where
     pub count : length g.parts.finals ≤ length g.pairs
     pub built : (p : ℕ) (x : Pair) → p < length g.parts.finals → slice_get g.pairs p ≡ Some x
         → StandsFor g.pairs x (get_or g.parts.finals p false) (get_or g.parts.silents p []) (get_or g.parts.edges p [])
-
-  -- the pair that is found first has the number 0
-  first_of : (pairs : List Pair) (x : Pair) (q : ℕ) → IsFoundIn [] pairs x → slice_get pairs q ≡ Some x → slice_get pairs 0 ≡ Some x
-  first_of pairs x q found at = elim found [
-    | inl none ↦ absurd (nothing (sym (ap (λ (l : List Pair). slice_get l q) none) ∙ at))
-    | inr one ↦ ap (λ (l : List Pair). slice_get l 0) one
-  ]
-    where
-      nothing : {y : Pair} → None ≡ Some y → ⊥
-      nothing e = cc
-
-  -- no state
-  pub built_none : (g h : Growth) (q : ℕ) → g.shape.lefts ≡ states a → g.shape.rights ≡ machine_states t → g.pairs ≡ [] → g.parts ≡ no_parts
-      → h.shape ≡ g.shape → h.parts ≡ g.parts → IsFoundIn g.pairs h.pairs (pair_of a.start t.start) → slice_get h.pairs q ≡ Some (pair_of a.start t.start) → AreBuilt h
-  built_none g h q lefts rights none nothing shape parts found at = record {
-    lefts = ap (λ s. s.lefts) shape ∙ lefts;
-    rights = ap (λ s. s.rights) shape ∙ rights;
-    first = first_of h.pairs (pair_of a.start t.start) q (subst (λ l. IsFoundIn l h.pairs (pair_of a.start t.start)) none found) at;
-    no_silents = ap (λ (p : LetterParts). p.next_silents) (parts ∙ nothing);
-    no_edges = ap (λ (p : LetterParts). p.next_edges) (parts ∙ nothing);
-    each_silents = ap (λ (p : LetterParts). length p.silents) (parts ∙ nothing) ∙ sym (ap (λ (p : LetterParts). length p.finals) (parts ∙ nothing));
-    each_edges = ap (λ (p : LetterParts). length p.edges) (parts ∙ nothing) ∙ sym (ap (λ (p : LetterParts). length p.finals) (parts ∙ nothing));
-    count = omega (arith, ap (λ (p : LetterParts). length p.finals) (parts ∙ nothing));
-    built = λ p x below there. absurd (omega (arith, below, ap (λ (p : LetterParts). length p.finals) (parts ∙ nothing)));
-  }
 
   module _ (g h : Growth) (x : Pair) (so_far : AreBuilt g) (at : slice_get g.pairs (length g.parts.finals) ≡ Some x) (adds : AddsState coarse a t x g h) where
     abbrev mid : Growth
@@ -164,10 +139,6 @@ module _ (coarse : List ℕ) (a : LetterAutomaton) (t : Machine) where
               ap (λ (l : List Pair). length l) longer,
               length-append g.pairs more,
             )
-
-    -- and one fewer to be built
-    pub one_more : length h.parts.finals ≡ length g.parts.finals + 1
-    one_more = ap (λ (v : Growth). length v.parts.finals) adds.ended ∙ length_push mid.parts.finals adds.is_final ∙ ap (λ (l : List Bool). length l + 1) adds.grows.finals
 
   -- ---- when all are built
 

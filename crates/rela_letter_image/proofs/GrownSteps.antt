@@ -11,7 +11,8 @@ use Rattle.rela_pairs.specs.declared.shape.Shape.{Shape}
 use Rattle.rela_pairs.specs.declared.pair.Pair.{Pair}
 use Rattle.rela_trans.specs.Machine.{Machine, moves_of}
 use Rattle.rela_trans.specs.declared.moves.Move.{Move}
-use Rattle.rela_letter_image.specs.Growth.{Growth, HasEnd, Stand, Grows, IsFoundIn, edge_to, with_parts}
+use Rattle.rela_letter_nfa.specs.Counted.{edge_to}
+use Rattle.rela_letter_image.specs.Growth.{Growth, HasEnd, Stand, Grows, IsFoundIn, with_parts}
 use Rattle.rela_letter_nfa.specs.declared.edge.LetterEdge.{LetterEdge}
 use Rattle.rela_letter_image.specs.Steps.{JointStep, alone_steps, edge_steps, silent_steps, step_if, step_to, steps_from}
 use Rattle.rela_letter_image.proofs.StepsGo.{Contains-nil, Contains-cons_cases, first_in}

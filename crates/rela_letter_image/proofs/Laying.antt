@@ -18,7 +18,7 @@ use Rattle.rela_letter_image.specs.declared.letter_moves.LetterMove.{LetterMove}
 use Rattle.rela_letter_image.specs.declared.letter_moves.SetMove.{SetMove}
 use Rattle.rela_letter_image.specs.declared.letter_moves.StateMoves.{StateMoves}
 use Rattle.rela_letter_image.proofs.GrownSteps.{only_one}
-use Rattle.rela_letter_image.proofs.StepsGo.{Contains-nil, first_in}
+use Rattle.rela_letter_image.proofs.StepsGo.{first_in}
 
 -- ---- a set that is copied letter by letter
 
@@ -162,23 +162,16 @@ module _ (letters : ℕ) (old new : StateMoves) where
 pub move_is : {L : Type 0} (letters : L → List Bool) (move : Move L) (kind : MoveKind L) (to : ℕ) → move.kind ≡ kind → record { kind = kind_of letters kind; to = to } ≡ led_to (move_of letters move) to
 move_is letters move kind to is = λ i. record { kind = kind_of letters (sym is i); to = to }
 
--- no move
-pub laid_out_none : (letters : ℕ) (state : StateMoves) → state.alone.items ≡ [] → state.by_set.items ≡ [] → state.by_letter.items ≡ [] → IsLaidOut letters [] state
-laid_out_none letters state one two three = record {
-  same = λ move.
-      subst (λ l. Contains l move ↔ Contains [] move) (sym (λ i. map alone_move (one i) ++ map set_move (two i) ++ map (letter_move letters) (three i)))
-      (λ among. among, λ among. among);
-  below = λ k d below. absurd (omega (arith, below, ap (λ (l : List LetterMove). length l) three));
-}
-
--- none of several moves
-pub gains_none : (letters : ℕ) (state : StateMoves) → GainsAll letters [] state state
-gains_none letters state = record {
-  same = λ move. (λ among. inl among, λ either. elim either [ inl among ↦ among | inr none ↦ absurd (Contains-nil move none) ]);
-  below = λ all. all;
-}
-
 -- and one more of them
+pub gains_one : (letters : ℕ) (move : Move (List Bool)) (old new : StateMoves) → Gains letters move old new → GainsAll letters (move ∷ []) old new
+gains_one letters move old new gains = record {
+  same = λ other. (
+    λ among. elim ((gains.same other).0 among) [ inl earlier ↦ inl earlier | inr here ↦ inr (subst (Contains (move ∷ [])) here (first_in move [])) ],
+    λ either. (gains.same other).1 (elim either [ inl earlier ↦ inl earlier | inr gained ↦ inr (only_one move other gained) ]),
+  );
+  below = gains.below;
+}
+
 pub gains_more : {X : Type 0} (f : X → Move (List Bool)) (xs : List X) (i : ℕ) (d : X) → i < length xs → (letters : ℕ) (old mid new : StateMoves)
     → GainsAll letters (map f (take i xs)) old mid → Gains letters (f (get_or xs i d)) mid new → GainsAll letters (map f (take (i + 1) xs)) old new
 gains_more f xs i d below letters old mid new so_far gains = record {

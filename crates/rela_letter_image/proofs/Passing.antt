@@ -1,18 +1,17 @@
 -- What a machine relates of which moves into silent branches are passed on to the states that stand for these.
-use Rattle.std.proofs.Common.{◌≡◌, ℕ, zero, suc, ◌+◌, ◌<◌, ◌≤◌, ◌↔◌, ◌⊎◌, Bool, List, [], ◌∷◌, ◌++◌, length, get_or, set, map, take, refl, sym, ap, ◌∙◌, subst, inl, inr, arith}
+use Rattle.std.proofs.Common.{◌≡◌, ℕ, zero, suc, ◌+◌, ◌<◌, ◌≤◌, ◌↔◌, ◌⊎◌, Bool, List, [], ◌∷◌, ◌++◌, Option, None, Some, length, get_or, set, map, take, refl, sym, ap, ◌∙◌, subst, inl, inr, arith}
 use Rattle.std.specs.List.{All, Contains, flat_map}
 use Rattle.std.specs.declared.vec.Vec.{Vec}
 use Rattle.std.proofs.lemmas.Bool.{cases_eq, cases_lt}
-use Rattle.std.proofs.lemmas.List.{get_or_append_left, get_or-map, get_or_past, get_or_push, get_or-set_other, get_or-set_same, length-map, length-set, length_push, map-append, map-set, take_more}
+use Rattle.std.proofs.lemmas.List.{get_or_append_left, get_or_past, get_or_push, get_or-set_other, get_or-set_same, length-map, length_push, take_more}
 use Rattle.std.proofs.lemmas.List.Elements.{All-contains, All-map, All-weaker, Contains-append_cases, Contains-append_left, Contains-append_right, Contains-get_or}
 use Rattle.rela_trans.specs.Construction.{silent}
 use Rattle.rela_trans.specs.Machine.{Machine, Kind, IsFinal, IsMachine, IsMove, machine_states, moves_of}
 use Rattle.rela_trans.specs.Runs.{Does, Follow, Relates, Step, inputs, outputs}
-use Rattle.rela_trans.specs.Stored.{lists_of}
 use Rattle.rela_trans.specs.declared.moves.Move.{Move}
 use Rattle.rela_trans.specs.declared.moves.MoveKind.TheVariants.{Silent}
 use Rattle.rela_trans.proofs.Accessors.{moves_ok}
-use Rattle.rela_letter_image.specs.Branches.{AreEnds, BySilents, GoOn, IsBranch, IsSilent, StandFor, ends_at, led_to, passed_on, passing}
+use Rattle.rela_letter_image.specs.Branches.{AreEnds, BySilents, GoOn, IsBranch, IsSilent, StandFor, ends_at, ends_of, kept_or, led_to, passed_on, passing}
 use Rattle.rela_letter_image.proofs.GrownSteps.{only_one}
 use Rattle.rela_letter_image.proofs.StepsGo.{Contains-map, Contains-map_back, first_in, from_flat_map, in_flat_map}
 
@@ -34,25 +33,17 @@ lead_in read t (r ∷ path) p e q leads steps follows =
       record { reads = on.2.reads; writes = on.2.writes },
     )
 
--- a state stands for itself
-pub alone_stands : (t : Machine) (q : ℕ) → q < machine_states t → StandFor t (q ∷ []) q
-alone_stands t q below = record {
-  below = λ e among. subst (λ n. n < machine_states t) (only_one q e among) below;
-  led = λ e among. ([], only_one q e among);
-  all = λ read steps f follows final. (q, first_in q [], steps, follows, record { reads = refl; writes = refl; short = omega arith });
-}
-
 at_nil : {X Y : Type 0} (f : List X → List Y) → f [] ≡ [] → (xs : List (List X)) (k : ℕ) → get_or (map f xs) k [] ≡ f (get_or xs k [])
 at_nil f none [] k = get_or_past [] k [] (omega arith) ∙ sym none ∙ ap f (sym (get_or_past [] k [] (omega arith)))
 at_nil f none (x ∷ xs) zero = refl
 at_nil f none (x ∷ xs) (suc k) = at_nil f none xs k
 
-module _ (t : Machine) (ok : IsMachine t) (ends : List (List ℕ)) (are : AreEnds t ends) where
+module _ (t : Machine) (ok : IsMachine t) (ends : ℕ → List ℕ) (are : AreEnds t ends) where
   move_is : (p : ℕ) (m : Move (List Bool)) → Contains (moves_of t p) m → IsMove t.letters (machine_states t) m
   move_is p m among = All-contains (IsMove t.letters (machine_states t)) (moves_of t p) m (moves_ok t ok p) among
 
   stand_at : (p : ℕ) (m : Move (List Bool)) → Contains (moves_of t p) m → StandFor t (ends_at ends m) m.to
-  stand_at p m among = are.stand m.to (move_is p m among).leads
+  stand_at p m among = are m.to (move_is p m among).leads
 
   -- for a branch stand those that stand for the states to which it leads
   module _ (q : ℕ) (branch : IsBranch t q) (joined : List ℕ) (same : (e : ℕ) → Contains joined e ↔ Contains (flat_map (ends_at ends) (moves_of t q)) e) where
@@ -101,7 +92,7 @@ module _ (t : Machine) (ok : IsMachine t) (ends : List (List ℕ)) (are : AreEnd
       let (m, from, at) = from_flat_map (passed_on ends) l x (Contains-get_or (flat_map (passed_on ends) l) k d below) in
       let (e, is, inside) = Contains-map_back (led_to m) (ends_at ends m) x at in
       let good : IsMoveOf m = All-contains IsMoveOf l m all from in
-      let led : IsMoveOf (led_to m e) = record { sized = good.sized; leads = (are.stand m.to good.leads).below e inside } in
+      let led : IsMoveOf (led_to m e) = record { sized = good.sized; leads = (are m.to good.leads).below e inside } in
       subst IsMoveOf is led
 
   pub passing_ok : IsMachine (passing ends t)
@@ -181,6 +172,13 @@ added_more xs i d below old mid new so_far one e =
       ]),
     )
 
+-- one state is a list of its own
+pub added_one : (old new : List ℕ) (x : ℕ) → ((e : ℕ) → Contains new e ↔ (Contains old e ⊎ (x ≡ e))) → (e : ℕ) → Contains new e ↔ (Contains old e ⊎ Contains (x ∷ []) e)
+added_one old new x one e = (
+  λ among. elim ((one e).0 among) [ inl before ↦ inl before | inr here ↦ inr (subst (Contains (x ∷ [])) here (first_in x [])) ],
+  λ either. (one e).1 (elim either [ inl before ↦ inl before | inr added ↦ inr (only_one x e added) ]),
+)
+
 -- the states of one more list are put in
 pub joined_more : (old new more before after : List ℕ) → ((e : ℕ) → Contains old e ↔ Contains before e) → ((e : ℕ) → Contains new e ↔ (Contains old e ⊎ Contains more e)) → after ≡ before ++ more → (e : ℕ)
     → Contains new e ↔ Contains after e
@@ -192,45 +190,31 @@ joined_more old new more before after so_far added is e = subst (λ l. Contains 
   λ among. (added e).1 (elim (Contains-append_cases before more e among) [ inl earlier ↦ inl ((so_far e).1 earlier) | inr here ↦ inr here ]),
 )
 
--- the list of this number
-pub list_at : {A : Type 0} (lists : List (Vec ℕ A)) (k : ℕ) (list : Vec ℕ A) → k < length lists → list ≡ get_or lists k list → get_or (lists_of lists) k [] ≡ list.items
-list_at {A} lists k list below at = get_or-map (λ (v : Vec ℕ A). v.items) lists k list [] below ∙ ap (λ (v : Vec ℕ A). v.items) (sym at)
+-- ---- what is kept for the states
 
--- the states below n stand for themselves
-pub record AreEndsTo (t : Machine) (n : ℕ) (ends : List (List ℕ)) : Type 0 where
-  pub count : length ends ≡ n
-  pub stand : (q : ℕ) → q < n → StandFor t (get_or ends q []) q
+module _ {A : Type 0} (t : Machine) (kept : List (Option (Vec ℕ A))) where
+  -- other states stand for one
+  pub ends_set : (next : List (Option (Vec ℕ A))) (q : ℕ) (list : Vec ℕ A) → q < length kept → AreEnds t (ends_of kept) → next ≡ set kept q (Some list) → StandFor t list.items q → AreEnds t (ends_of next)
+  ends_set next q list below are new stands p less =
+      let is : get_or next p None ≡ get_or (set kept q (Some list)) p None = ap (λ l. get_or l p None) new in
+      elim (cases_eq p q) [
+        | inl same ↦
+            let here : get_or next p None ≡ Some list = is ∙ ap (λ k. get_or (set kept q (Some list)) k None) same ∙ get_or-set_same kept q (Some list) None below in
+            subst (λ k. StandFor t (kept_or k p) p) (sym here) (subst (λ k. StandFor t list.items k) (sym same) stands)
+        | inr other ↦ subst (λ k. StandFor t (kept_or k p) p) (sym (is ∙ get_or-set_other kept q p (Some list) None other)) (are p less)
+      ]
 
-pub ends_none : (t : Machine) → AreEndsTo t 0 []
-ends_none t = record { count = refl; stand = λ q below. absurd (omega (arith, below)) }
+pub alone_empty : {A : Type 0} (kept : List (Option (Vec ℕ A))) → kept ≡ [] → (q : ℕ) → ends_of kept q ≡ q ∷ []
+alone_empty {A} kept none q = ap (λ (l : List (Option (Vec ℕ A))). ends_of l q) none ∙ ap (λ (k : Option (Vec ℕ A)). kept_or k q) (get_or_past [] q None (omega arith))
 
-module _ {A : Type 0} (t : Machine) (n : ℕ) (ends next : List (Vec ℕ A)) (list : Vec ℕ A) where
-  pub ends_more : n < machine_states t → AreEndsTo t n (lists_of ends) → next ≡ ends ++ list ∷ [] → list.items ≡ n ∷ [] → AreEndsTo t (n + 1) (lists_of next)
-  ends_more below so_far new alone =
-      let lists = lists_of ends in
-      let is : lists_of next ≡ lists ++ (n ∷ []) ∷ [] = ap lists_of new ∙ map-append (λ (v : Vec ℕ A). v.items) ends (list ∷ []) ∙ ap (λ l. lists ++ l ∷ []) alone in
-      subst (AreEndsTo t (n + 1)) (sym is) record {
-        count = length_push lists (n ∷ []) ∙ ap (λ k. k + 1) so_far.count;
-        stand = λ q less. elim (cases_lt q n) [
-          | inl before ↦ subst (λ l. StandFor t l q) (sym (get_or_append_left lists ((n ∷ []) ∷ []) [] q (omega (arith, before, so_far.count)))) (so_far.stand q before)
-          | inr past ↦
-              let here : q ≡ n = omega (arith, past, less) in
-              subst (λ l. StandFor t l q) (sym (get_or_push lists (n ∷ []) [] q (so_far.count ∙ sym here))) (subst (λ k. StandFor t (n ∷ []) k) (sym here) (alone_stands t n below))
-        ];
-      }
-
-pub ends_all : (t : Machine) (n : ℕ) (ends : List (List ℕ)) → n ≡ machine_states t → AreEndsTo t n ends → AreEnds t ends
-ends_all t n ends all to = record { each = to.count ∙ all; stand = λ q below. to.stand q (omega (arith, below, all)) }
-
--- other states stand for one
-pub ends_set : {A : Type 0} (t : Machine) (ends next : List (Vec ℕ A)) (q : ℕ) (list : Vec ℕ A) → q < machine_states t → AreEnds t (lists_of ends) → next ≡ set ends q list → StandFor t list.items q → AreEnds t (lists_of next)
-ends_set {A} t ends next q list below are new stands =
-    let lists = lists_of ends in
-    let is : lists_of next ≡ set lists q list.items = ap lists_of new ∙ map-set (λ (v : Vec ℕ A). v.items) ends q list in
-    subst (AreEnds t) (sym is) record {
-      each = length-set lists q list.items ∙ are.each;
-      stand = λ p less. elim (cases_eq p q) [
-        | inl same ↦ subst (λ l. StandFor t l p) (sym (ap (λ k. get_or (set lists q list.items) k []) same ∙ get_or-set_same lists q list.items [] (omega (arith, below, are.each)))) (subst (λ k. StandFor t list.items k) (sym same) stands)
-        | inr other ↦ subst (λ l. StandFor t l p) (sym (get_or-set_other lists q p list.items [] other)) (are.stand p less)
-      ];
-    }
+-- one more for which nothing is kept
+pub alone_more : {A : Type 0} (kept next : List (Option (Vec ℕ A))) → next ≡ kept ++ None ∷ [] → ((q : ℕ) → ends_of kept q ≡ q ∷ []) → (q : ℕ) → ends_of next q ≡ q ∷ []
+alone_more {A} kept next new alone q =
+    let is : get_or next q None ≡ get_or (kept ++ None ∷ []) q None = ap (λ l. get_or l q None) new in
+    elim (cases_lt q (length kept)) [
+      | inl below ↦ ap (λ k. kept_or k q) (is ∙ get_or_append_left kept (None ∷ []) None q below) ∙ alone q
+      | inr past ↦ elim (cases_eq q (length kept)) [
+        | inl here ↦ ap (λ k. kept_or k q) (is ∙ get_or_push kept None None q (sym here))
+        | inr other ↦ ap (λ k. kept_or k q) (is ∙ get_or_past (kept ++ None ∷ []) q None (omega (arith, past, other, length_push kept None)))
+      ]
+    ]

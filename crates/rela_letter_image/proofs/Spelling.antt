@@ -13,7 +13,7 @@ use Rattle.rela_nfa.specs.Runs.{StepIn}
 use Rattle.rela_nfa.specs.Stored.{move_of}
 use Rattle.rela_nfa.specs.declared.edge.Edge.{Edge}
 use Rattle.rela_letter_image.specs.ByLetters.{AddsMoves, AreSteps}
-use Rattle.rela_letter_image.specs.Growth.{edge_to}
+use Rattle.rela_letter_nfa.specs.Counted.{edge_to}
 use Rattle.rela_letter_image.proofs.GrownSteps.{end_cases, end_left, end_right, map_cond, no_end, only_one, range_push}
 use Rattle.rela_letter_image.proofs.StepsGo.{Contains-nil, Contains-map, Contains-map_back, first_in, in_filter, in_range}
 

@@ -1,6 +1,7 @@
 -- Silent branches: states that a transducer passes reading and writing nothing, to one of several others.
-use Rattle.std.specs.Prelude.{◌≡◌, ◌≤◌, ℕ, ◌<◌, Bool, List, [], ◌∷◌, Contains, length, map, slice_index_or}
+use Rattle.std.specs.Prelude.{◌≡◌, ◌≤◌, ℕ, ◌<◌, Bool, List, [], ◌∷◌, Option, None, Some, Contains, length, map, slice_index_or}
 use Rattle.std.specs.List.{All, flat_map}
+use Rattle.std.specs.declared.vec.Vec.{Vec}
 use Rattle.rela_trans.specs.Construction.{silent}
 use Rattle.rela_trans.specs.Machine.{Machine, IsFinal, machine_states, moves_of}
 use Rattle.rela_trans.specs.Runs.{Follow, Step, inputs, outputs}
@@ -40,23 +41,31 @@ pub record StandFor (t : Machine) (ends : List ℕ) (q : ℕ) : Type 0 where
       → GoOn read t ends steps f
 
 -- for each state those that stand for it
-pub record AreEnds (t : Machine) (ends : List (List ℕ)) : Type 0 where
-  pub each : length ends ≡ machine_states t
-  pub stand : (q : ℕ) → q < machine_states t → StandFor t (slice_index_or ends q []) q
+abbrev pub AreEnds : Machine → (ℕ → List ℕ) → Type 0
+AreEnds t ends = (q : ℕ) → q < machine_states t → StandFor t (ends q) q
+
+-- those that are kept, and the state alone where none are
+abbrev pub kept_or : {A : Type 0} → Option (Vec ℕ A) → ℕ → List ℕ
+kept_or None q = q ∷ []
+kept_or (Some kept) q = kept.items
+
+-- those that stand for the state, by those that are kept for each
+abbrev pub ends_of : {A : Type 0} → List (Option (Vec ℕ A)) → ℕ → List ℕ
+ends_of kept q = kept_or (slice_index_or kept q None) q
 
 -- the states that stand for the one to which the move leads
-abbrev pub ends_at : List (List ℕ) → Move (List Bool) → List ℕ
-ends_at ends move = slice_index_or ends move.to []
+abbrev pub ends_at : (ℕ → List ℕ) → Move (List Bool) → List ℕ
+ends_at ends move = ends move.to
 
 abbrev pub led_to : Move (List Bool) → ℕ → Move (List Bool)
 led_to move to = record { kind = move.kind; to = to }
 
 -- in place of the move, those that lead at once to the states that stand for its end
-abbrev pub passed_on : List (List ℕ) → Move (List Bool) → List (Move (List Bool))
+abbrev pub passed_on : (ℕ → List ℕ) → Move (List Bool) → List (Move (List Bool))
 passed_on ends move = map (led_to move) (ends_at ends move)
 
 -- the same machine, of which each move is passed on
-abbrev pub passing : List (List ℕ) → Machine → Machine
+abbrev pub passing : (ℕ → List ℕ) → Machine → Machine
 passing ends t = record {
   letters = t.letters;
   start = t.start;

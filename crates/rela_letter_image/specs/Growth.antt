@@ -3,6 +3,7 @@ use Rattle.std.specs.Prelude.{◌≡◌, ℕ, ◌⊎◌, ◌↔◌, Bool, IsTrue
 use Rattle.rela_pairs.specs.declared.pair.Pair.{Pair}
 use Rattle.rela_pairs.specs.declared.shape.Shape.{Shape}
 use Rattle.rela_letter_nfa.specs.declared.edge.LetterEdge.{LetterEdge}
+use Rattle.rela_letter_nfa.specs.Counted.{edge_to}
 use Rattle.rela_letter_nfa.specs.LetterAutomaton.{IsFinal, LetterAutomaton, LetterParts, with_state}
 use Rattle.rela_trans.specs.Machine.{Machine, IsFinal as IsFinalMachine}
 use Rattle.rela_letter_image.specs.Steps.{JointStep, step_to, steps_from}
@@ -20,9 +21,6 @@ pub record Growth : Type 0 where
 -- the same pairs, where this is built
 abbrev pub with_parts : Growth → LetterParts → Growth
 with_parts g parts = record { shape = g.shape; pairs = g.pairs; parts = parts }
-
-abbrev pub edge_to : ℕ → ℕ → LetterEdge
-edge_to k q = record { letter = k; to = q }
 
 -- one of the silent targets, or of the edges by the letter, is the state of this number
 abbrev pub HasEnd : List ℕ → List LetterEdge → Option ℕ → ℕ → Type 0

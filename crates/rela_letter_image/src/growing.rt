@@ -1,14 +1,14 @@
 //! A product as it grows: pairs of states are found while the edges that lead to them are made.
 ghost use Rattle.std.specs.Prelude.{◌≡◌, ◌<◌, ◌≤◌, ◌^◌, [], ◌∷◌, None, Some, IfOk, OnOk, length, slice_get};
 ghost use Rattle.std.specs.List.{All};
+ghost use Rattle.rela_letter_nfa.specs.Counted.{edge_to};
 ghost use Rattle.rela_letter_nfa.specs.LetterAutomaton.{IsLetterAutomaton, from_parts, no_parts, with_edge, with_silent, with_state};
 ghost use Rattle.rela_pairs.specs.Places.{Fits};
-ghost use Rattle.rela_letter_image.specs.Growth.{Grows, IsFoundIn, edge_to, with_parts};
+ghost use Rattle.rela_letter_image.specs.Growth.{Grows, IsFoundIn, with_parts};
 ghost use Rattle.rela_letter_image.specs.Steps.{step_to};
 
-use crate::counted::CountedBuilder;
 use crate::found::{Found, MOST_ROOM};
-use rela_letter_nfa::LetterNfa;
+use rela_letter_nfa::{CountedBuilder, LetterNfa};
 use rela_pairs::{BuildError, Pair, Shape};
 use std::alloc::{AllocError, Global};
 use std::marker::Model;
@@ -46,7 +46,7 @@ impl Model for Growing {
 
     ghost Value = { Growth };
 
-    ghost view = { λ g. record { shape = g.shape; pairs = g.found; parts = g.built } };
+    ghost view = { λ g. record { shape = g.shape; pairs = g.found; parts = g.built.parts } };
 
     ghost invariant = { λ g. All (Fits g.shape) g.found };
 }

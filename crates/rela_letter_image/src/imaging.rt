@@ -1,5 +1,5 @@
 //! The image of an automaton's words.
-ghost use Rattle.std.specs.Prelude.{◌≡◌, ℕ, ◌≤◌, ◌^◌, ◌↔◌, List, IfOk, length};
+ghost use Rattle.std.specs.Prelude.{ℕ, ◌≤◌, ◌^◌, ◌↔◌, List, IfOk, length};
 ghost use Rattle.std.specs.Option.{ForSome};
 ghost use Rattle.rela_letter_nfa.specs.Runs.{Accepts as AcceptsLetters};
 ghost use Rattle.rela_trans.specs.Runs.{Relates};
@@ -8,7 +8,7 @@ ghost use Rattle.rela_letter_image.specs.Coarse.{coarse_of};
 use crate::letter_relation::LetterRelation;
 use crate::product::product;
 use rela_letter_nfa::LetterNfa;
-use rela_pairs::BuildError;
+use rela_pairs::pass_limit;
 use std::alloc::{AllocError, Global};
 
 /// The words that the relation writes where it reads a word of the paths. Both words are of fine
@@ -34,7 +34,9 @@ pub fn letter_image(
 {
     match product(alloc, paths, relation, coarse, most) {
         Ok(image) => Ok(Some(image)),
-        Err(BuildError::Limit) => Ok(None),
-        Err(BuildError::Memory) => Err(AllocError),
+        Err(error) => {
+            pass_limit(error)?;
+            Ok(None)
+        }
     }
 }

@@ -1,13 +1,14 @@
 //! How the moves of a transducer are laid out by what they read.
-ghost use Rattle.std.specs.Prelude.{◌≡◌, ◌≢◌, ℕ, ◌<◌, ◌||◌, [], IfOk, OnOk, length, map};
+ghost use Rattle.std.specs.Prelude.{◌≡◌, ◌≢◌, ℕ, ◌<◌, ◌||◌, IfOk, OnOk, length, map};
 ghost use Rattle.std.specs.List.{All, flat_map};
 ghost use Rattle.std.specs.Option.{ForSome};
 ghost use Rattle.rela_labels.specs.Letters.{has};
 ghost use Rattle.rela_trans.specs.Machine.{IsSized};
-ghost use Rattle.rela_trans.specs.Stored.{kind_of, lists_of, move_of};
-ghost use Rattle.rela_letter_image.specs.Branches.{AreEnds, led_to, passed_on, passing};
-ghost use Rattle.rela_letter_image.specs.LetterMoves.{AreLaidOut, AreLettersOf, Gains, GainsAll, IsLaidOut, all_moves, only_letter, reading};
+ghost use Rattle.rela_trans.specs.Stored.{kind_of, move_of};
+ghost use Rattle.rela_letter_image.specs.Branches.{AreEnds, ends_of, led_to, passed_on, passing};
+ghost use Rattle.rela_letter_image.specs.LetterMoves.{AreLaidOut, Gains, GainsAll, IsLaidOut, only_letter, reading};
 
+use crate::branches::kept_for;
 use crate::letter_by_letter::is_only;
 use crate::letter_moves::{AloneMove, LetterMove, SetMove, StateMoves};
 use rela_labels::{LabelSet, WideSet};
@@ -129,18 +130,35 @@ fn push_each<M: LabelSet>(
     Ok(())
 }
 
+/// Adds the move, as one to each of the states that stand for its end.
+fn push_passed<M: LabelSet>(
+    alloc: Global,
+    state: &mut StateMoves,
+    letters: u32,
+    step: &Move<M>,
+    kept: &[Option<Vec<usize>>],
+) -> Result<(), AllocError>
+    requires { IsSized letters (kind_of M.letters step.now.kind) }
+    ensures { OnOk result (GainsAll letters (passed_on (ends_of kept.now)
+        (move_of M.letters step.now)) state.old state.new) }
+{
+    match kept_for(kept, step.to) {
+        Some(ends) => push_each(alloc, state, letters, step, ends),
+        None => push_move(alloc, state, letters, step, step.to),
+    }
+}
+
 /// The moves of one state, laid out by what they read, each as one to each of the states that stand
 /// for its end.
 fn laid_out<M: LabelSet>(
     alloc: Global,
     letters: u32,
     moves: &[Move<M>],
-    ends: &[Vec<usize>],
+    kept: &[Option<Vec<usize>>],
 ) -> Result<StateMoves, AllocError>
-    requires sized { All (λ step. IsSized letters (kind_of M.letters step.kind)) moves.now }
-    requires lead { All (λ step. step.to < length ends.now) moves.now }
+    requires { All (λ step. IsSized letters (kind_of M.letters step.kind)) moves.now }
     ensures { IfOk result (λ state. IsLaidOut letters
-        (flat_map (passed_on (lists_of ends.now)) (map (move_of M.letters) moves.now)) state) }
+        (flat_map (passed_on (ends_of kept.now)) (map (move_of M.letters) moves.now)) state) }
 {
     let mut state = StateMoves {
         alone: Vec::new(alloc),
@@ -148,7 +166,7 @@ fn laid_out<M: LabelSet>(
         by_letter: Vec::new(alloc),
     };
     for step in moves {
-        push_each(alloc, &mut state, letters, step, &ends[step.to])?;
+        push_passed(alloc, &mut state, letters, step, kept)?;
     }
     Ok(state)
 }
@@ -159,16 +177,16 @@ fn laid_out<M: LabelSet>(
 pub(crate) fn states_of<M: LabelSet>(
     alloc: Global,
     relation: &Transducer<M>,
-    ends: &[Vec<usize>],
+    kept: &[Option<Vec<usize>>],
 ) -> Result<Vec<StateMoves>, AllocError>
-    requires { AreEnds relation.now (lists_of ends.now) }
-    ensures { IfOk result (λ states. AreLaidOut (passing (lists_of ends.now) relation.now)
+    requires { AreEnds relation.now (ends_of kept.now) }
+    ensures { IfOk result (λ states. AreLaidOut (passing (ends_of kept.now) relation.now)
         states.items) }
 {
     let letters = relation.letters();
     let mut states = Vec::with_capacity(alloc, relation.states())?;
     for q in 0..relation.states() {
-        states.push(laid_out(alloc, letters, relation.moves(q), ends)?)?;
+        states.push(laid_out(alloc, letters, relation.moves(q), kept)?)?;
     }
     Ok(states)
 }

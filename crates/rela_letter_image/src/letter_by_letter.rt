@@ -1,21 +1,20 @@
 //! Automata with one letter on each edge, made of automata whose edges have sets of letters.
-ghost use Rattle.std.specs.Prelude.{◌≡◌, ℕ, ◌<◌, ◌≤◌, ◌^◌, ◌↔◌, List, [], ◌∷◌, true, None, Some, IsTrue, IfOk, OnOk, length, map, if◌then◌else◌};
+ghost use Rattle.std.specs.Prelude.{◌≡◌, ℕ, ◌<◌, ◌≤◌, ◌^◌, ◌↔◌, List, [], ◌∷◌, true, None, Some, IsTrue, IfOk, OnOk, map, if◌then◌else◌};
 ghost use Rattle.std.specs.List.{All};
 ghost use Rattle.std.specs.Option.{ForSome};
 ghost use Rattle.rela_labels.specs.Letters.{has};
+ghost use Rattle.rela_letter_nfa.specs.Counted.{edge_to};
 ghost use Rattle.rela_letter_nfa.specs.LetterAutomaton.{no_parts, with_edge};
 ghost use Rattle.rela_letter_nfa.specs.Runs.{Accepts as AcceptsLetters};
 ghost use Rattle.rela_nfa.specs.Automaton.{states};
 ghost use Rattle.rela_nfa.specs.Runs.{Accepts};
 ghost use Rattle.rela_nfa.specs.Stored.{move_of};
 ghost use Rattle.rela_letter_image.specs.ByLetters.{AddsCopy, AddsMoves, IsByLetters};
-ghost use Rattle.rela_letter_image.specs.Growth.{edge_to};
 
-use crate::counted::CountedBuilder;
 use rela_labels::LabelSet;
-use rela_letter_nfa::{LetterNfa, MAX_STATES};
+use rela_letter_nfa::{CountedBuilder, LetterNfa, MAX_STATES};
 use rela_nfa::{Edge, Nfa};
-use rela_pairs::BuildError;
+use rela_pairs::{BuildError, pass_limit};
 use std::alloc::{AllocError, Global};
 
 /// Whether the set, which has the letter, has no other. Time: constant for sets that are kept as
@@ -37,8 +36,9 @@ fn push_edge_if(
     letter: u32,
     to: u32,
 ) -> Result<(), BuildError>
-    ensures { OnOk result (builder.new
-        ≡ if is_added then with_edge builder.old (edge_to letter to) else builder.old) }
+    ensures { OnOk result (builder.new.parts ≡ if is_added
+        then with_edge builder.old.parts (edge_to letter to)
+        else builder.old.parts) }
 {
     if is_added {
         builder.push_edge(letter, to)?;
@@ -49,7 +49,7 @@ fn push_edge_if(
 /// Adds an edge by each letter of the set. Time: a step for each letter below its size.
 fn add_each<L: LabelSet>(builder: &mut CountedBuilder, set: &L, to: u32) -> Result<(), BuildError>
     ensures { OnOk result (AddsMoves (record { label = Some (L.letters set.now); to = to } ∷ [])
-        builder.old builder.new) }
+        builder.old.parts builder.new.parts) }
 {
     for letter in 0..set.size() {
         push_edge_if(builder, set.contains(letter), letter, to)?;
@@ -66,7 +66,7 @@ fn add_letters<L: LabelSet>(
     to: u32,
 ) -> Result<(), BuildError>
     ensures { OnOk result (AddsMoves (record { label = Some (L.letters set.now); to = to } ∷ [])
-        builder.old builder.new) }
+        builder.old.parts builder.new.parts) }
 {
     let Some(least) = set.least() else {
         return Ok(());
@@ -84,7 +84,8 @@ fn add_edge<L: LabelSet>(
     edge: &Edge<L>,
 ) -> Result<(), BuildError>
     requires { edge.now.to < 2 ^ 32 }
-    ensures { OnOk result (AddsMoves (move_of L.letters edge.now ∷ []) builder.old builder.new) }
+    ensures { OnOk result (AddsMoves (move_of L.letters edge.now ∷ [])
+        builder.old.parts builder.new.parts) }
 {
     let to = edge.to as u32;
     match &edge.label {
@@ -101,7 +102,7 @@ fn add_edges<L: LabelSet>(
 ) -> Result<(), BuildError>
     requires { All (λ edge. edge.to < 2 ^ 32) edges.now }
     ensures { OnOk result (AddsMoves (map (move_of L.letters) edges.now)
-        builder.old builder.new) }
+        builder.old.parts builder.new.parts) }
 {
     for edge in edges {
         add_edge(alloc, builder, edge)?;
@@ -118,7 +119,7 @@ fn add_copy<L: LabelSet>(
 ) -> Result<(), BuildError>
     requires state { q < states nfa.now }
     requires few { states nfa.now ≤ 2 ^ 31 }
-    ensures { OnOk result (AddsCopy nfa.now q builder.old builder.new) }
+    ensures { OnOk result (AddsCopy nfa.now q builder.old.parts builder.new.parts) }
 {
     add_edges(alloc, builder, nfa.edges(q))?;
     builder.end_state(nfa.is_final(q))?;
@@ -141,7 +142,7 @@ fn builder_for<L: LabelSet>(
     nfa: &Nfa<L>,
     most: usize,
 ) -> Result<CountedBuilder, AllocError>
-    ensures { IfOk result (λ counted. counted ≡ no_parts) }
+    ensures { IfOk result (λ counted. counted.parts ≡ no_parts) }
 {
     let edges = edge_count(nfa).min(most);
     CountedBuilder::with_capacity(alloc, most, nfa.states(), 0, edges)
@@ -188,7 +189,9 @@ pub fn by_letters<L: LabelSet>(
 {
     match by_letters_within(alloc, nfa, most) {
         Ok(made) => Ok(Some(made)),
-        Err(BuildError::Limit) => Ok(None),
-        Err(BuildError::Memory) => Err(AllocError),
+        Err(error) => {
+            pass_limit(error)?;
+            Ok(None)
+        }
     }
 }

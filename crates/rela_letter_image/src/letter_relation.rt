@@ -68,8 +68,8 @@ impl LetterRelation {
         let letters = relation.letters();
         let start = relation.start();
         let finals = finals_of(alloc, relation)?;
-        let ends = branch_ends(alloc, relation)?;
-        let states = states_of(alloc, relation, &ends)?;
+        let kept = branch_ends(alloc, relation)?;
+        let states = states_of(alloc, relation, &kept)?;
         Ok(LetterRelation {
             letters,
             start,

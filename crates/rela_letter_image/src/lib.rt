@@ -3,7 +3,6 @@
 #![tactic(auto)]
 
 mod branches;
-mod counted;
 mod found;
 mod growing;
 mod imaging;

@@ -1,13 +1,14 @@
 //! What an automaton and a transducer that reads its words do together, as one automaton.
 ghost use Rattle.std.specs.Prelude.{◌≡◌, ◌<◌, ◌≤◌, ◌↔◌, ◌^◌, [], ◌∷◌, List, None, Some, IsTrue, IfOk, OnOk, length, map, nat_eq, if◌then◌else◌};
 ghost use Rattle.std.specs.List.{All};
+ghost use Rattle.rela_letter_nfa.specs.Counted.{edge_to};
 ghost use Rattle.rela_letter_nfa.specs.LetterAutomaton.{IsFinal, states, with_edge};
 ghost use Rattle.rela_nfa.specs.Meeting.{pair_of};
 ghost use Rattle.rela_pairs.specs.Places.{Fits};
 ghost use Rattle.rela_pairs.specs.declared.pair.Pair.{Pair};
 ghost use Rattle.rela_trans.specs.Machine.{machine_states, IsFinal as IsFinalMachine};
 ghost use Rattle.rela_letter_image.specs.Coarse.{coarse_of, fine_letters};
-ghost use Rattle.rela_letter_image.specs.Growth.{AddsState, Grows, edge_to, with_parts};
+ghost use Rattle.rela_letter_image.specs.Growth.{AddsState, Grows, with_parts};
 ghost use Rattle.rela_letter_image.specs.LetterMoves.{AreLettersOf, LeadBelow, all_moves, alone_move, reading, set_move, writing};
 ghost use Rattle.rela_letter_image.specs.Product.{IsProduct};
 ghost use Rattle.rela_letter_image.specs.Steps.{step_to, step_if, silent_steps, alone_by, alone_steps, read_by, read_steps, letter_steps, laid_out_steps, written_by, edge_steps, steps_from};

@@ -1,5 +1,5 @@
 -- Lists of numbers in ascending order are sets.
-use Rattle.std.proofs.Common.{◌≡◌, ◌≢◌, ℕ, suc, ◌<◌, ◌⊎◌, ◌↔◌, List, [], ◌∷◌, get_or, refl, sym, ap, ◌∙◌, inl, inr, arith}
+use Rattle.std.proofs.Common.{◌≡◌, ◌≢◌, ℕ, suc, ◌<◌, ◌⊎◌, List, [], ◌∷◌, get_or, refl, sym, ap, ◌∙◌, inl, inr, arith}
 use Rattle.std.specs.List.{Contains}
 use Rattle.std.specs.List.Sorted.{IsStrictlySortedBy}
 use Rattle.std.specs.Ordering.{nat_cmp}
@@ -50,16 +50,6 @@ same_or_apart (x ∷ xs) (y ∷ ys) sorted sorted' = elim (cases_lt x y) [
           )
         ]
   ]
-]
-
--- the numbers of a set have one such list
-pub same_lists : (P Q : ℕ → Type 0) (xs ys : List ℕ) → Lists P xs → Lists Q ys → ((q : ℕ) → P q ↔ Q q) → xs ≡ ys
-same_lists P Q xs ys first second same = elim (same_or_apart xs ys first.ordered second.ordered) [
-  | inl equal ↦ equal
-  | inr apart ↦ absurd (elim apart.1 [
-    | inl one ↦ one.1 ((second.members apart.0).1 ((same apart.0).0 ((first.members apart.0).0 one.0)))
-    | inr one ↦ one.1 ((first.members apart.0).1 ((same apart.0).1 ((second.members apart.0).0 one.0)))
-  ])
 ]
 
 -- two lists that differ tell the sets apart

@@ -1,10 +1,10 @@
 -- Sets of states in buckets.
-use Rattle.std.proofs.Common.{◌≡◌, ◌≢◌, ℕ, suc, ◌+◌, ◌-◌, ◌<◌, ◌≤◌, List, [], ◌∷◌, ◌++◌, ◌&&◌, true, nat_eq, length, get_or, set, take, replicate, refl, sym, ap, ◌∙◌, subst, inl, inr, arith, length-append}
+use Rattle.std.proofs.Common.{◌≡◌, ◌≢◌, ℕ, suc, ◌+◌, ◌-◌, ◌<◌, ◌≤◌, List, [], ◌∷◌, ◌++◌, ◌&&◌, true, nat_eq, length, get_or, set, take, refl, sym, ap, ◌∙◌, subst, inl, inr, arith, length-append}
 use Rattle.std.specs.Cmp.Lexicographic.{pointwise}
 use Rattle.std.specs.List.{Contains}
 use Rattle.std.proofs.Math.Seq.{drop-append_seam}
 use Rattle.std.proofs.lemmas.Bool.{cases_eq, cases_lt}
-use Rattle.std.proofs.lemmas.List.{get_or_append_left, get_or_at, get_or_default, get_or-map, get_or-replicate, get_or-set_other, get_or-set_same, length-replicate, length-map, length-set, length_push, map_push, take_all}
+use Rattle.std.proofs.lemmas.List.{get_or_append_left, get_or_at, get_or_default, get_or-map, get_or-set_other, get_or-set_same, length-map, length-set, length_push, map_push, take_all}
 use Rattle.std.proofs.lemmas.List.Elements.{All-push}
 use Rattle.rela_letter_nfa.specs.Buckets.{AreBucketed, AreWithin, IsLastIn, befores, bucket_of, sets_at}
 use Rattle.rela_letter_nfa.specs.Parting.{part}
@@ -19,19 +19,6 @@ last_same sets new count n k v same is = record {
   own = λ i e. ap (bucket_of count) (same i (omega (arith, e, is.upto))) ∙ is.own i e;
   all = λ i below e. is.all i below (ap (bucket_of count) (sym (same i below)) ∙ e);
 }
-
-pub bucketed_none : (lasts : List ℕ) (n : ℕ) → 0 < n → lasts ≡ replicate n 0 → AreBucketed [] [] lasts
-bucketed_none lasts n some is = record {
-  some = omega (arith, some, count);
-  each = refl;
-  last_of = λ k below.
-      let none : get_or lasts k 0 ≡ 0 = ap (λ (l : List ℕ). get_or l k 0) is ∙ get_or-replicate n k 0 0 (omega (arith, below, count)) in
-      record { upto = omega (arith, none); own = λ i e. absurd (omega (arith, none, e)); all = λ i below e. absurd (omega (arith, below)) };
-  earlier = λ i below. absurd (omega (arith, below));
-}
-  where
-    count : length lasts ≡ n
-    count = ap length is ∙ length-replicate n 0
 
 pub bucketed_more : (sets : List (List ℕ)) (before lasts states : List ℕ) (k : ℕ) → k < length lasts → k ≡ bucket_of (length lasts) states → AreBucketed sets before lasts
     → AreBucketed (sets ++ states ∷ []) (before ++ get_or lasts k 0 ∷ []) (set lasts k (length sets + 1))
@@ -112,11 +99,6 @@ pub record IsSeeking (sets : List (List ℕ)) (count : ℕ) (states : List ℕ) 
   pub left : (i : ℕ) → i < length sets → get_or sets i [] ≡ states → i < at
 
 module _ (sets : List (List ℕ)) (before lasts states : List ℕ) (are : AreBucketed sets before lasts) where
-  pub seeking_first : (k : ℕ) → k < length lasts → k ≡ bucket_of (length lasts) states → IsSeeking sets (length lasts) states (get_or lasts k 0)
-  seeking_first k within is =
-      let last = are.last_of k within in
-      record { upto = last.upto; own = λ i e. last.own i e ∙ is; left = λ i below same. last.all i below (ap (bucket_of (length lasts)) same ∙ sym is) }
-
   pub seeking_on : (i : ℕ) → IsSeeking sets (length lasts) states (i + 1) → get_or sets i [] ≢ states → IsSeeking sets (length lasts) states (get_or before i 0)
   seeking_on i seeking other =
       let last = are.earlier i (omega (arith, seeking.upto)) in

@@ -6,7 +6,7 @@ use Rattle.std.proofs.lemmas.List.{get_or_default, get_or-set_other, get_or-set_
 use Rattle.std.proofs.lemmas.List.Elements.{All-contains, All-get_or, Contains-append_left, Contains-get_or, Contains-push, Contains-push_cases}
 use Rattle.std.proofs.lemmas.List.Sums.{sum_by-set}
 use Rattle.std.proofs.lemmas.Bool.{cases_lt}
-use Rattle.rela_letter_nfa.specs.Chains.{AreEnds, ByLinks, HasChain, IsLink, IsWalked}
+use Rattle.rela_letter_nfa.specs.Chains.{ByLinks, HasChain, IsLink, IsWalked}
 use Rattle.rela_letter_nfa.specs.LetterAutomaton.{LetterAutomaton, IsLetterAutomaton, silents_of, states}
 use Rattle.rela_letter_nfa.specs.Sets.{HasFlag}
 use Rattle.rela_letter_nfa.proofs.Members.{Contains-head, Contains-nil}
@@ -58,17 +58,6 @@ module _ (a : LetterAutomaton) where
     pub fresh : (p : ℕ) → Contains path p → (p < states a) × (¬ HasFlag old p) × HasFlag new p
     pub led : (p : ℕ) → Contains path p → HasChain a p end
     pub onward : (p r : ℕ) → Contains path p → IsLink a p r → Contains path r ⊎ (r ≡ end)
-
-  pub walking_none : (q : ℕ) (flags : List Bool) → q < states a → IsWalking q flags flags [] q
-  walking_none q flags below = record {
-    state = below;
-    begun = inl refl;
-    kept = λ p passed. passed;
-    only = λ p passed. inl passed;
-    fresh = λ p none. absurd (Contains-nil p none);
-    led = λ p none. absurd (Contains-nil p none);
-    onward = λ p r none. absurd (Contains-nil p none);
-  }
 
   pub walking_more : (q : ℕ) (old new : List Bool) (path : List ℕ) (end next : ℕ) → length new ≡ states a → IsWalking q old new path end → get_or new end false ≡ false → next < states a → IsNext end next
       → IsWalking q old (set new end true) (path ++ end ∷ []) next
@@ -128,9 +117,6 @@ module _ (a : LetterAutomaton) where
     onward = walking.onward;
   }
 
-  pub walked_from : (q : ℕ) (old new : List Bool) (path : List ℕ) (end : ℕ) → IsWalking q old new path end → HasFlag new end → HasFlag new q
-  walked_from q old new path end walking passed = elim walking.begun [ inl here ↦ subst (HasFlag new) here passed | inr there ↦ there ]
-
 -- one flag less is to be set
 pub one_less : (flags : List Bool) (n : ℕ) → n < length flags → get_or flags n false ≡ false → count_by not (set flags n true) < count_by not flags
 one_less flags n within lacking =
@@ -141,9 +127,6 @@ one_less flags n within lacking =
 
 abbrev pub IsSettled : List ℕ → List ℕ → List ℕ → ℕ → Type 0
 IsSettled old new path end = ((p : ℕ) → Contains path p → get_or new p 0 ≡ end) × ((p : ℕ) → Contains path p ⊎ (get_or new p 0 ≡ get_or old p 0))
-
-pub settled_none : (ends : List ℕ) (end : ℕ) → IsSettled ends ends [] end
-settled_none ends end = (λ p none. absurd (Contains-nil p none), λ p. inr refl)
 
 pub settled_more : (old ends path : List ℕ) (i end : ℕ) → i < length path → get_or path i 0 < length ends → IsSettled old ends (take i path) end → IsSettled old (set ends (get_or path i 0) end) (take (i + 1) path) end
 settled_more old ends path i end below within so_far = (
@@ -182,14 +165,6 @@ pub record AreEndsSoFar (a : LetterAutomaton) (flags : List Bool) (ends : List �
   pub same : (p r : ℕ) → HasFlag flags p → IsLink a p r → get_or ends p 0 ≡ get_or ends r 0
 
 module _ (a : LetterAutomaton) where
-  pub ends_none : (flags : List Bool) (ends : List ℕ) → length ends ≡ states a → ((p : ℕ) → p < states a → get_or ends p 0 ≡ p) → ((p : ℕ) → ¬ HasFlag flags p) → AreEndsSoFar a flags ends
-  ends_none flags ends count each none = record {
-    count = count;
-    led = λ p below. ([], sym (each p below));
-    closed = λ p r passed. absurd (none p passed);
-    same = λ p r passed. absurd (none p passed);
-  }
-
   pub ends_more : (old new : List Bool) (ends after path : List ℕ) (at : ℕ) → AreEndsSoFar a old ends → IsWalked a old new path at → length after ≡ length ends → IsSettled ends after path (get_or ends at 0)
       → AreEndsSoFar a new after
   ends_more old new ends after path at are walk count settled = record {
@@ -225,9 +200,6 @@ module _ (a : LetterAutomaton) where
 
       last_end : get_or after at 0 ≡ end
       last_end = elim (settled.1 at) [ inl among ↦ settled.0 at among | inr kept ↦ kept ]
-
-  pub ends_all : (flags : List Bool) (ends : List ℕ) → AreEndsSoFar a flags ends → ((p : ℕ) → p < states a → HasFlag flags p) → AreEnds a ends
-  ends_all flags ends so_far all = record { count = so_far.count; led = so_far.led; same = λ q r below link. so_far.same q r (all q below) link }
 
 -- the states of the path of a walk
 pub path_below : (a : LetterAutomaton) (old new : List Bool) (path : List ℕ) (end n : ℕ) → IsWalked a old new path end → n ≡ states a → All (λ p. p < n) path

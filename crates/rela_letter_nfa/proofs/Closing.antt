@@ -1,5 +1,5 @@
 -- The states to which silent steps lead, found from those that stand in a queue.
-use Rattle.std.proofs.Common.{◌≡◌, ℕ, ◌+◌, ◌<◌, ◌≤◌, ◌↔◌, List, [], ◌∷◌, ◌++◌, length, get_or, Option, None, Some, refl, sym, ap, ◌∙◌, subst, inl, inr, arith}
+use Rattle.std.proofs.Common.{◌≡◌, ℕ, ◌+◌, ◌<◌, ◌≤◌, ◌↔◌, List, [], ◌∷◌, ◌++◌, length, get_or, Option, None, Some, sym, ap, ◌∙◌, subst, inl, inr, arith}
 use Rattle.std.specs.List.{Contains}
 use Rattle.std.specs.Option.{option_to_list}
 use Rattle.std.proofs.lemmas.Bool.{cases_lt}
@@ -17,9 +17,6 @@ pub record IsClosing (a : LetterAutomaton) (starts now : List ℕ) (done : ℕ) 
   pub followed : (k q : ℕ) → k < done → HasStep a (get_or now k 0) None q → Contains now q
 
 module _ (a : LetterAutomaton) (starts : List ℕ) where
-  pub closing_none : IsClosing a starts starts 0
-  closing_none = record { started = λ q c. c; sound = λ q c. (q, c, ([], refl, refl)); followed = λ k q below. absurd (omega arith) }
-
   pub closing_more : (done : ℕ) (before after : List ℕ) → IsClosing a starts before done → done < length before → Adds (Contains (silents_of a (get_or before done 0))) before after
       → IsClosing a starts after (done + 1)
   closing_more done before after so_far within adds =

@@ -1,17 +1,17 @@
 -- The edges out of a set of states, letter after letter.
-use Rattle.std.proofs.Common.{◌≡◌, ◌≢◌, ℕ, ◌+◌, ◌<◌, ◌≤◌, ◌↔◌, List, [], ◌∷◌, ◌++◌, length, get_or, Some, refl, sym, ap, ◌∙◌, subst, inl, inr, arith, append_assoc, get_or-append-add, length-append}
+use Rattle.std.proofs.Common.{◌≡◌, ◌≢◌, ℕ, ◌+◌, ◌<◌, ◌≤◌, ◌↔◌, List, [], ◌∷◌, ◌++◌, length, get_or, Some, sym, ap, ◌∙◌, subst, inl, inr, arith, append_assoc, get_or-append-add, length-append}
 use Rattle.std.specs.List.{All, Contains, flat_map}
 use Rattle.std.specs.List.Sorted.{IsNonDecreasingBy, IsPermutation}
 use Rattle.std.proofs.lemmas.Bool.{cases_lt}
 use Rattle.std.proofs.lemmas.List.{get_or_past}
-use Rattle.std.proofs.lemmas.List.Elements.{All-contains, All-get_or, All-head, All-nil, All-push, All-weaker, Contains-append_cases, Contains-append_left, Contains-append_right, Contains-get_or, Contains-push, Contains-push_cases}
+use Rattle.std.proofs.lemmas.List.Elements.{All-contains, All-get_or, All-head, All-push, All-weaker, Contains-append_cases, Contains-append_left, Contains-append_right, Contains-get_or, Contains-push, Contains-push_cases}
 use Rattle.std.proofs.lemmas.List.Sorted.{Contains-permutation, IsNonDecreasingBy-drop, IsPermutation-sym}
 use Rattle.rela_letter_nfa.specs.LetterAutomaton.{LetterAutomaton, IsLetterAutomaton, edges_of, states}
 use Rattle.rela_letter_nfa.specs.Outgoing.{AreComing, HasEnd, IsRest, NextBy}
 use Rattle.rela_letter_nfa.specs.Runs.{HasStep}
 use Rattle.rela_letter_nfa.specs.Sets.{Adds, Inserts, LeadsFrom, Lists, NextFrom, StepFrom}
 use Rattle.rela_letter_nfa.specs.declared.edge.LetterEdge.{LetterEdge}
-use Rattle.rela_letter_nfa.proofs.Growing.{adds_nothing, adds_one, adds_same}
+use Rattle.rela_letter_nfa.proofs.Growing.{adds_one, adds_same}
 use Rattle.rela_letter_nfa.proofs.Members.{Contains-cons_cases, Contains-head, Contains-nil, Contains-tail}
 use Rattle.rela_letter_nfa.proofs.Reached.{lists_same}
 
@@ -27,14 +27,6 @@ pub record IsPassing (letter : ℕ) (edges rest : List LetterEdge) (old now : Li
   pub is : edges ≡ done ++ rest
   pub own : All (λ (e : LetterEdge). e.letter ≡ letter) done
   pub adds : Adds (HasEnd done letter) old now
-
-pub passing_none : (letter : ℕ) (edges : List LetterEdge) (old : List ℕ) → IsPassing letter edges edges old old
-passing_none letter edges old = record {
-  done = [];
-  is = refl;
-  own = All-nil (λ (e : LetterEdge). e.letter ≡ letter);
-  adds = adds_nothing (HasEnd [] letter) old (λ q none. Contains-nil _ none);
-}
 
 edge_is : (edge : LetterEdge) (letter : ℕ) → edge.letter ≡ letter → edge ≡ record { letter = letter; to = edge.to }
 edge_is edge letter own = ap (λ (k : ℕ). let e : LetterEdge = record { letter = k; to = edge.to } in e) own

@@ -46,9 +46,6 @@ module _ (pair : Pair) (are : ArePaired pair) where
   edges_second q above below =
       list_behind (edge_behind n) pair.first.edges pair.second.edges n q are.first.each_edges above (omega (arith, below, above, joined_states, are.second.each_edges))
 
-  pub second_within : (q : ℕ) → n ≤ q → q < states (joined pair) → q - n < states pair.second
-  second_within q above below = omega (arith, below, above, joined_states)
-
   pub joined_is : IsLetterAutomaton (joined pair)
   joined_is =
       let count = joined_states in

@@ -17,7 +17,6 @@ pub mod PairsBefore
 pub mod Parting
 pub mod Reached
 pub mod Searching
-pub mod Stamps
 pub mod Standing
 pub mod Within
 pub mod WithoutChains

@@ -1,5 +1,6 @@
 pub mod Buckets
 pub mod Chains
+pub mod Counted
 pub mod Differences
 pub mod LetterAutomaton
 pub mod Outgoing

@@ -13,7 +13,7 @@ use crate::spreading::spread;
 use crate::state_sets::{MOST_ROOM, StateSets};
 use crate::visited::Visited;
 use rela_names::Word;
-use rela_pairs::BuildError;
+use rela_pairs::{BuildError, within};
 use std::alloc::{AllocError, Global};
 
 /// Puts the sets of states that words reach behind one another, up to the first that is sought, and
@@ -80,9 +80,7 @@ fn search_from_starts(
     if both.is_sought(sought, visited.states()) {
         return Ok(true);
     }
-    if sets.len() > limit {
-        return Err(BuildError::Limit);
-    }
+    within(sets.len(), limit)?;
     search_on(alloc, both, sought, sets, arrivals, limit, visited)
 }
 

@@ -11,7 +11,7 @@ use crate::edge::LetterEdge;
 use crate::outgoing::{edges_out, follow};
 use crate::state_sets::StateSets;
 use crate::visited::Visited;
-use rela_pairs::BuildError;
+use rela_pairs::{BuildError, within};
 use std::alloc::Global;
 
 /// Puts the sets that follow the set of this number behind the others, by one letter after the other
@@ -115,8 +115,6 @@ fn arrive(
     if both.is_sought(sought, set) {
         return Ok(true);
     }
-    if sets.len() > limit {
-        return Err(BuildError::Limit);
-    }
+    within(sets.len(), limit)?;
     Ok(false)
 }

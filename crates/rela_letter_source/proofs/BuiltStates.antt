@@ -5,13 +5,13 @@ use Rattle.std.proofs.lemmas.Bool.{cases_lt}
 use Rattle.std.proofs.lemmas.List.{get_or_append_left, get_or_default, get_or_push, length_push}
 use Rattle.std.proofs.lemmas.List.Elements.{Contains-get_or}
 use Rattle.std.proofs.lemmas.Option.{slice_get-get_or, slice_get_within}
-use Rattle.rela_letter_nfa.specs.LetterAutomaton.{IsLetterAutomaton, LetterAutomaton, LetterParts, edges_of, from_parts, no_parts, silents_of, states, with_state}
+use Rattle.rela_letter_nfa.specs.LetterAutomaton.{IsLetterAutomaton, LetterAutomaton, edges_of, from_parts, silents_of, states, with_state}
 use Rattle.rela_letter_nfa.specs.Runs.{HasStep}
 use Rattle.rela_letter_nfa.specs.declared.edge.LetterEdge.{LetterEdge}
 use Rattle.rela_letter_source.specs.declared.configuration.Configuration.{Configuration}
 use Rattle.rela_trans.specs.Machine.{Machine, machine_states}
 use Rattle.rela_letter_image.specs.Coarse.{coarse_of}
-use Rattle.rela_letter_source.specs.Growth.{AddsState, Growth, HasEnd, IsFoundIn, Stand, with_parts}
+use Rattle.rela_letter_source.specs.Growth.{AddsState, Growth, HasEnd, Stand, with_parts}
 use Rattle.rela_letter_source.specs.Product.{IsEnd, IsProduct}
 use Rattle.rela_letter_source.specs.Steps.{standing, step_to, steps_from}
 use Rattle.rela_letter_source.proofs.GrownSteps.{stand_longer, still_at}
@@ -41,31 +41,6 @@ module _ (coarse word : List ℕ) (a : LetterAutomaton) (t : Machine) where
     pub count : length g.parts.finals ≤ length g.found
     pub built : (p : ℕ) (x : Configuration) → p < length g.parts.finals → slice_get g.found p ≡ Some x
         → StandsFor g.found x (get_or g.parts.finals p false) (get_or g.parts.silents p []) (get_or g.parts.edges p [])
-
-  -- the configuration that is found first has the number 0
-  first_of : (found : List Configuration) (x : Configuration) (q : ℕ) → IsFoundIn [] found x → slice_get found q ≡ Some x → slice_get found 0 ≡ Some x
-  first_of found x q finds at = elim finds [
-    | inl none ↦ absurd (nothing (sym (ap (λ (l : List Configuration). slice_get l q) none) ∙ at))
-    | inr one ↦ ap (λ (l : List Configuration). slice_get l 0) one
-  ]
-    where
-      nothing : {y : Configuration} → None ≡ Some y → ⊥
-      nothing e = cc
-
-  -- no state
-  pub built_none : (g h : Growth) (q : ℕ) → g.shape.lefts ≡ states a → g.shape.rights ≡ machine_states t → g.found ≡ [] → g.parts ≡ no_parts
-      → h.shape ≡ g.shape → h.parts ≡ g.parts → IsFoundIn g.found h.found (standing a.start t.start 0) → slice_get h.found q ≡ Some (standing a.start t.start 0) → AreBuilt h
-  built_none g h q lefts rights none nothing shape parts found at = record {
-    lefts = ap (λ s. s.lefts) shape ∙ lefts;
-    rights = ap (λ s. s.rights) shape ∙ rights;
-    first = first_of h.found (standing a.start t.start 0) q (subst (λ l. IsFoundIn l h.found (standing a.start t.start 0)) none found) at;
-    no_silents = ap (λ (p : LetterParts). p.next_silents) (parts ∙ nothing);
-    no_edges = ap (λ (p : LetterParts). p.next_edges) (parts ∙ nothing);
-    each_silents = ap (λ (p : LetterParts). length p.silents) (parts ∙ nothing) ∙ sym (ap (λ (p : LetterParts). length p.finals) (parts ∙ nothing));
-    each_edges = ap (λ (p : LetterParts). length p.edges) (parts ∙ nothing) ∙ sym (ap (λ (p : LetterParts). length p.finals) (parts ∙ nothing));
-    count = omega (arith, ap (λ (p : LetterParts). length p.finals) (parts ∙ nothing));
-    built = λ p x below there. absurd (omega (arith, below, ap (λ (p : LetterParts). length p.finals) (parts ∙ nothing)));
-  }
 
   module _ (g h : Growth) (x : Configuration) (so_far : AreBuilt g) (at : slice_get g.found (length g.parts.finals) ≡ Some x) (adds : AddsState coarse word a t x g h) where
     abbrev mid : Growth
@@ -163,10 +138,6 @@ module _ (coarse word : List ℕ) (a : LetterAutomaton) (t : Machine) where
               ap (λ (l : List Configuration). length l) longer,
               length-append g.found more,
             )
-
-    -- and one fewer to be built
-    pub one_more : length h.parts.finals ≡ length g.parts.finals + 1
-    one_more = ap (λ (v : Growth). length v.parts.finals) adds.ended ∙ length_push mid.parts.finals adds.is_final ∙ ap (λ (l : List Bool). length l + 1) adds.grows.finals
 
   -- ---- when all are built
 

@@ -13,7 +13,8 @@ use Rattle.rela_trans.specs.Stored.{kind_of}
 use Rattle.rela_trans.specs.declared.moves.Move.{Move}
 use Rattle.rela_trans.specs.declared.moves.MoveKind.{MoveKind}
 use Rattle.rela_trans.specs.declared.moves.MoveKind.TheVariants.{Silent, In, Out, Same}
-use Rattle.rela_letter_source.specs.Growth.{Growth, HasEnd, Stand, Grows, IsFoundIn, edge_to, with_parts}
+use Rattle.rela_letter_nfa.specs.Counted.{edge_to}
+use Rattle.rela_letter_source.specs.Growth.{Growth, HasEnd, Stand, Grows, IsFoundIn, with_parts}
 use Rattle.rela_letter_nfa.specs.declared.edge.LetterEdge.{LetterEdge}
 use Rattle.rela_letter_source.specs.Steps.{JointStep, alone_by, alone_steps, edge_steps, next_of, read_by, silent_steps, step_to, steps_from}
 use Rattle.rela_letter_source.specs.declared.next.Next.{Next}

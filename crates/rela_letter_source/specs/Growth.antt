@@ -2,6 +2,7 @@
 use Rattle.std.specs.Prelude.{◌≡◌, ℕ, ◌<◌, ◌⊎◌, ◌↔◌, Bool, IsTrue, List, [], ◌∷◌, ◌++◌, Option, None, Some, Contains, slice_get}
 use Rattle.rela_pairs.specs.declared.shape.Shape.{Shape}
 use Rattle.rela_letter_nfa.specs.declared.edge.LetterEdge.{LetterEdge}
+use Rattle.rela_letter_nfa.specs.Counted.{edge_to}
 use Rattle.rela_letter_nfa.specs.LetterAutomaton.{LetterAutomaton, LetterParts, with_state}
 use Rattle.rela_trans.specs.Machine.{Machine}
 use Rattle.rela_letter_source.specs.Product.{IsEnd}
@@ -25,9 +26,6 @@ pub record Growth : Type 0 where
 -- the same configurations, where this is built
 abbrev pub with_parts : Growth → LetterParts → Growth
 with_parts g parts = record { shape = g.shape; found = g.found; parts = parts }
-
-abbrev pub edge_to : ℕ → ℕ → LetterEdge
-edge_to k q = record { letter = k; to = q }
 
 -- one of the silent targets, or of the edges by the letter, is the state of this number
 abbrev pub HasEnd : List ℕ → List LetterEdge → Option ℕ → ℕ → Type 0

@@ -1,5 +1,5 @@
 //! The configurations that were found, and their numbers.
-ghost use Rattle.std.specs.Prelude.{◌≡◌, ◌≤◌, ◌^◌, [], Some, IfOk, length, slice_get};
+ghost use Rattle.std.specs.Prelude.{◌≡◌, ◌<◌, ◌≤◌, ◌⊎◌, ◌^◌, [], Some, Contains, IfErr, IfOk, length, slice_get};
 ghost use Rattle.rela_letter_source.specs.Growth.{IsFoundIn};
 
 use crate::configuration::Configuration;
@@ -46,10 +46,11 @@ impl Found {
         self.all.as_slice()
     }
 
-    /// The number of the configuration, and `Limit` where it isn't found. Time: constant in
+    /// The number of the configuration, and `Limit` exactly where it isn't found. Time: constant in
     /// expectation.
     fn number_of(&self, x: Configuration) -> Result<u32, BuildError>
-        ensures { IfOk result (λ number. slice_get self.now number ≡ Some x) }
+        ensures number { IfOk result (λ number. slice_get self.now number ≡ Some x) }
+        ensures limit { IfErr result (λ e. (e ≡ BuildError.Limit) × (¬ Contains self.now x)) }
     {
         match self.all.get_index_of(&x) {
             Some(number) => Ok(number as u32),
@@ -67,6 +68,11 @@ impl Found {
     pub(crate) fn number(&mut self, x: Configuration, most: usize) -> Result<u32, BuildError>
         ensures numbered { IfOk result (λ number. slice_get self.new number ≡ Some x) }
         ensures found { IsFoundIn self.old self.new x }
+        ensures new { IfErr result (λ e. e ≡ BuildError.Limit → ¬ Contains self.old x) }
+        ensures limit { IfErr result (λ e. e ≡ BuildError.Limit →
+            (self.new ≡ self.old) × ((most ≤ length self.old) ⊎ (2 ^ 31 ≤ length self.old))) }
+        ensures memory { IfErr result (λ e. e ≡ BuildError.Memory →
+            (length self.old < most) × (length self.old < 2 ^ 31)) }
     {
         let count = self.all.len();
         if count < most && count < MAX_STATES {

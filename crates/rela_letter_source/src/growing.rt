@@ -2,14 +2,14 @@
 //! are made.
 ghost use Rattle.std.specs.Prelude.{◌≡◌, ◌<◌, ◌≤◌, ◌^◌, [], ◌∷◌, None, Some, IfOk, OnOk, length, slice_get};
 ghost use Rattle.std.specs.List.{All};
+ghost use Rattle.rela_letter_nfa.specs.Counted.{edge_to};
 ghost use Rattle.rela_letter_nfa.specs.LetterAutomaton.{IsLetterAutomaton, from_parts, no_parts, with_edge, with_silent, with_state};
-ghost use Rattle.rela_letter_source.specs.Growth.{Fits, Grows, IsFoundIn, edge_to, with_parts};
+ghost use Rattle.rela_letter_source.specs.Growth.{Fits, Grows, IsFoundIn, with_parts};
 ghost use Rattle.rela_letter_source.specs.Steps.{step_to};
 
 use crate::configuration::Configuration;
-use crate::counted::CountedBuilder;
 use crate::found::Found;
-use rela_letter_nfa::LetterNfa;
+use rela_letter_nfa::{CountedBuilder, LetterNfa};
 use rela_pairs::{BuildError, Shape};
 use std::alloc::{AllocError, Global};
 use std::marker::Model;
@@ -38,7 +38,7 @@ impl Model for Growing {
 
     ghost Value = { Growth };
 
-    ghost view = { λ g. record { shape = g.shape; found = g.found; parts = g.built } };
+    ghost view = { λ g. record { shape = g.shape; found = g.found; parts = g.built.parts } };
 
     ghost invariant = { λ g. All (Fits g.shape) g.found };
 }

@@ -3,7 +3,6 @@
 #![tactic(auto)]
 
 mod configuration;
-mod counted;
 mod found;
 mod growing;
 mod next;

@@ -9,7 +9,7 @@ use crate::sources::sources;
 use rela_labels::LabelSet;
 use rela_letter_nfa::{LetterNfa, LetterNfaBuilder, Sought, first_difference};
 use rela_names::Word;
-use rela_pairs::BuildError;
+use rela_pairs::{BuildError, pass_limit};
 use rela_trans::Transducer;
 use std::alloc::{AllocError, Global};
 
@@ -81,7 +81,9 @@ pub fn first_source<M: LabelSet>(
 {
     match source_within(alloc, paths, relation, coarse, word, most) {
         Ok(found) => Ok(found),
-        Err(BuildError::Limit) => Ok(None),
-        Err(BuildError::Memory) => Err(AllocError),
+        Err(error) => {
+            pass_limit(error)?;
+            Ok(None)
+        }
     }
 }

@@ -1,16 +1,15 @@
 use Rattle.std.proofs.Common.{subst, sym}
-use Rattle.rela_trans.specs.Stored.{lists_of}
-use Rattle.rela_letter_image.specs.Branches.{AreEnds, passing}
+use Rattle.rela_letter_image.specs.Branches.{AreEnds, ends_of, passing}
 use Rattle.rela_letter_image.proofs.Laying.{letters_ok, made_ok, made_relates}
 use Rattle.rela_letter_image.proofs.Passing.{passing_ok, passing_relates}
 use Rattle.rela_letter_image.proofs.letter_relation.LetterRelation.new.Goals as goal
 
 pub invariant_of-result : goal.invariant_of-result
 invariant_of-result g c =
-    let lists = lists_of c.deref.result.now in
-    let are = subst (λ l. AreEnds c.args.relation.now (lists_of l)) (sym c.deref.ensures.value) c.in_ok-ends.ensures in
-    let t = passing lists c.args.relation.now in
-    let ok = passing_ok c.args.relation.now c.letters-letters.ensures.machine lists are in
+    let ends = ends_of c.deref.result.now in
+    let are = subst (λ l. AreEnds c.args.relation.now (ends_of l)) (sym c.deref.ensures.value) c.in_ok-kept.ensures in
+    let t = passing ends c.args.relation.now in
+    let ok = passing_ok c.args.relation.now c.letters-letters.ensures.machine ends are in
     let letters = c.letters-letters.result in
     let start = c.start-start.result in
     let finals = c.in_ok-finals.finals.items in
@@ -21,11 +20,11 @@ invariant_of-result g c =
 
 pub returns-clause-relation : goal.returns-clause-relation
 returns-clause-relation g c =
-    let lists = lists_of c.deref.result.now in
-    let are = subst (λ l. AreEnds c.args.relation.now (lists_of l)) (sym c.deref.ensures.value) c.in_ok-ends.ensures in
-    let t = passing lists c.args.relation.now in
-    let ok = passing_ok c.args.relation.now c.letters-letters.ensures.machine lists are in
+    let ends = ends_of c.deref.result.now in
+    let are = subst (λ l. AreEnds c.args.relation.now (ends_of l)) (sym c.deref.ensures.value) c.in_ok-kept.ensures in
+    let t = passing ends c.args.relation.now in
+    let ok = passing_ok c.args.relation.now c.letters-letters.ensures.machine ends are in
     let made = made_relates t ok c.letters-letters.result c.start-start.result c.in_ok-finals.finals.items c.in_ok-states.states.items c.letters-letters.ensures.letters c.start-start.ensures.start c.in_ok-finals.ensures c.in_ok-states.ensures in
     λ read u v.
-    let passed = passing_relates c.args.relation.now c.letters-letters.ensures.machine lists are read u v in
+    let passed = passing_relates c.args.relation.now c.letters-letters.ensures.machine ends are read u v in
     (λ relates. passed.0 ((made read u v).0 relates), λ relates. (made read u v).1 (passed.1 relates))
