@@ -8,7 +8,7 @@ ghost use Rattle.rela_graph.specs.Topology.{symbol_at, JoinsNodes};
 ghost use Rattle.rela_graph.specs.Lettering.{AreLetters, by_letter, only_if, link_move};
 
 use crate::graph::Graph;
-use crate::node::{Link, symbol_at};
+use crate::node::Link;
 use rela_labels::{LabelSet, Partition};
 use rela_names::{Alphabet, Level};
 use rela_nfa::Edge;
@@ -51,7 +51,7 @@ impl Letters {
         let nodes = graph
             .nodes()
             .iter()
-            .map(|node| blocks.block_of(symbol_at(node, level)))
+            .map(|node| blocks.block_of(node.symbol_at(level)))
             .collect(alloc)?;
         Ok(Letters {
             count: blocks.blocks(),

@@ -16,5 +16,5 @@ mod outline;
 mod reach;
 
 pub use graph::{Graph, MAX_EDGES, MAX_NODES};
-pub use node::{Link, Node};
+pub use node::{Link, Node, push_locations};
 pub use outline::LevelGraph;

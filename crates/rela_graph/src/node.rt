@@ -1,8 +1,9 @@
 //! Nodes and edges of graphs.
-ghost use Rattle.std.specs.Prelude.{◌≡◌};
+ghost use Rattle.std.specs.Prelude.{◌≡◌, ◌++◌, OnOk, map};
 ghost use Rattle.rela_graph.specs.Topology.{symbol_at};
 
 use rela_names::{Level, Symbol};
+use std::alloc::AllocError;
 
 /// What forwards traffic at one node of a graph.
 #[derive(Clone, Copy, PartialEq, Eq, Debug)]
@@ -24,13 +25,31 @@ pub struct Link {
     pub b: u32,
 }
 
-/// The symbol of the node's location at a level.
-pub(crate) fn symbol_at(node: &Node, level: Level) -> Symbol
-    ensures { result ≡ symbol_at level node.now }
-{
-    match level {
-        Level::Interface => node.interface,
-        Level::Device => node.device,
-        Level::Group => node.group,
+impl Node {
+    /// The symbol of the node's location at a level.
+    pub fn symbol_at(&self, level: Level) -> Symbol
+        ensures { result ≡ symbol_at level self.now }
+    {
+        match level {
+            Level::Interface => self.interface,
+            Level::Device => self.device,
+            Level::Group => self.group,
+        }
     }
+}
+
+/// Appends the symbol of each node's location at a level. Time: linear in the nodes. The only error
+/// is want of memory.
+pub fn push_locations(
+    locations: &mut Vec<Symbol>,
+    nodes: &[Node],
+    level: Level,
+) -> Result<(), AllocError>
+    ensures { OnOk result (locations.new.items ≡ locations.old.items
+        ++ map (symbol_at level) nodes.now) }
+{
+    for node in nodes {
+        locations.push(node.symbol_at(level))?;
+    }
+    Ok(())
 }

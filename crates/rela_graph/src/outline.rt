@@ -7,7 +7,7 @@ ghost use Rattle.rela_graph.specs.Paths.{Arrives, Paths, Undelivered, locations}
 ghost use Rattle.rela_graph.specs.Topology.{symbol_at};
 
 use crate::graph::Graph;
-use crate::node::{Node, symbol_at};
+use crate::node::Node;
 use rela_names::Level;
 use std::hash::{Hash, Hasher};
 use std::marker::Model;
@@ -120,7 +120,7 @@ fn same_places(nodes: &[Node], level: Level, others: &[Node], other_level: Level
         return false;
     }
     for n in 0..nodes.len() {
-        if symbol_at(&nodes[n], level) != symbol_at(&others[n], other_level) {
+        if nodes[n].symbol_at(level) != others[n].symbol_at(other_level) {
             return false;
         }
     }
@@ -134,6 +134,6 @@ fn feed_places<H: Hasher>(nodes: &[Node], level: Level, state: &mut H)
 {
     state.write_usize(nodes.len());
     for node in nodes {
-        state.write_u32(symbol_at(node, level));
+        state.write_u32(node.symbol_at(level));
     }
 }

@@ -148,17 +148,6 @@ fn graph(alloc: Global, drawing: &Drawing<'_>) -> Result<Graph, AllocError> {
     Graph::new(alloc, nodes, &edges, &[0], &[drawing.delivered], &[])
 }
 
-/// The node's location at a level.
-fn symbol_at(node: &Node, level: Level) -> Symbol
-    ensures { result ≡ symbol_at level node.now }
-{
-    match level {
-        Level::Interface => node.interface,
-        Level::Device => node.device,
-        Level::Group => node.group,
-    }
-}
-
 /// Whether the alphabet has each node's symbol.
 fn is_placed(graph: &Graph, level: Level, alphabet: &Alphabet) -> bool
     ensures { OnTrue result (All (λ node. symbol_at level node < length alphabet.now)
@@ -168,7 +157,7 @@ fn is_placed(graph: &Graph, level: Level, alphabet: &Alphabet) -> bool
     graph
         .nodes()
         .iter()
-        .all(|node| symbol_at(node, level) < locations)
+        .all(|node| node.symbol_at(level) < locations)
 }
 
 /// Whether the automaton accepts the word, where it was made, and `None` where it wasn't or there

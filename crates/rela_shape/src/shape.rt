@@ -1,13 +1,12 @@
 //! What a flow is at a level but for the names of its locations.
 
 ghost use Rattle.std.specs.Prelude.{◌≡◌, ◌<◌, ◌^◌, ◌++◌, IfOk, OnOk, All, length, map};
-ghost use Rattle.rela_graph.specs.Topology.{symbol_at};
 ghost use Rattle.rela_labels.specs.Partition.{block_of};
 ghost use Rattle.rela_shape.specs.Shape.{AreNumbered, IsShape, places_of};
 
 use crate::wiring::wiring_of;
 use indexmap::IndexSet;
-use rela_graph::Node;
+use rela_graph::push_locations;
 use rela_labels::Partition;
 use rela_names::{Level, Symbol};
 use rela_snapshot::FlowPair;
@@ -68,30 +67,9 @@ fn places_of(alloc: Global, pair: &FlowPair, level: Level) -> Result<Vec<Symbol>
     let before = pair.before.nodes();
     let after = pair.after.nodes();
     let mut places = Vec::with_capacity(alloc, before.len() + after.len())?;
-    push_places(&mut places, before, level)?;
-    push_places(&mut places, after, level)?;
+    push_locations(&mut places, before, level)?;
+    push_locations(&mut places, after, level)?;
     Ok(places)
-}
-
-/// Appends the location of each node.
-fn push_places(places: &mut Vec<Symbol>, nodes: &[Node], level: Level) -> Result<(), AllocError>
-    ensures { OnOk result (places.new.items ≡ places.old.items ++ map (symbol_at level) nodes.now) }
-{
-    for node in nodes {
-        places.push(place_of(node, level))?;
-    }
-    Ok(())
-}
-
-/// The node's location at the level.
-fn place_of(node: &Node, level: Level) -> Symbol
-    ensures { result ≡ symbol_at level node.now }
-{
-    match level {
-        Level::Interface => node.interface,
-        Level::Device => node.device,
-        Level::Group => node.group,
-    }
 }
 
 /// One number for each place: two have one number just where they are one location, and new
