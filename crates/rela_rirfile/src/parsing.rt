@@ -3,7 +3,6 @@
 ghost use Rattle.std.specs.Prelude.{◌≡◌, ◌≢◌, ◌⊎◌, ◌<◌, ◌≤◌, ℕ, Ok, Err, [], length, IfOk, IfErr, OnOk, MatchResult};
 ghost use Rattle.std.specs.List.{All};
 ghost use Rattle.rela_lex.specs.declared.error.SpecError.TheVariants.{Syntax, TooDeep, Memory};
-ghost use Rattle.rela_spec.specs.ReadFile.{read_level_line, read_level_word};
 ghost use Rattle.rela_rirfile.specs.declared.written.AssertFile.{AssertFile};
 ghost use Rattle.rela_rirfile.specs.Grammar.{Spells, IsSyntax, IsTooDeep, IsFault};
 ghost use Rattle.rela_rirfile.specs.Depth.{IsLow, deepest};
@@ -11,16 +10,17 @@ ghost use Rattle.rela_rirfile.specs.ReadFile.{read_assert, read_asserts, read_fi
 ghost use Rattle.rela_rirfile.specs.ReadTrees.{read_tree};
 
 mod asserts;
-mod cursor;
 mod members;
+mod names;
 mod pairs;
 mod sets;
 
 use crate::written::{Assert, AssertExpr, AssertFile};
 use asserts::tree;
-use cursor::Cursor;
+use names::name;
 use rela_lex::{SpecError, Token};
-use rela_names::{Level, List};
+use rela_names::List;
+use rela_spec::{Cursor, level_line};
 use std::alloc::Global;
 
 /// The greatest number of brackets that may be open at once.
@@ -71,40 +71,6 @@ fn file(alloc: Global, tokens: &[Token], end: u32) -> Result<AssertFile, SpecErr
     })
 }
 
-/// The level that the text begins with, or that of interfaces where it begins with none.
-#[tactic(auto, unfolding(rela_spec::specs::ReadFile::read_level_line))]
-fn level_line(cursor: &mut Cursor) -> Result<Level, SpecError>
-    ensures end { cursor.new.end ≡ cursor.old.end }
-    ensures read { IfOk result (λ level. read_level_line cursor.old.end cursor.old.rest.now
-        ≡ Ok (level, cursor.new.rest.now)) }
-    ensures fault { IfErr result (λ e. read_level_line cursor.old.end cursor.old.rest.now ≡ Err e) }
-{
-    if !cursor.take_word(b"level") {
-        return Ok(Level::Interface);
-    }
-    let level = level_word(cursor)?;
-    cursor.mark(b';')?;
-    Ok(level)
-}
-
-/// The level whose word has to come next.
-#[tactic(auto, unfolding(rela_spec::specs::ReadFile::read_level_word))]
-fn level_word(cursor: &mut Cursor) -> Result<Level, SpecError>
-    ensures end { cursor.new.end ≡ cursor.old.end }
-    ensures read { IfOk result (λ level. read_level_word cursor.old.end cursor.old.rest.now
-        ≡ Ok (level, cursor.new.rest.now)) }
-    ensures fault { IfErr result (λ e. read_level_word cursor.old.end cursor.old.rest.now ≡ Err e) }
-{
-    if cursor.take_word(b"interface") {
-        return Ok(Level::Interface);
-    }
-    if cursor.take_word(b"device") {
-        return Ok(Level::Device);
-    }
-    cursor.word(b"group")?;
-    Ok(Level::Group)
-}
-
 /// The assertions that are left, up to the end of the text.
 #[tactic(auto, unfolding(crate::specs::ReadFile::read_asserts))]
 fn all_asserts(alloc: Global, cursor: &mut Cursor) -> Result<Vec<Assert>, SpecError>
@@ -136,7 +102,7 @@ fn assertion(alloc: Global, cursor: &mut Cursor) -> Result<Assert, SpecError>
 {
     cursor.word(b"assert")?;
     let at = cursor.here();
-    let name = cursor.name(alloc)?;
+    let name = name(alloc, cursor)?;
     let name = cursor.closed(name, b'=')?;
     let both = tree_behind(alloc, cursor, name)?;
     let (name, tree) = cursor.closed(both, b';')?;

@@ -7,6 +7,6 @@ mod tree;
 mod words;
 
 pub use laws::grammar_is_unambiguous;
-pub use parsing::parse;
+pub use parsing::{Cursor, is_at_picking, level_line, parse, picked_by};
 pub use tree::{Item, Member, Modifier, PathExpr, SpecExpr, SpecFile};
 pub use words::is_keyword;

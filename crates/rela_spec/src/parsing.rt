@@ -1,10 +1,10 @@
 //! The tree that a list of tokens spells.
 
-ghost use Rattle.std.specs.Prelude.{◌≡◌, ◌≢◌, ◌⊎◌, ℕ, Ok, Err, [], IfOk, IfErr, OnOk, MatchResult};
+ghost use Rattle.std.specs.Prelude.{◌≡◌, ◌≢◌, ◌⊎◌, ℕ, Ok, Err, Some, None, [], IfOk, IfErr, OnOk, MatchResult};
 ghost use Rattle.std.specs.List.{All};
 ghost use Rattle.rela_lex.specs.declared.error.SpecError.TheVariants.{Syntax, TooDeep, BadNumber, Memory};
 ghost use Rattle.rela_spec.specs.declared.tree.SpecFile.{SpecFile};
-ghost use Rattle.rela_spec.specs.Grammar.{Spells, IsSyntax, IsTooDeep, IsBadNumber, IsFault};
+ghost use Rattle.rela_spec.specs.Grammar.{bad_number, Spells, IsSyntax, IsTooDeep, IsBadNumber, IsFault};
 ghost use Rattle.rela_spec.specs.Depth.{IsLow};
 ghost use Rattle.rela_spec.specs.Full.{IsFull};
 ghost use Rattle.rela_spec.specs.ReadFile.{read_items, read_file};
@@ -19,8 +19,10 @@ mod predicates;
 mod specs;
 
 use crate::tree::{Item, SpecFile};
-use cursor::Cursor;
-use items::{item, level_line};
+pub use cursor::Cursor;
+use items::item;
+pub use items::level_line;
+pub use members::{is_at_picking, picked_by};
 use numbers::bad_number;
 use rela_lex::{SpecError, Token};
 use rela_names::List;
@@ -59,12 +61,20 @@ pub fn parse(alloc: Global, tokens: &[Token], end: u32) -> Result<SpecFile, Spec
     ensures low { IfOk result (λ file. All IsLow file.items) }
     ensures full { IfOk result (λ file. IsFull file) }
 {
-    match file(alloc, tokens, end) {
-        Err(refused) => Err(refused),
-        Ok(file) => match bad_number(tokens) {
-            Some(at) => Err(SpecError::BadNumber { at }),
-            None => Ok(file),
-        },
+    let file = file(alloc, tokens, end)?;
+    refuse_bad_number(tokens)?;
+    Ok(file)
+}
+
+/// `BadNumber` at the first bad number, if there is one. It asks for no memory.
+fn refuse_bad_number(tokens: &[Token]) -> Result<(), SpecError>
+    ensures none { OnOk result (bad_number tokens.now ≡ None) }
+    ensures bad { IfErr result (λ e. (at : ℕ) × (bad_number tokens.now ≡ Some at)
+        × (e ≡ BadNumber at)) }
+{
+    match bad_number(tokens) {
+        Some(at) => Err(SpecError::BadNumber { at }),
+        None => Ok(()),
     }
 }
 

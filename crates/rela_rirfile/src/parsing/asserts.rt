@@ -5,12 +5,12 @@ ghost use Rattle.rela_lex.specs.declared.error.SpecError.TheVariants.{Memory};
 ghost use Rattle.rela_rirfile.specs.Depth.{deepest, set_depth};
 ghost use Rattle.rela_rirfile.specs.ReadTrees.{read_tree, read_one_tree, read_two_trees, read_two_sets};
 
-use crate::parsing::cursor::Cursor;
 use crate::parsing::pairs::{boxed, paired};
 use crate::parsing::sets::two_sets;
 use crate::written::AssertExpr;
 use rela_lex::SpecError;
 use rela_names::Boxed;
+use rela_spec::Cursor;
 use std::alloc::Global;
 
 /// What is asserted, which has to come next, where `room` more brackets may be opened.
@@ -57,7 +57,7 @@ fn one_tree(alloc: Global, cursor: &mut Cursor, room: usize) -> Result<Boxed<Ass
     ensures less { OnOk result (length cursor.new.rest.now < length cursor.old.rest.now) }
     ensures low { IfOk result (λ part. deepest part ≤ room) }
 {
-    let inner = cursor.open(room)?;
+    let inner = cursor.open(b'(', room)?;
     let part = tree(alloc, cursor, inner)?;
     let part = cursor.closed(part, b')')?;
     Ok(Boxed::new(alloc, part)?)
@@ -79,7 +79,7 @@ fn two_trees(
     ensures less { OnOk result (length cursor.new.rest.now < length cursor.old.rest.now) }
     ensures low { IfOk result (λ p. (deepest p.0 ≤ room) × (deepest p.1 ≤ room)) }
 {
-    let inner = cursor.open(room)?;
+    let inner = cursor.open(b'(', room)?;
     let first = tree(alloc, cursor, inner)?;
     let first = cursor.closed(first, b',')?;
     let second = tree(alloc, cursor, inner);

@@ -2,14 +2,11 @@
 
 ghost use Rattle.std.specs.Prelude.{◌≡◌, ◌≢◌, ◌<◌, ◌≤◌, Ok, Err, length, IfOk, IfErr, OnOk};
 ghost use Rattle.rela_lex.specs.declared.error.SpecError.TheVariants.{Memory};
-ghost use Rattle.rela_spec.specs.Readings.{next_is};
-ghost use Rattle.rela_spec.specs.ReadPaths.{is_picking, read_picked_by};
 ghost use Rattle.rela_rirfile.specs.ReadWords.{read_member, read_picked};
 
-use crate::parsing::cursor::Cursor;
+use crate::parsing::names::name;
 use rela_lex::SpecError;
-use rela_locations::By;
-use rela_spec::Member;
+use rela_spec::{Cursor, Member, is_at_picking, picked_by};
 use std::alloc::Global;
 
 /// The member that has to come next, where `room` more brackets may be opened.
@@ -32,18 +29,8 @@ pub(crate) fn member(alloc: Global, cursor: &mut Cursor, room: usize) -> Result<
         return picked(alloc, cursor, room);
     }
     let at = cursor.here();
-    let name = cursor.name(alloc)?;
+    let name = name(alloc, cursor)?;
     Ok(Member::Here { name, at })
-}
-
-/// Whether a word comes next that says by what locations are picked.
-fn is_at_picking(cursor: &Cursor) -> bool
-    ensures { result ≡ next_is is_picking cursor.now.rest.now }
-{
-    cursor.is_at_word(b"interface")
-        || cursor.is_at_word(b"device")
-        || cursor.is_at_word(b"group")
-        || cursor.is_at_word(b"tag")
 }
 
 /// The member that picks locations by a word and a name in brackets, which has to come next, where
@@ -58,31 +45,9 @@ fn picked(alloc: Global, cursor: &mut Cursor, room: usize) -> Result<Member, Spe
     ensures less { OnOk result (length cursor.new.rest.now < length cursor.old.rest.now) }
 {
     let by = picked_by(cursor)?;
-    cursor.open(room)?;
+    cursor.open(b'(', room)?;
     let at = cursor.here();
-    let name = cursor.name(alloc)?;
+    let name = name(alloc, cursor)?;
     cursor.mark(b')')?;
     Ok(Member::Within { by, name, at })
-}
-
-/// By what locations are picked, of which the word has to come next.
-#[tactic(auto, unfolding(rela_spec::specs::ReadPaths::read_picked_by))]
-fn picked_by(cursor: &mut Cursor) -> Result<By, SpecError>
-    ensures end { cursor.new.end ≡ cursor.old.end }
-    ensures read { IfOk result (λ by. read_picked_by cursor.old.end cursor.old.rest.now
-        ≡ Ok (by, cursor.new.rest.now)) }
-    ensures fault { IfErr result (λ e. read_picked_by cursor.old.end cursor.old.rest.now ≡ Err e) }
-    ensures less { OnOk result (length cursor.new.rest.now < length cursor.old.rest.now) }
-{
-    if cursor.take_word(b"interface") {
-        return Ok(By::Interface);
-    }
-    if cursor.take_word(b"device") {
-        return Ok(By::Device);
-    }
-    if cursor.take_word(b"group") {
-        return Ok(By::Group);
-    }
-    cursor.word(b"tag")?;
-    Ok(By::Tag)
 }

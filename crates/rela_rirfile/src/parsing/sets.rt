@@ -5,12 +5,12 @@ ghost use Rattle.rela_lex.specs.declared.error.SpecError.TheVariants.{Memory};
 ghost use Rattle.rela_rirfile.specs.Depth.{set_depth, rel_depth};
 ghost use Rattle.rela_rirfile.specs.ReadTrees.{read_plain, read_set, read_rel, read_one_set, read_two_sets, read_set_and_rel, read_one_rel, read_two_rels};
 
-use crate::parsing::cursor::Cursor;
 use crate::parsing::members::member;
 use crate::parsing::pairs::{boxed, paired};
 use crate::written::{PathExpr, RelExpr};
 use rela_lex::SpecError;
 use rela_names::Boxed;
+use rela_spec::Cursor;
 use std::alloc::Global;
 
 /// The set that has to come next, where `room` more brackets may be opened.
@@ -126,7 +126,7 @@ fn one_set(alloc: Global, cursor: &mut Cursor, room: usize) -> Result<Boxed<Path
     ensures less { OnOk result (length cursor.new.rest.now < length cursor.old.rest.now) }
     ensures low { IfOk result (λ part. set_depth part ≤ room) }
 {
-    let inner = cursor.open(room)?;
+    let inner = cursor.open(b'(', room)?;
     let part = set(alloc, cursor, inner)?;
     let part = cursor.closed(part, b')')?;
     Ok(Boxed::new(alloc, part)?)
@@ -148,7 +148,7 @@ pub(crate) fn two_sets(
     ensures less { OnOk result (length cursor.new.rest.now < length cursor.old.rest.now) }
     ensures low { IfOk result (λ p. (set_depth p.0 ≤ room) × (set_depth p.1 ≤ room)) }
 {
-    let inner = cursor.open(room)?;
+    let inner = cursor.open(b'(', room)?;
     let first = set(alloc, cursor, inner)?;
     let first = cursor.closed(first, b',')?;
     let second = set(alloc, cursor, inner);
@@ -173,7 +173,7 @@ fn set_and_rel(
     ensures less { OnOk result (length cursor.new.rest.now < length cursor.old.rest.now) }
     ensures low { IfOk result (λ p. (set_depth p.0 ≤ room) × (rel_depth p.1 ≤ room)) }
 {
-    let inner = cursor.open(room)?;
+    let inner = cursor.open(b'(', room)?;
     let first = set(alloc, cursor, inner)?;
     let first = cursor.closed(first, b',')?;
     let second = rel(alloc, cursor, inner);
@@ -194,7 +194,7 @@ fn one_rel(alloc: Global, cursor: &mut Cursor, room: usize) -> Result<Boxed<RelE
     ensures less { OnOk result (length cursor.new.rest.now < length cursor.old.rest.now) }
     ensures low { IfOk result (λ part. rel_depth part ≤ room) }
 {
-    let inner = cursor.open(room)?;
+    let inner = cursor.open(b'(', room)?;
     let part = rel(alloc, cursor, inner)?;
     let part = cursor.closed(part, b')')?;
     Ok(Boxed::new(alloc, part)?)
@@ -216,7 +216,7 @@ fn two_rels(
     ensures less { OnOk result (length cursor.new.rest.now < length cursor.old.rest.now) }
     ensures low { IfOk result (λ p. (rel_depth p.0 ≤ room) × (rel_depth p.1 ≤ room)) }
 {
-    let inner = cursor.open(room)?;
+    let inner = cursor.open(b'(', room)?;
     let first = rel(alloc, cursor, inner)?;
     let first = cursor.closed(first, b',')?;
     let second = rel(alloc, cursor, inner);

@@ -1,7 +1,7 @@
 //! The tokens that are left to read. What has to come next and doesn't is `Syntax`, at the token
 //! that comes instead or at the end of the text.
 
-ghost use Rattle.std.specs.Prelude.{◌≡◌, ◌≢◌, ◌+◌, ◌-◌, ◌<◌, ◌≤◌, true, false, Ok, Err, ℕ, length, List, IfOk, IfErr, OnOk};
+ghost use Rattle.std.specs.Prelude.{◌≡◌, ◌≢◌, ◌+◌, ◌-◌, ◌<◌, ◌≤◌, true, false, Ok, Err, ℕ, length, List, IfOk, IfErr, OnOk, IsOk, IsErrOf};
 ghost use Rattle.std.specs.Option.{option_map, option_copied};
 ghost use Rattle.rela_lex.specs.declared.error.SpecError.TheVariants.{Memory, Syntax};
 ghost use Rattle.rela_spec.specs.Grammar.{is_mark_of, offset};
@@ -15,18 +15,19 @@ use rela_lex::{SpecError, Token, TokenKind};
 use rela_names::Name;
 use std::alloc::Global;
 
-/// The tokens of a text that are left to read.
+/// The tokens of a text that are left to read. Each operation takes constant time, and the copy of a
+/// name that of its bytes.
 #[derive(Drop)]
-pub(crate) struct Cursor<'a> {
+pub struct Cursor<'a> {
     /// The tokens that are left, the next one first.
-    rest: &'a [Token],
+    pub rest: &'a [Token],
     /// The number of bytes in the text.
-    end: u32,
+    pub end: u32,
 }
 
 impl<'a> Cursor<'a> {
     /// A cursor before the first of these tokens, of a text of `end` bytes.
-    pub(crate) fn new(tokens: &'a [Token], end: u32) -> Cursor<'a>
+    pub fn new(tokens: &'a [Token], end: u32) -> Cursor<'a>
         ensures rest { result.rest.now ≡ tokens.now }
         ensures end { result.end ≡ end }
     {
@@ -34,7 +35,7 @@ impl<'a> Cursor<'a> {
     }
 
     /// The offset of the next token in bytes, or the length of the text where none is left.
-    pub(crate) fn here(&self) -> u32
+    pub fn here(&self) -> u32
         ensures { result ≡ offset self.now.end self.now.rest.now }
     {
         match self.rest.split_first() {
@@ -51,7 +52,7 @@ impl<'a> Cursor<'a> {
     }
 
     /// Whether a token is left.
-    pub(crate) fn has_next(&self) -> bool
+    pub fn has_next(&self) -> bool
         ensures { result ≡ next_is (λ _. true) self.now.rest.now }
     {
         self.rest.split_first().is_some()
@@ -68,7 +69,7 @@ impl<'a> Cursor<'a> {
     }
 
     /// Whether this word comes next, without quotes.
-    pub(crate) fn is_at_word(&self, word: &[u8]) -> bool
+    pub fn is_at_word(&self, word: &[u8]) -> bool
         ensures { result ≡ next_is (is_word_of word.now) self.now.rest.now }
     {
         match self.rest.split_first() {
@@ -123,7 +124,7 @@ impl<'a> Cursor<'a> {
 
     /// Goes past the word if it comes next, and says whether it did.
     #[tactic(auto, unfolding(crate::specs::ReadWords::read_word))]
-    pub(crate) fn take_word(&mut self, word: &[u8]) -> bool
+    pub fn take_word(&mut self, word: &[u8]) -> bool
         ensures end { self.new.end ≡ self.old.end }
         ensures next { result ≡ next_is (is_word_of word.now) self.old.rest.now }
         ensures taken { result ≡ true → read_word self.old.end word.now self.old.rest.now
@@ -146,7 +147,7 @@ impl<'a> Cursor<'a> {
     }
 
     /// Goes past the mark, which has to come next.
-    pub(crate) fn mark(&mut self, mark: u8) -> Result<(), SpecError>
+    pub fn mark(&mut self, mark: u8) -> Result<(), SpecError>
         ensures end { self.new.end ≡ self.old.end }
         ensures read { IfOk result (λ _. read_mark self.old.end mark self.old.rest.now
             ≡ Ok (tt, self.new.rest.now)) }
@@ -164,7 +165,7 @@ impl<'a> Cursor<'a> {
     /// Goes past the mark, which has to come next, and gives the value back. Where another token
     /// comes, the value is dropped here, since a caller that drops a tree has to be proved for each
     /// of its forms.
-    pub(crate) fn closed<T: Drop>(&mut self, value: T, mark: u8) -> Result<T, SpecError>
+    pub fn closed<T: Drop>(&mut self, value: T, mark: u8) -> Result<T, SpecError>
         ensures end { self.new.end ≡ self.old.end }
         ensures same { IfOk result (λ v. v ≡ value) }
         ensures read { IfOk result (λ _. read_mark self.old.end mark self.old.rest.now
@@ -177,7 +178,7 @@ impl<'a> Cursor<'a> {
     }
 
     /// Goes past the word, which has to come next.
-    pub(crate) fn word(&mut self, word: &[u8]) -> Result<(), SpecError>
+    pub fn word(&mut self, word: &[u8]) -> Result<(), SpecError>
         ensures end { self.new.end ≡ self.old.end }
         ensures read { IfOk result (λ _. read_word self.old.end word.now self.old.rest.now
             ≡ Ok (tt, self.new.rest.now)) }
@@ -200,7 +201,7 @@ impl<'a> Cursor<'a> {
     ///
     /// `TooDeep` at the bracket where `room` is 0; `Syntax` where no such bracket comes next.
     #[tactic(auto, unfolding(crate::specs::Readings::read_open))]
-    pub(crate) fn open(&mut self, bracket: u8, room: usize) -> Result<usize, SpecError>
+    pub fn open(&mut self, bracket: u8, room: usize) -> Result<usize, SpecError>
         ensures end { self.new.end ≡ self.old.end }
         ensures read { IfOk result (λ _. read_open self.old.end bracket room self.old.rest.now
             ≡ Ok (tt, self.new.rest.now)) }
@@ -230,6 +231,7 @@ impl<'a> Cursor<'a> {
             ≡ Ok (named (offset self.old.end self.old.rest.now) name, self.new.rest.now)) }
         ensures fault { IfErr result (λ e. e ≢ Memory →
             read_name self.old.end self.old.rest.now ≡ Err e) }
+        ensures memory { IsErrOf result Memory → IsOk (read_name self.old.end self.old.rest.now) }
         ensures less { OnOk result (length self.new.rest.now < length self.old.rest.now) }
     {
         match self.rest.split_first() {
@@ -252,6 +254,8 @@ impl<'a> Cursor<'a> {
             ≡ Ok (named (offset self.old.end self.old.rest.now) name, self.new.rest.now)) }
         ensures fault { IfErr result (λ e. e ≢ Memory →
             read_reference self.old.end self.old.rest.now ≡ Err e) }
+        ensures memory { IsErrOf result Memory →
+            IsOk (read_reference self.old.end self.old.rest.now) }
         ensures less { OnOk result (length self.new.rest.now < length self.old.rest.now) }
     {
         match self.rest.split_first() {

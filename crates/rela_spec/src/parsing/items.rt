@@ -18,7 +18,7 @@ use std::alloc::Global;
 
 /// The level that the text begins with, or that of interfaces where it begins with none.
 #[tactic(auto, unfolding(crate::specs::ReadFile::read_level_line))]
-pub(crate) fn level_line(cursor: &mut Cursor) -> Result<Level, SpecError>
+pub fn level_line(cursor: &mut Cursor) -> Result<Level, SpecError>
     ensures end { cursor.new.end ≡ cursor.old.end }
     ensures read { IfOk result (λ level. read_level_line cursor.old.end cursor.old.rest.now
         ≡ Ok (level, cursor.new.rest.now)) }

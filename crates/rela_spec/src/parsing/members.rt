@@ -24,7 +24,7 @@ pub(crate) fn is_at_member(cursor: &Cursor) -> bool
 }
 
 /// Whether a word comes next that says by what locations are picked.
-fn is_at_picking(cursor: &Cursor) -> bool
+pub fn is_at_picking(cursor: &Cursor) -> bool
     ensures { result ≡ next_is is_picking cursor.now.rest.now }
 {
     cursor.is_at_word(b"interface")
@@ -35,7 +35,7 @@ fn is_at_picking(cursor: &Cursor) -> bool
 
 /// By what locations are picked, of which the word has to come next.
 #[tactic(auto, unfolding(crate::specs::ReadPaths::read_picked_by))]
-fn picked_by(cursor: &mut Cursor) -> Result<By, SpecError>
+pub fn picked_by(cursor: &mut Cursor) -> Result<By, SpecError>
     ensures end { cursor.new.end ≡ cursor.old.end }
     ensures read { IfOk result (λ by. read_picked_by cursor.old.end cursor.old.rest.now
         ≡ Ok (by, cursor.new.rest.now)) }
