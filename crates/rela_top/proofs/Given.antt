@@ -8,7 +8,7 @@ use Rattle.rela_top.specs.Operands.{given_to}
 use Rattle.rela_top.specs.Outcome.{Outcome, SameAnswer, SameOutcome, GivenBy, IsSameAnswer, Completes}
 use Rattle.rela_inputs.specs.Reading.{is_too_long, max_file_bytes}
 use Rattle.rela_inputs.specs.Refusal.{refusal_line}
-use Rattle.rela_words.specs.Words.{Command, Ask, AskJust}
+use Rattle.rela_words.specs.Words.{Command, Ask, AskJust, BeginByName}
 use Rattle.rela_inputs.specs.declared.reading.Halt.{Halt}
 use Rattle.rela_inputs.specs.declared.reading.Halt.TheVariants.{Refused, ReadFault}
 use Rattle.rela_inputs.specs.declared.refusal.Refusal.{Refusal}
@@ -78,3 +78,7 @@ pub completes : (asked command : Command) (outcome : Result Answer Refusal) (ans
     → IsSameAnswer asked outcome answer → Delivers old new answer status → Completes command outcome old new status
 completes asked command outcome answer old new status same is delivers =
     inr (answer, subst (λ (x : Command). IsSameAnswer x outcome answer) same is, delivers)
+
+-- words that ask for something begin by a command's name
+pub begins : (words : List (List ℕ)) (command : Command) → Ask words command → BeginByName words
+begins words command asked = record { command = command; rest = asked.rest; are_words = asked.are_words }

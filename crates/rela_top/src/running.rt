@@ -2,7 +2,7 @@
 
 ghost use Rattle.std.specs.Prelude.{◌≡◌, ◌≢◌, ◌<◌, ◌⊎◌, Err, IsTrue, IfOk, OnOk, [], is_some, map, string_bytes};
 ghost use Rattle.rela_io.specs.Count.{Rose};
-ghost use Rattle.rela_words.specs.Words.{AskNothing, HasNumbers};
+ghost use Rattle.rela_words.specs.Words.{AskNothing, BeginByName, HasNumbers};
 ghost use Rattle.rela_top.specs.Operands.{AskForNoFile, HoldsAsked, HoldsFiles, given_to, operands_of};
 ghost use Rattle.rela_inputs.specs.Answer.{answer_by, IsOutcomeStatus};
 ghost use Rattle.rela_inputs.specs.Given.{IsGiven, seen};
@@ -38,6 +38,7 @@ pub fn run<F: Files, K: Sink>(alloc: Global, words: &[String], files: &mut F, ou
         (result ≡ BAD_WORDS) ⊎ (result ≡ WRITE_FAULT) }
     ensures unread_words_open_nothing { AskNothing (map string_bytes words.now) →
         files.new ≡ files.old }
+    ensures memory { result ≡ NO_MEMORY → BeginByName (map string_bytes words.now) }
     ensures no_file_asked_opens_nothing { AskForNoFile (map string_bytes words.now) →
         files.new ≡ files.old }
 

@@ -1,9 +1,11 @@
 -- What words ask for, by their first one and the parts of the others.
-use Rattle.std.proofs.Common.{◌≡◌, ◌≢◌, List, [], ◌∷◌, Result, refl, sym, ap, subst, ◌∙◌}
+use Rattle.std.proofs.Common.{◌≡◌, ◌≢◌, false, List, [], ◌∷◌, Result, refl, sym, ap, subst, ◌∙◌}
 use Rattle.std.specs.Prelude.{IfErr, IfOk, codes}
 use Rattle.std.proofs.lemmas.Result.{IfErr-weaker, IfOk-weaker}
-use Rattle.rela_words.specs.Words.{Ask, AskJust, AskNothing, Command, Check, Fmt, Fib, Zone, Rir, Certify, Audit, Demo, Fit, Give, HasNumbers, Parts, row_of}
-use Rattle.rela_words.specs.Commands.{command_of}
+use Rattle.rela_words.specs.Words.{Ask, AskJust, AskNothing, BeginByName, Command, Check, Fmt, Fib, Zone, Rir, Certify, Audit, Demo, Fit, Give, HasNumbers, Parts, row_of}
+use Rattle.rela_words.specs.Commands.{command_of, name_of}
+use Rattle.rela_words.specs.declared.verb.Verb.{Verb}
+use Rattle.rela_words.specs.declared.verb.Verb.TheVariants as verbs
 use Rattle.rela_words.specs.Parts.{FitJust, FitNothing, GiveJust, GiveNothing}
 use Rattle.rela_words.specs.declared.command.Command as declared
 use Rattle.rela_words.specs.declared.errors.WordsError.{WordsError}
@@ -78,3 +80,43 @@ unnamed name parts check fmt fib zone rir certify audit demo (Rir before after l
 unnamed name parts check fmt fib zone rir certify audit demo (Certify before after locations spec states) e fit = certify (sym e)
 unnamed name parts check fmt fib zone rir certify audit demo (Audit before after locations spec certificate) e fit = audit (sym e)
 unnamed name parts check fmt fib zone rir certify audit demo (Demo layers) e fit = demo (sym e)
+
+-- the text of the first word is the name of the verb that was found
+pub named_by : {name text : Word} {found verb : Verb} → text ≡ name → text ≡ name_of found → found ≡ verb → name ≡ name_of verb
+named_by value named is = sym value ∙ named ∙ ap name_of is
+
+-- each name is that of a command
+a_command : (verb : Verb) → (command : Command) × ((row_of command).name ≡ name_of verb)
+a_command verbs.Check = (Check [] [] [] [] 0 false, refl)
+a_command verbs.Fmt = (Fmt [], refl)
+a_command verbs.Fib = (Fib [] [] [], refl)
+a_command verbs.Zone = (Zone [] [] [] 0, refl)
+a_command verbs.Rir = (Rir [] [] [] [] 0, refl)
+a_command verbs.Certify = (Certify [] [] [] [] 0, refl)
+a_command verbs.Audit = (Audit [] [] [] [] [], refl)
+a_command verbs.Demo = (Demo 0, refl)
+
+pub begin_by : (words : List Word) (name : Word) (rest : List Word) (verb : Verb) → words ≡ name ∷ rest → name ≡ name_of verb → BeginByName words
+begin_by words name rest verb are named =
+    let made = a_command verb in
+    record {
+      command = made.0;
+      rest = rest;
+      are_words = are ∙ ap (λ (w : Word). w ∷ rest) (named ∙ sym made.1);
+    }
+
+-- each command has a name
+a_verb : (command : Command) → (verb : Verb) × ((row_of command).name ≡ name_of verb)
+a_verb (Check before after locations spec states blame) = (verbs.Check, refl)
+a_verb (Fmt spec) = (verbs.Fmt, refl)
+a_verb (Fib tables other locations) = (verbs.Fib, refl)
+a_verb (Zone locations spec named states) = (verbs.Zone, refl)
+a_verb (Rir before after locations assertions states) = (verbs.Rir, refl)
+a_verb (Certify before after locations spec states) = (verbs.Certify, refl)
+a_verb (Audit before after locations spec certificate) = (verbs.Audit, refl)
+a_verb (Demo layers) = (verbs.Demo, refl)
+
+pub unnamed_asked : (words : List Word) (name : Word) (rest : List Word) → words ≡ name ∷ rest → ((verb : Verb) → name ≢ name_of verb) → AskNothing words
+unnamed_asked words name rest are other command asked =
+    let verb = a_verb command in
+    other verb.0 (head_is name (row_of command).name rest asked.rest (sym are ∙ asked.are_words) ∙ verb.1)

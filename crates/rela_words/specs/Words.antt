@@ -201,6 +201,12 @@ pub record Ask (words : List (List ℕ)) (command : Command) : Type 0 where
   pub gives : Give rest parts
   pub fits : Fit parts command
 
+-- the first word is a command's name
+pub record BeginByName (words : List (List ℕ)) : Type 0 where
+  pub command : Command
+  pub rest : List (List ℕ)
+  pub are_words : words ≡ (row_of command).name ∷ rest
+
 -- the words ask for this command and for no other
 abbrev pub AskJust : List (List ℕ) → Command → Type 0
 AskJust words asked = (command : Command) → Ask words command ↔ (command ≡ asked)

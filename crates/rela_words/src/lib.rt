@@ -7,6 +7,7 @@ mod errors;
 mod number;
 mod parts;
 mod reading;
+mod verb;
 
 pub use command::{
     Audit, Certify, Check, Command, DEFAULT_STATES, Demo, Fib, Fmt, MAX_LAYERS, MAX_STATES, Rir,

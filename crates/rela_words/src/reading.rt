@@ -1,7 +1,7 @@
 //! What the words of the command line ask for.
 
-ghost use Rattle.std.specs.Prelude.{◌≡◌, IfOk, IfErr, map, string_bytes};
-ghost use Rattle.rela_words.specs.Words.{AskJust, AskNothing, HasNumbers};
+ghost use Rattle.std.specs.Prelude.{◌≡◌, IfOk, IfErr, IsErrOf, map, string_bytes};
+ghost use Rattle.rela_words.specs.Words.{AskJust, AskNothing, BeginByName, HasNumbers};
 ghost use Rattle.rela_words.specs.Commands.{command_of};
 
 use crate::command::Command;
@@ -10,6 +10,7 @@ use crate::commands::{
 };
 use crate::errors::WordsError;
 use crate::parts::parse;
+use crate::verb::Verb;
 use std::alloc::Global;
 
 /// Reads the words of the command line: a command's name, and then what it takes. Time and space:
@@ -17,26 +18,32 @@ use std::alloc::Global;
 ///
 /// # Errors
 ///
-/// `Bad` where the words ask for nothing.
+/// - `Bad` where the words ask for nothing.
+/// - `Memory` where there isn't memory to read them, which is asked for only where the first word is
+///   a command's name.
 pub fn read_words(alloc: Global, words: &[String]) -> Result<Command, WordsError>
     ensures asked { IfOk result (λ c. AskJust (map string_bytes words.now) (command_of c)) }
     ensures bad { IfErr result (λ e. e ≡ WordsError.Bad
         → AskNothing (map string_bytes words.now)) }
+    ensures memory { IsErrOf result WordsError.Memory
+        → BeginByName (map string_bytes words.now) }
     ensures numbers { IfOk result (λ c. HasNumbers (command_of c)) }
 {
     let Some((name, rest)) = words.split_first() else {
         return Err(WordsError::Bad);
     };
+    let Some(verb) = Verb::named(name.as_str()) else {
+        return Err(WordsError::Bad);
+    };
     let parts = parse(alloc, rest)?;
-    match name.as_str() {
-        "check" => read_check(alloc, &parts),
-        "fmt" => read_fmt(alloc, &parts),
-        "fib" => read_fib(alloc, &parts),
-        "zone" => read_zone(alloc, &parts),
-        "rir" => read_rir(alloc, &parts),
-        "certify" => read_certify(alloc, &parts),
-        "audit" => read_audit(alloc, &parts),
-        "demo" => read_demo(&parts),
-        _ => Err(WordsError::Bad),
+    match verb {
+        Verb::Check => read_check(alloc, &parts),
+        Verb::Fmt => read_fmt(alloc, &parts),
+        Verb::Fib => read_fib(alloc, &parts),
+        Verb::Zone => read_zone(alloc, &parts),
+        Verb::Rir => read_rir(alloc, &parts),
+        Verb::Certify => read_certify(alloc, &parts),
+        Verb::Audit => read_audit(alloc, &parts),
+        Verb::Demo => read_demo(&parts),
     }
 }

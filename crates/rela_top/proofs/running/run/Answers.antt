@@ -5,7 +5,7 @@ use Rattle.rela_words.specs.Words.{Command}
 use Rattle.rela_inputs.specs.Answer.{answer_by}
 use Rattle.rela_top.specs.Operands.{operands_of}
 use Rattle.rela_top.specs.Outcome.{Outcome, bad_words}
-use Rattle.rela_top.proofs.Given.{asked_of, only_asked, completes}
+use Rattle.rela_top.proofs.Given.{asked_of, begins, only_asked, completes}
 use Rattle.rela_top.proofs.running.run.Goals as goal
 
 pub returns-in-Ok-answer-clause-unread_words : goal.returns-in-Ok-answer-clause-unread_words
@@ -62,3 +62,12 @@ pub returns-clause-no_file_asked_opens_nothing : goal.returns-clause-no_file_ask
 returns-clause-no_file_asked_opens_nothing g c = λ asked.
     c.in-Err-Memory-answer.ensures.opens_nothing
     (subst (λ (x : Command). operands_of x ≡ []) (sym (only_asked _ _ asked.0 c.in-Ok.ensures.asked asked.1)) asked.2)
+
+pub returns-in-Ok-answer-clause-memory : goal.returns-in-Ok-answer-clause-memory
+returns-in-Ok-answer-clause-memory g c = λ _. begins _ _ (asked_of _ _ c.in-Ok.ensures.asked)
+
+pub returns-in-Err-ReadFault-clause-memory : goal.returns-in-Err-ReadFault-clause-memory
+returns-in-Err-ReadFault-clause-memory g c = λ _. begins _ _ (asked_of _ _ c.in-Ok.ensures.asked)
+
+pub returns-clause-memory : goal.returns-clause-memory
+returns-clause-memory g c = λ _. begins _ _ (asked_of _ _ c.in-Ok.ensures.asked)
