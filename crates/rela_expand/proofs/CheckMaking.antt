@@ -7,7 +7,7 @@ use Rattle.std.specs.List.{All, range_with_len}
 use Rattle.rela_flows.specs.Selects.{depth}
 use Rattle.rela_flows.specs.declared.predicate.Predicate.{Predicate}
 use Rattle.rela_lex.specs.declared.error.SpecError.{SpecError}
-use Rattle.rela_lex.specs.declared.error.SpecError.TheVariants.{TooDeep, TooLarge}
+use Rattle.rela_lex.specs.declared.error.SpecError.TheVariants.{Memory, TooDeep, TooLarge}
 use Rattle.rela_rir.specs.Size.{nodes_of_rel, depth_of_rel}
 use Rattle.rela_spec.specs.declared.tree.Modifier.{Modifier}
 use Rattle.rela_spec.specs.declared.tree.Modifier.TheVariants as m
@@ -17,6 +17,9 @@ use Rattle.rela_expand.specs.Measures.{Measures, measure_of, modifier_measures, 
 use Rattle.rela_expand.specs.Numbered.{numbered_body}
 use Rattle.rela_expand.specs.Numbering.{Listing, Step, nothing_numbered}
 use Rattle.rela_expand.specs.Places.{Place, locations_at}
+use Rattle.rela_expand.specs.Refusals.{refusal_at}
+use Rattle.rela_expand.specs.declared.unfit.Unfit.{Unfit}
+use Rattle.rela_expand.specs.declared.unfit.Unfit.TheVariants as unfit
 use Rattle.rela_expand.specs.Shapes.{Shape, BodyShape, Unit as Unit', Then, Else, nodes_of_shape}
 use Rattle.rela_translate.specs.Terms.{before_of, after_of}
 use Rattle.rela_translate.specs.declared.body.Core.{Core}
@@ -131,6 +134,11 @@ module _ (place : Place) (s : BodyShape) where
 
   pub is_light : (body_measures s).before.nodes + (body_measures s).after.nodes ≤ 20000 → weight_of s < 2 ^ 32
   is_light few = let h = weight_within s in omega arith
+
+-- the error of a body that isn't unfolded, where one that is too large is refused so
+pub unfit_refused : {X : Type 0} (at : ℕ) (u : Unfit) (r : Result X SpecError) → (u ≡ unfit.TooLarge → r ≡ Err (TooLarge at)) → (e : SpecError) → e ≡ refusal_at at u → (e ≡ Memory → ⊥) → r ≡ Err e
+unfit_refused at unfit.TooLarge r large e is apart = subst (λ (x : SpecError). r ≡ Err x) (sym is) (large refl)
+unfit_refused at unfit.Memory r large e is apart = absurd (apart is)
 
 outcome_parts : (check : Checked) {name : List ℕ} {at_most : Bool} {when : Predicate} {classes : List Listing} {body : Core}
     → check.name ≡ name → check.at_most ≡ at_most → check.when ≡ when → map listing_of check.classes ≡ classes → check.body ≡ body

@@ -18,3 +18,4 @@ pub mod Walks
 pub mod LangW
 pub mod ZonesW
 pub mod Faithful
+pub mod Refusals

@@ -85,8 +85,7 @@ pub(crate) fn made(
     let (name, when) = copied(alloc, heading)?;
     match unfolded(alloc, locations, level, forms, bodies, place) {
         Ok((body, classes)) => Ok(Check::new(name, level, when, heading.at_most, classes, body)),
-        Err(Unfit::TooLarge) => Err(SpecError::TooLarge { at: heading.at }),
-        Err(Unfit::Memory) => Err(SpecError::Memory),
+        Err(unfit) => Err(unfit.at(heading.at)),
     }
 }
 

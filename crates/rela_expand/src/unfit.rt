@@ -1,8 +1,10 @@
 //! Why a body isn't unfolded.
 
 ghost use Rattle.std.specs.Prelude.{◌≡◌};
+ghost use Rattle.rela_expand.specs.Refusals.{refusal_at};
 ghost use Rattle.rela_expand.specs.declared.unfit.Unfit.{Unfit};
 
+use rela_lex::SpecError;
 use std::alloc::{AllocError, AllocFailed};
 
 /// Why a form or a body isn't unfolded.
@@ -12,6 +14,18 @@ pub(crate) enum Unfit {
     TooLarge,
     /// There isn't memory for it.
     Memory,
+}
+
+impl Unfit {
+    /// The same of a check whose name begins at this byte. It asks for no memory.
+    pub(crate) fn at(self, at: u32) -> SpecError
+        ensures { result ≡ refusal_at at self }
+    {
+        match self {
+            Unfit::TooLarge => SpecError::TooLarge { at },
+            Unfit::Memory => SpecError::Memory,
+        }
+    }
 }
 
 impl From<AllocError> for Unfit {

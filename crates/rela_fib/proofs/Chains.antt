@@ -1,5 +1,5 @@
 -- Pieces that are put behind one another, and the flow of a class.
-use Rattle.std.proofs.Common.{◌≡◌, ◌∙◌, refl, sym, ap, ℕ, ◌<◌, ◌≤◌, Bool, true, false, ltb-true, ltb-false, List, [], ◌∷◌, ◌++◌, length, append_assoc, arith}
+use Rattle.std.proofs.Common.{◌≡◌, ◌∙◌, refl, sym, ap, ℕ, ◌<◌, ◌≤◌, Bool, false, ltb-false, List, [], ◌∷◌, ◌++◌, length, append_assoc, arith}
 use Rattle.std.specs.Prelude.{nat_lt, get_or, Option, Result, Ok, Err, IfOk, OnOk}
 use Rattle.std.proofs.lemmas.List.{get_or-map}
 use Rattle.json.specs.Print.{escape}
@@ -57,9 +57,6 @@ flow_added d end class later text comma new choices graph chosen is short one tw
 
 pub too_many_steps : (d : Devices) (class : Ipv4Prefix) (choices : List (Option ℕ)) → AreChoices d.devices.items class.address choices → AreManySteps d choices → HasManySteps d class
 too_many_steps d class choices chosen is = record { steps = is.steps; steps_are = steps_chosen d class.address choices is.steps chosen is.steps_are; many = is.many }
-
-pub are_many : (d : Devices) (choices : List (Option ℕ)) (steps : List Step) → AreStepsWith d choices steps → nat_lt 100000 (length (graph_of steps).edges) ≡ true → AreManySteps d choices
-are_many d choices steps are many = record { steps = steps; steps_are = are; many = ltb-true 100000 (length (graph_of steps).edges) many }
 
 pub are_few : (steps : List Step) → nat_lt 100000 (length (graph_of steps).edges) ≡ false → length (graph_of steps).edges ≤ 100000
 are_few steps few = ltb-false 100000 (length (graph_of steps).edges) few

@@ -1,6 +1,6 @@
 //! The graph of a flow, drawn anew only where a device chooses another route.
 
-ghost use Rattle.std.specs.Prelude.{◌≡◌, ◌≢◌, ◌<◌, ◌≤◌, ◌^◌, true, Err, IfOk, OnOk, length, map};
+ghost use Rattle.std.specs.Prelude.{◌≡◌, ◌≢◌, ◌<◌, ◌≤◌, ◌^◌, true, Err, IfOk, IfErr, OnOk, length, map};
 ghost use Rattle.rela_fib.specs.Steps.{AreChoices, AreStepsWith, AreWithin, IsMatched, graph_of};
 ghost use Rattle.rela_fib.specs.Writing.{AreManySteps, IsDrawing};
 
@@ -105,8 +105,19 @@ pub(crate) fn few_steps<'d>(
     ensures not_long { result ≢ Err FibError.TooLong }
 {
     let steps = devices.steps(alloc, choices)?;
-    if has_many_edges(steps.as_slice()) {
+    refuse_many_edges(steps.as_slice())?;
+    Ok(steps)
+}
+
+/// `TooMany` exactly where the graph of these steps has more than 100,000 edges. It asks for no
+/// memory.
+fn refuse_many_edges(steps: &[&Step]) -> Result<(), FibError>
+    ensures few { OnOk result (length (graph_of (map (λ s. s.now) steps.now)).edges ≤ 100000) }
+    ensures many { IfErr result (λ e. (e ≡ FibError.TooMany)
+        × (100000 < length (graph_of (map (λ s. s.now) steps.now)).edges)) }
+{
+    if has_many_edges(steps) {
         return Err(FibError::TooMany);
     }
-    Ok(steps)
+    Ok(())
 }

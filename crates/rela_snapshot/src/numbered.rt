@@ -1,11 +1,12 @@
 //! The graph of a flow of version 1, whose nodes are named by their indexes.
 
-ghost use Rattle.std.specs.Prelude.{◌≡◌, ◌≢◌, ◌<◌, ◌≤◌, Ok, Err, IfOk, IfErr, length, map, option_map, vec_len};
+ghost use Rattle.std.specs.Prelude.{◌≡◌, ◌≢◌, ◌<◌, ◌≤◌, Ok, Err, IfOk, IfErr, IsErrOf, IsSome, length, map, option_map, vec_len};
 ghost use Rattle.std.specs.List.{All};
 ghost use Rattle.rela_graph.specs.Topology.{JoinsNodes};
 ghost use Rattle.rela_snapshot.specs.Located.{StandsIn};
 ghost use Rattle.rela_snapshot.specs.Numbered as spec;
 ghost use Rattle.serde_json.specs.View.{view};
+ghost use Rattle.rela_json.specs.Parts.{items_of};
 ghost use Rattle.rela_json.specs.Results.{try_map};
 
 use crate::listing::{Listing, node_at};
@@ -190,7 +191,7 @@ fn place_of(number: u64, count: u32, row: u32) -> Result<u32, LoadError>
 /// # Errors
 ///
 /// `WrongShape` with the rule where it is no array of whole numbers; `BadIndex` where one is not
-/// below `count`; `Memory`. The first entry at fault decides.
+/// below `count`. The first entry at fault decides. `Memory` only for an array.
 #[tactic(auto, unfolding(crate::specs::Numbered::places_of))]
 fn read_places(
     alloc: Global,
@@ -203,6 +204,7 @@ fn read_places(
         ≡ Ok places.items) }
     ensures fault { IfErr result (λ e. e ≢ LoadError.Memory →
         spec.places_of count rule row (view value.now) ≡ Err e) }
+    ensures memory { IsErrOf result LoadError.Memory → IsSome (items_of (view value.now)) }
     ensures within { IfOk result (λ places. All (λ place. place < count) places.items) }
 {
     match index_list(alloc, value, count) {

@@ -1,6 +1,6 @@
 //! The flows of two snapshots side by side.
 
-ghost use Rattle.std.specs.Prelude.{◌≡◌, ◌≢◌, ◌<◌, ◌≤◌, ◌+◌, ℕ, List, [], ◌∷◌, ◌++◌, All, Some, IsNone, IfSome, Ok, Err, IfOk, IfErr, OnOk, length, map, vec_len};
+ghost use Rattle.std.specs.Prelude.{◌≡◌, ◌≢◌, ◌<◌, ◌≤◌, ◌+◌, ℕ, List, [], ◌∷◌, ◌++◌, All, Some, IsNone, IfSome, Ok, Err, IfOk, IfErr, IsErrOf, OnOk, length, map, vec_len};
 ghost use Rattle.rela_names.specs.declared.level.Level.{Level};
 ghost use Rattle.rela_snapshot.specs.Located.{IsLocated, AreLocated};
 ghost use Rattle.rela_snapshot.specs.Names.{AreDistinct, place_of};
@@ -214,7 +214,8 @@ fn pair_found(
 ///
 /// # Errors
 ///
-/// `FlowDiffers` where the partner has other prefixes or another class; `Memory`.
+/// `FlowDiffers` where the partner has other prefixes or another class; `Memory` only where there is
+/// no partner.
 fn pair_of(
     alloc: Global,
     row: u32,
@@ -224,6 +225,7 @@ fn pair_of(
     ensures pair { IfOk result (λ pair. pair ≡ spec.pair_with partner before) }
     ensures agrees { OnOk result (AgreesWith partner before) }
     ensures differs { IfErr result (λ e. e ≢ PairError.Memory → IsDifference row before partner e) }
+    ensures memory { IsErrOf result PairError.Memory → IsNone partner }
     ensures located { (names : List (List ℕ)) (level : Level) → IsLocated names level before.graph →
         IfSome partner (λ flow. IsLocated names level flow.graph) →
         IfOk result (IsPairLocated names level) }

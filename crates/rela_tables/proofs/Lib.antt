@@ -3,3 +3,4 @@ pub mod WalkLaws
 pub mod PrefixLaws
 pub mod Kept
 pub mod PlainLaws
+pub mod Refusing

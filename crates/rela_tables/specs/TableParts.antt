@@ -14,6 +14,13 @@ use Rattle.rela_tables.specs.Starts.{starts_from}
 abbrev pub version_of : ℕ → Result ℕ LoadError
 version_of n = if n == 1 then Ok n else Err BadVersion
 
+-- rules 61 and 62: the version, which is 1
+abbrev pub version_in : Data → Result ℕ LoadError
+version_in d = do
+  part ← part_of (codes "version") 61 0 d
+  number ← whole_number_of 62 0 part
+  version_of number
+
 -- rules 61 to 65: the version, the starts, and the entries of the tables
 unfoldable pub contents_of : Network → Data → Result (List ℕ × List Data) LoadError
 contents_of network d = do

@@ -1,6 +1,6 @@
 //! The tables of a file.
 
-ghost use Rattle.std.specs.Prelude.{◌≡◌, ◌≢◌, ◌*◌, ◌<◌, ◌≤◌, [], ◌∷◌, ◌++◌, Ok, Err, IfOk, IfErr, OnOk, length, map, nat_eq, vec_len};
+ghost use Rattle.std.specs.Prelude.{◌≡◌, ◌≢◌, ◌*◌, ◌<◌, ◌≤◌, [], ◌∷◌, ◌++◌, Ok, Err, IfOk, IfErr, OnOk, IsOk, IsErrOf, length, map, nat_eq, vec_len};
 ghost use Rattle.std.specs.List.{All, IsDistinct};
 ghost use Rattle.indexmap.specs.IndexSet.{IsUnique};
 ghost use Rattle.serde_json.specs.View.{view};
@@ -131,7 +131,7 @@ fn read_head<'a>(
 ///
 /// `WrongShape` where the table is no object or its `device` no string; else `UnknownLocation`
 /// where no device has that name; else `RepeatedEntry` where an earlier table is of that device;
-/// `Memory`.
+/// `Memory`, only where none of these comes.
 #[tactic(auto, unfolding(crate::specs::TableParts::device_of))]
 fn read_device(
     locations: &Locations,
@@ -143,6 +143,8 @@ fn read_device(
         (view value.now) ≡ Ok device) }
     ensures fault { IfErr result (λ e. e ≢ LoadError.Memory →
         parts.device_of locations.now devices.old.keys row (view value.now) ≡ Err e) }
+    ensures memory { IsErrOf result LoadError.Memory →
+        IsOk (parts.device_of locations.now devices.old.keys row (view value.now)) }
     ensures devices { IfOk result (λ device. devices.new.keys ≡ devices.old.keys ++ device ∷ []) }
     ensures unique { OnOk result (IsUnique nat_eq devices.new) }
     ensures located { IfOk result (λ device. device < length (alphabet_of Device locations.now)) }

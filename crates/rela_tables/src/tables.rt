@@ -1,6 +1,6 @@
 //! The forwarding tables of a network, read from their file.
 
-ghost use Rattle.std.specs.Prelude.{◌≡◌, ◌≢◌, ◌≤◌, Ok, Err, IfOk, IfErr, length, map};
+ghost use Rattle.std.specs.Prelude.{◌≡◌, ◌≢◌, ◌≤◌, Ok, Err, IfOk, IfErr, IsOk, IsErrOf, length, map};
 ghost use Rattle.serde_json.specs.View.{view};
 ghost use Rattle.rela_snapshot.specs.Steps.{IsAnswer};
 ghost use Rattle.rela_tables.specs.Distinct.{AreTables};
@@ -120,7 +120,7 @@ fn read_file(alloc: Global, locations: &Locations, root: &Value) -> Result<Table
 ///
 /// `WrongShape` where the file is no object or its version no whole number; else `BadVersion` where
 /// that is not 1; else `WrongShape` where the starts are no array, or the first fault of a start;
-/// else `WrongShape` where the tables are no array; `Memory`.
+/// else `WrongShape` where the tables are no array; `Memory`, only where the version is 1.
 #[tactic(auto, unfolding(crate::specs::TableParts::contents_of))]
 fn read_contents<'a>(
     alloc: Global,
@@ -131,6 +131,7 @@ fn read_contents<'a>(
         ≡ Ok (contents.0.items, map view contents.1.now)) }
     ensures fault { IfErr result (λ e. e ≢ LoadError.Memory →
         parts.contents_of locations.now (view root.now) ≡ Err e) }
+    ensures memory { IsErrOf result LoadError.Memory → IsOk (parts.version_in (view root.now)) }
     ensures located { IfOk result (λ contents. AreInterfaces locations.now contents.0.items) }
 {
     let version = whole_number(part(root, "version", 61, 0)?, 62, 0)?;

@@ -7,8 +7,7 @@ use Rattle.rela_expand.specs.Expand.{listing_of}
 use Rattle.rela_expand.specs.Forms.{shapes_of}
 use Rattle.rela_expand.specs.Measures.{body_measures}
 use Rattle.rela_expand.specs.Places.{Place}
-use Rattle.rela_expand.specs.declared.unfit.Unfit.TheVariants as Unfit
-use Rattle.rela_expand.proofs.CheckMaking.{check_is_made, is_check, is_light, is_refused, is_too_large}
+use Rattle.rela_expand.proofs.CheckMaking.{check_is_made, is_check, is_light, is_refused, is_too_large, unfit_refused}
 use Rattle.rela_expand.proofs.making.made.Goals as goal
 
 pub returns-in_err-fit-clause-refused : goal.returns-in_err-fit-clause-refused
@@ -31,17 +30,17 @@ unfolded-requires-clause-light c =
     let s = body_at (bodies_of paths c.args.bodies.now.forms.items) c.args.place in
     is_light place s (c.in_ok-fit.ensures.few (body_measures s) (c.size.ensures paths c.requires.are))
 
-pub returns-in-Err-TooLarge-clause-refused : goal.returns-in-Err-TooLarge-clause-refused
-returns-in-Err-TooLarge-clause-refused c =
+pub returns-in-Err-clause-refused : goal.returns-in-Err-clause-refused
+returns-in-Err-clause-refused c =
     let place : Place = record { network = c.args.locations.now; level = c.args.level } in
     let paths = shapes_of c.args.forms.now.forms.items in
     let s = body_at (bodies_of paths c.args.bodies.now.forms.items) c.args.place in
     let size : c.size.result ≡ size_of_body s = c.size.ensures paths c.requires.are in
-    let is : c.in-Err-TooLarge.field-0 ≡ Unfit.TooLarge = grind arith in
-    λ apart.
-    is_too_large place s c.args.heading.now.at
+    unfit_refused c.args.heading.now.at c.in-Err.unfit _
+    (λ is. is_too_large place s c.args.heading.now.at
     (c.in_ok-fit.ensures.shallow_before (body_measures s) size) (c.in_ok-fit.ensures.shallow_after (body_measures s) size)
-    (inr (c.in-Err-TooLarge.ensures.too_large is))
+    (inr (c.in-Err.ensures.too_large is)))
+    c.at.result c.at.ensures
 
 pub new-requires : goal.new-requires
 new-requires c =
