@@ -8,7 +8,8 @@ use Rattle.rela_assertions.specs.declared.row.AssertionRow.{AssertionRow}
 use Rattle.rela_claims.specs.Claims.{Claimed, claimed_of}
 use Rattle.rela_claims.specs.Classes.{Listing, listing_of}
 use Rattle.rela_claims.specs.declared.claim.Claim.{Claim}
-use Rattle.rela_engine.specs.Scenes.{SamePathSets, arrivals_of, paths_of}
+use Rattle.rela_blocks.specs.Scenes.{arrivals_of, paths_of}
+use Rattle.rela_engine.specs.Scenes.{SamePathSets}
 use Rattle.rela_graph.specs.Paths.{Arrives, Paths, Undelivered, locations}
 use Rattle.rela_graph.specs.Topology.{Topology}
 use Rattle.rela_locations.specs.Network.{Network, alphabet_of}

@@ -10,7 +10,8 @@ use Rattle.rela_claims.specs.declared.claim.Tree.TheFolds.{ind-Tree, map-Tree}
 use Rattle.rela_compare.specs.declared.verdict.Which.{Which}
 use Rattle.rela_compare.specs.declared.verdict.Which.TheVariants as side
 use Rattle.rela_engine.specs.Leaves.{LeafOf, term_on, value_of}
-use Rattle.rela_engine.specs.Scenes.{SamePathSets, paths_of}
+use Rattle.rela_blocks.specs.Scenes.{paths_of}
+use Rattle.rela_engine.specs.Scenes.{SamePathSets}
 use Rattle.rela_engine.specs.declared.leaf.Leaf.{Leaf}
 use Rattle.rela_engine.specs.declared.leaf.Leaf.TheVariants.{Holds, Fails, Undecided}
 use Rattle.rela_names.specs.Shortlex.{First}

@@ -2,7 +2,8 @@
 use Rattle.std.specs.Prelude.{◌≡◌, ℕ, ◌⊎◌, List}
 use Rattle.std.specs.List.{AllZip}
 use Rattle.rela_claims.specs.declared.claim.Claim.{Claim}
-use Rattle.rela_engine.specs.Scenes.{SamePathSets, paths_of}
+use Rattle.rela_blocks.specs.Scenes.{paths_of}
+use Rattle.rela_engine.specs.Scenes.{SamePathSets}
 use Rattle.rela_engine.specs.declared.leaf.Leaf.{Leaf}
 use Rattle.rela_engine.specs.declared.leaf.Leaf.TheVariants as leaf
 use Rattle.rela_names.specs.declared.level.Level.{Level}

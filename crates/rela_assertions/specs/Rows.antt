@@ -3,7 +3,7 @@
 use Rattle.std.specs.Prelude.{◌≡◌, ℕ, ◌<◌, List, [], ◌++◌, All, length, map}
 use Rattle.std.specs.List.{AllZip, flat_map}
 use Rattle.rela_engine.specs.Leaves.{LeafOf, plain_scene, value_of}
-use Rattle.rela_engine.specs.Scenes.{paths_of}
+use Rattle.rela_blocks.specs.Scenes.{paths_of}
 use Rattle.rela_engine.specs.declared.leaf.Leaf.{Leaf}
 use Rattle.rela_names.specs.Alphabet.{path_symbols}
 use Rattle.rela_names.specs.declared.level.Level.{Level}

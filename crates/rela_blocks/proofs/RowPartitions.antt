@@ -17,6 +17,7 @@ use Rattle.rela_nfa.specs.Relabelling.{Refines}
 use Rattle.rela_translate.specs.Checked.{Checked, IsCheck, markers_of}
 use Rattle.rela_translate.specs.Terms.{after_of, before_of}
 use Rattle.rela_translate.specs.Zones.{marker_symbol}
+use Rattle.rela_blocks.specs.Blocks.{AreBlocks, AreOne}
 use Rattle.rela_blocks.specs.Readable.{IsGraphReadable}
 use Rattle.rela_blocks.specs.RowBlocks.{AreCheckBlocks, AreRowBlocks, check_symbols_apart, node_symbols, symbols_of}
 use Rattle.rela_blocks.specs.Scenes.{lettering_of}
@@ -132,14 +133,56 @@ module _ (check : Checked) (n : ℕ) where
     }
 
   pub check_result : {E : Type 0} (split symbols : List ℕ) (r : Result (List ℕ) E) → symbols ≡ tail → length split ≡ symbols_of check n
-      → ((s t : ℕ) → IsSymbol s → IsSymbol t → Together split s t → AreListedAlike check.classes s t)
+      → ((s t : ℕ) → IsSymbol s → IsSymbol t → Together split s t ↔ AreListedAlike check.classes s t)
       → IfOk r (λ blocks. length blocks ≡ length split) → IfOk r IsPartition
       → IfOk r (λ blocks. (s t : ℕ) → s < length split → t < length split → Together blocks s t ↔ (Together split s t × AreApart symbols s t))
       → IsCheck check → IfOk r (AreCheckBlocks check n)
   check_result split symbols (Err e) gathered few alike size partition together is = tt
   check_result split symbols (Ok blocks) gathered few alike size partition together is =
-      are_check_blocks split blocks few alike size partition
+      are_check_blocks split blocks few (λ s t s_in t_in. (alike s t s_in t_in).0) size partition
       (subst (λ (l : List ℕ). (s t : ℕ) → s < length split → t < length split → Together blocks s t ↔ (Together split s t × AreApart l s t)) gathered together) is
+
+  -- ---- which symbols of the check share one
+
+  one_if_alike : (s t : ℕ) → IsSymbol s → IsSymbol t → AreListedAlike check.classes s t → AreApart tail s t → AreOne check.classes n s t
+  one_if_alike s t s_is t_is listed apart =
+      elim (cases_lt s n) [
+        | inl s_low ↦
+            elim (cases_lt t n) [
+              | inl t_low ↦ inr (record { first = s_low; second = t_low; listed = listed })
+              | inr t_high ↦ inl ((apart t (in_range n (2 + m) t t_high (omega (arith, t_is)))).1 refl)
+            ]
+        | inr s_high ↦ inl (sym ((apart s (in_range n (2 + m) s s_high (omega (arith, s_is)))).0 refl))
+      ]
+
+  listed_of : (s t : ℕ) → AreOne check.classes n s t → AreListedAlike check.classes s t
+  listed_of s t (inl same) = subst (λ (x : ℕ). AreListedAlike check.classes s x) same (λ i d within. (λ has. has, λ has. has))
+  listed_of s t (inr alike) = alike.listed
+
+  apart_of : (s t : ℕ) → AreOne check.classes n s t → AreApart tail s t
+  apart_of s t (inl same) = subst (λ (x : ℕ). AreApart tail s x) same (λ u has. (λ e. e, λ e. e))
+  apart_of s t (inr alike) =
+      λ u has. let from : n ≤ u = All-contains (λ x. n ≤ x) tail u (range_from n (2 + m)) has in
+      (λ e. absurd (omega (arith, alike.first, e, from)), λ e. absurd (omega (arith, alike.second, e, from)))
+
+  pub blocks_result : {E : Type 0} (split symbols : List ℕ) (r : Result (List ℕ) E) → symbols ≡ tail → length split ≡ symbols_of check n
+      → ((s t : ℕ) → IsSymbol s → IsSymbol t → Together split s t ↔ AreListedAlike check.classes s t)
+      → IfOk r (λ blocks. length blocks ≡ length split) → IfOk r IsPartition
+      → IfOk r (λ blocks. (s t : ℕ) → s < length split → t < length split → Together blocks s t ↔ (Together split s t × AreApart symbols s t))
+      → IfOk r (AreBlocks check n)
+  blocks_result split symbols (Err e) gathered few alike size partition together = tt
+  blocks_result split symbols (Ok blocks) gathered few alike size partition together = record {
+    symbols = size ∙ few;
+    partition = partition;
+    together = λ s t s_in t_in.
+        let s_is : IsSymbol s = omega (arith, s_in, size, few) in
+        let t_is : IsSymbol t = omega (arith, t_in, size, few) in
+        let told = together s t (omega (arith, s_is, few)) (omega (arith, t_is, few)) in
+        let apart : (l : List ℕ) → l ≡ tail → AreApart l s t ↔ AreApart tail s t = λ l is. (subst (λ (k : List ℕ). AreApart k s t) is, subst (λ (k : List ℕ). AreApart k s t) (sym is)) in (
+          λ one. one_if_alike s t s_is t_is ((alike s t s_is t_is).0 (told.0 one).0) ((apart symbols gathered).0 (told.0 one).1),
+          λ one. told.1 ((alike s t s_is t_is).1 (listed_of s t one), (apart symbols gathered).1 (apart_of s t one)),
+        );
+  }
 
 -- ---- the blocks of a row
 

@@ -1,3 +1,4 @@
 pub mod Scenes
 pub mod Readable
 pub mod RowBlocks
+pub mod Blocks

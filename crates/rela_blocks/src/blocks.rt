@@ -1,16 +1,16 @@
 //! The blocks of a check's symbols, and those by which it is judged for one flow.
 ghost use Rattle.std.specs.Prelude.{◌≡◌, ◌<◌, ◌≤◌, ◌++◌, IfOk, All, length, map};
 ghost use Rattle.std.specs.List.{range_with_len};
-ghost use Rattle.rela_graph.specs.Topology.{symbol_at};
 ghost use Rattle.rela_names.specs.Alphabet.{path_symbols};
 ghost use Rattle.rela_nfa.specs.Relabelling.{Refines};
 ghost use Rattle.rela_snapshot.specs.PairsLocated.{IsPairLocated};
 ghost use Rattle.rela_translate.specs.Checked.{IsCheck, markers_of};
+ghost use Rattle.rela_blocks.specs.Blocks.{AreBlocks};
 ghost use Rattle.rela_blocks.specs.RowBlocks.{AreCheckBlocks, AreRowBlocks, check_symbols_apart, node_symbols, symbols_of};
 
 use crate::markers::count_markers;
 use crate::split::blocks_of_classes;
-use rela_graph::Node;
+use rela_graph::push_locations;
 use rela_labels::Partition;
 use rela_names::{Alphabet, Level, Symbol};
 use rela_snapshot::FlowPair;
@@ -18,7 +18,8 @@ use rela_translate::Check;
 use std::alloc::{AllocError, Global};
 
 /// The check's symbols in blocks: those by the classes of its table, of which `drop`, `loop` and the
-/// markers are set apart. So each symbol that the check's terms name by itself is a block of its own.
+/// markers are set apart. So each symbol that the check's terms name by itself is a block of its own,
+/// and two locations share a block just where each class lists both or neither.
 ///
 /// It takes the time of the symbols and the members of the classes. The only error is want of memory.
 pub fn check_blocks(
@@ -27,7 +28,8 @@ pub fn check_blocks(
     alphabet: &Alphabet,
 ) -> Result<Partition, AllocError>
     requires { All (λ set. All (λ s. s < path_symbols alphabet.now) set.members) check.now.classes }
-    ensures { IfOk result (AreCheckBlocks check.now (length alphabet.now)) }
+    ensures blocks { IfOk result (AreCheckBlocks check.now (length alphabet.now)) }
+    ensures together { IfOk result (AreBlocks check.now (length alphabet.now)) }
 {
     let symbols = symbols_of(check, alphabet);
     let split = blocks_of_classes(alloc, check.classes(), symbols)?;
@@ -99,28 +101,6 @@ fn node_locations(alloc: Global, check: &Check, pair: &FlowPair) -> Result<Vec<S
     push_locations(&mut symbols, pair.before.nodes(), check.level())?;
     push_locations(&mut symbols, pair.after.nodes(), check.level())?;
     Ok(symbols)
-}
-
-/// Appends the location of each node.
-fn push_locations(symbols: &mut Vec<Symbol>, nodes: &[Node], level: Level) -> Result<(), AllocError>
-    ensures { IfOk result (λ _. symbols.new.items ≡ symbols.old.items
-        ++ map (symbol_at level) nodes.now) }
-{
-    for node in nodes {
-        symbols.push(location_of(node, level))?;
-    }
-    Ok(())
-}
-
-/// The node's location at the level.
-fn location_of(node: &Node, level: Level) -> Symbol
-    ensures { result ≡ symbol_at level node.now }
-{
-    match level {
-        Level::Interface => node.interface,
-        Level::Device => node.device,
-        Level::Group => node.group,
-    }
 }
 
 /// Appends so many symbols, from the first on.

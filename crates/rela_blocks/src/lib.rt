@@ -11,3 +11,4 @@ mod split;
 pub use blocks::{check_blocks, row_blocks, symbols_of};
 pub use flow_paths::FlowPaths;
 pub use letters::check_letters;
+pub use split::blocks_of_classes;

@@ -9,7 +9,7 @@ use std::alloc::{AllocError, Global};
 
 /// This many symbols in blocks: two share one where each class lists both or neither. It takes the
 /// time of the symbols and of the members of the classes. The only error is want of memory.
-pub(crate) fn blocks_of_classes(
+pub fn blocks_of_classes(
     alloc: Global,
     classes: &[SymbolSet],
     symbols: u32,
@@ -18,7 +18,7 @@ pub(crate) fn blocks_of_classes(
     requires listed { All (λ set. All (λ s. s < symbols) set.members) classes.now }
     ensures symbols { IfOk result (λ blocks. length blocks ≡ symbols) }
     ensures split { IfOk result (λ blocks. (s t : ℕ) → s < symbols → t < symbols →
-        Together blocks s t → AreListedAlike classes.now s t) }
+        Together blocks s t ↔ AreListedAlike classes.now s t) }
 {
     let whole = Partition::new(alloc, symbols)?;
     let mut splitter = Splitter::of(alloc, &whole)?;

@@ -21,7 +21,8 @@ use crate::row_audit::{MAX_STATES, all_letters};
 use crate::words::are_closed;
 use rela_certfile::Step;
 use rela_labels::{Partition, WideSet};
-use rela_nfa::{BuildError, Nfa};
+use rela_nfa::Nfa;
+use rela_pairs::pass_limit;
 use std::alloc::{AllocError, Global};
 
 /// Whether one relation serves both sides of the change, and the flow's graphs look the same on both
@@ -67,8 +68,10 @@ pub(crate) fn judge_alike(
         .same_outline_same_paths(&pair.after, row.check.level());
     match before_image(alloc, row, &kept.relations, &kept.parts.blocks, blocks) {
         Ok(image) => judge_one(alloc, row, blocks, &image, images),
-        Err(BuildError::Limit) => Ok(Judgement::TooLarge),
-        Err(BuildError::Memory) => Err(AllocError),
+        Err(error) => {
+            pass_limit(error)?;
+            Ok(Judgement::TooLarge)
+        }
     }
 }
 

@@ -1,6 +1,6 @@
 //! Complements by listed words.
 
-ghost use Rattle.std.specs.Prelude.{◌≡◌, ◌<◌, All, [], ◌∷◌, length, map};
+ghost use Rattle.std.specs.Prelude.{◌≡◌, ◌<◌, All, IfErr, IfOk, None, Some, [], ◌∷◌, length, map};
 ghost use Rattle.std.specs.List.{slice_index_or};
 ghost use Rattle.rela_certfile.specs.Listed.{words_of};
 ghost use Rattle.rela_closed.specs.Closed.{IsClosed};
@@ -58,9 +58,18 @@ impl<'a> Complements for Checking<'a> {
         over: &WideSet,
     ) -> Result<Answer<()>, BuildError> {
         let steps = lettered(alloc, self.letters, self.block(number))?;
-        match complement(alloc, a, over, steps.as_slice())? {
-            Some(nfa) => Ok(Answer { nfa, note: () }),
-            None => Err(BuildError::Limit),
-        }
+        let made = complement(alloc, a, over, steps.as_slice())?;
+        answer_of(made)
+    }
+}
+
+/// The answer by a complement that was made, which is refused where there is none.
+fn answer_of(made: Option<Nfa<WideSet>>) -> Result<Answer<()>, BuildError>
+    ensures made { IfOk result (λ answer. made ≡ Some answer.nfa) }
+    ensures refused { IfErr result (λ e. (made ≡ None) × (e ≡ BuildError.Limit)) }
+{
+    match made {
+        Some(nfa) => Ok(Answer { nfa, note: () }),
+        None => Err(BuildError::Limit),
     }
 }

@@ -92,21 +92,10 @@ fn note_nodes(
         AreFirstPlaces (places ++ map (symbol_at level) nodes.now) first.new) }
 {
     for (k, node) in nodes.iter().enumerate() {
-        let place = location_of(node, level);
+        let place = node.symbol_at(level);
         if !first.contains_key(&place) {
             first.insert(place, passed + k as u32)?;
         }
     }
     Ok(())
-}
-
-/// The node's location at the level.
-fn location_of(node: &Node, level: Level) -> Symbol
-    ensures { result ≡ symbol_at level node.now }
-{
-    match level {
-        Level::Interface => node.interface,
-        Level::Device => node.device,
-        Level::Group => node.group,
-    }
 }

@@ -27,7 +27,7 @@ use rela_blocks::row_blocks;
 use rela_build::Stop;
 use rela_certfile::{Certificate, Step};
 use rela_labels::{LabelSet, Partition, WideSet};
-use rela_nfa::BuildError;
+use rela_pairs::pass_limit;
 use std::alloc::{AllocError, Global};
 
 /// How many states an automaton may have.
@@ -117,8 +117,10 @@ pub(crate) fn judge_images(
     }
     match flow_images(alloc, row, &kept.relations, coarse, &blocks) {
         Ok(both) => judge_over(alloc, row, &blocks, &both, images),
-        Err(BuildError::Limit) => Ok(Judgement::TooLarge),
-        Err(BuildError::Memory) => Err(AllocError),
+        Err(error) => {
+            pass_limit(error)?;
+            Ok(Judgement::TooLarge)
+        }
     }
 }
 

@@ -22,7 +22,7 @@ use rela_build::{Letters, Stop};
 use rela_closed::{Step, find};
 use rela_labels::WideSet;
 use rela_names::List;
-use rela_nfa::BuildError;
+use rela_pairs::pass_limit;
 use std::alloc::{AllocError, Global};
 
 /// The words that are found for a row.
@@ -111,8 +111,10 @@ fn image_words(
     let all = all_letters(alloc, letters.count())?;
     match find(alloc, &[&both.before, &both.after], &all, states) {
         Ok(steps) => words_if_met(alloc, row.check.at_most(), both, &all, steps),
-        Err(BuildError::Limit) => Ok(None),
-        Err(BuildError::Memory) => Err(AllocError),
+        Err(error) => {
+            pass_limit(error)?;
+            Ok(None)
+        }
     }
 }
 

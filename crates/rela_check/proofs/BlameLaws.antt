@@ -8,7 +8,7 @@ use Rattle.rela_blame.specs.Alternatives.{check_leads}
 use Rattle.rela_blame.specs.Zones.{HasClaim, IsZoneOf}
 use Rattle.rela_branches.specs.Alternatives.{alternatives_of}
 use Rattle.rela_engine.specs.RowOf.{IsOffence, relation_of}
-use Rattle.rela_engine.specs.Scenes.{paths_of}
+use Rattle.rela_blocks.specs.Scenes.{paths_of}
 use Rattle.rela_expand.specs.Expand.{Expanded, outcome_of}
 use Rattle.rela_flows.specs.declared.planning.PlannedRow.{PlannedRow}
 use Rattle.rela_flows.specs.declared.planning.PlannedRow.TheVariants as planned

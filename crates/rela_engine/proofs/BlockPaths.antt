@@ -1,5 +1,5 @@
 -- The automata of a flow's paths, once each symbol is read as its block.
-use Rattle.std.proofs.Common.{◌≡◌, ℕ, ◌+◌, ◌<◌, ◌≤◌, ◌↔◌, List, [], ◌∷◌, length, get_or, map, refl, sym, ap, ◌∙◌, subst, arith}
+use Rattle.std.proofs.Common.{◌≡◌, ℕ, ◌<◌, ◌≤◌, ◌↔◌, List, [], ◌∷◌, length, map, refl, sym, ap, ◌∙◌, subst, arith}
 use Rattle.std.specs.List.{All}
 use Rattle.std.specs.Option.{ForSome}
 use Rattle.std.specs.Prelude.{Option, Result, Ok, Err, IfOk}
@@ -9,7 +9,7 @@ use Rattle.rela_build.proofs.Readings.{is_symbol, read_below, read_symbol}
 use Rattle.rela_graph.specs.Alone.{StandsAlone}
 use Rattle.rela_graph.specs.Paths.{Paths}
 use Rattle.rela_graph.specs.Topology.{Topology, IsTopology, symbol_at}
-use Rattle.rela_labels.specs.Partition.{block_count, block_of}
+use Rattle.rela_labels.specs.Partition.{block_count}
 use Rattle.rela_letter_nfa.specs.LetterAutomaton.{LetterAutomaton}
 use Rattle.rela_letter_nfa.specs.Runs.{Accepts}
 use Rattle.rela_letter_paths.specs.Letters.{HasLettersBelow}
@@ -18,7 +18,7 @@ use Rattle.rela_names.specs.declared.level.Level.{Level}
 use Rattle.rela_nfa.specs.Relabelling.{blocks_of}
 use Rattle.rela_engine.specs.FlowLetters.{AcceptsPaths}
 use Rattle.rela_engine.specs.LetterImages.{IsReadOver}
-use Rattle.rela_engine.specs.Seen.{AreFiner, NodesStandAlone}
+use Rattle.rela_engine.specs.Seen.{AreFiner}
 use Rattle.rela_engine.proofs.MetOn.{inputs_below}
 use Rattle.rela_engine.proofs.PathLetters.{path_each, read_word}
 

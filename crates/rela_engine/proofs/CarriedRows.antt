@@ -14,7 +14,8 @@ use Rattle.rela_rir.proofs.LicencesCarry as carry
 use Rattle.rela_translate.specs.Checked.{Checked}
 use Rattle.rela_translate.specs.Verdict.{AreMet, Offends, Meets, Offending}
 use Rattle.rela_engine.specs.RowOf.{RowOf, Says, IsOffence, IsLast, MustBeOpen, words_of, relation_of}
-use Rattle.rela_engine.specs.Scenes.{SamePathSets, scene, before_image, after_image}
+use Rattle.rela_blocks.specs.Scenes.{scene, before_image, after_image}
+use Rattle.rela_engine.specs.Scenes.{SamePathSets}
 
 turned : (X Y : WordSet) → SameWords X Y → SameWords Y X
 turned X Y same w = ((same w).1, (same w).0)

@@ -2,16 +2,15 @@
 use Rattle.std.proofs.Common.{◌≡◌, ℕ, ◌+◌, ◌<◌, ◌≤◌, List, length, get_or, inl, inr, sym, ap, ◌∙◌, subst, arith}
 use Rattle.std.specs.Prelude.{Contains}
 use Rattle.std.proofs.lemmas.List.FromFn.{get_or-range_with_len}
-use Rattle.rela_rir.specs.declared.set.SymbolSet.{SymbolSet}
 use Rattle.rela_rir.specs.declared.term.PathTerm.{PathTerm}
 use Rattle.rela_rir.specs.declared.term.RelTerm.{RelTerm}
 use Rattle.rela_translate.specs.Checked.{Checked, IsCheck, markers_of}
 use Rattle.rela_translate.specs.Terms.{zone_of, before_of, after_of}
 use Rattle.rela_translate.specs.Zones.{path_symbols, marker_symbol, drop_symbol}
-use Rattle.rela_build.specs.Lettering.{AreListedAlike, AreLetterBlocks, IsAlone, Lettering}
+use Rattle.rela_build.specs.Lettering.{AreListedAlike, AreLetterBlocks, IsAlone}
 use Rattle.rela_build.specs.Named.{Names, NamesR}
-use Rattle.rela_engine.specs.Blocks.{AreOne, AreBlocks}
-use Rattle.rela_engine.specs.Scenes.{lettering_of}
+use Rattle.rela_blocks.specs.Blocks.{AreOne, AreBlocks}
+use Rattle.rela_blocks.specs.Scenes.{lettering_of}
 use Rattle.rela_engine.proofs.NamedByChecks.{zone_names, before_names, after_names}
 
 module _ (check : Checked) (n : ℕ) (blocks : List ℕ) (are : AreBlocks check n blocks) where
@@ -57,20 +56,3 @@ module _ (check : Checked) (n : ℕ) (blocks : List ℕ) (are : AreBlocks check 
 
   pub zone_alone : (t : PathTerm) → t ≡ zone_of n check.body → Names (IsAlone blocks) t
   zone_alone t form = subst (Names (IsAlone blocks)) (sym form) (zone_names (IsAlone blocks) n drop_alone check.body)
-
--- the same letters, where the class table and the numbers are told otherwise
-abbrev given : List SymbolSet → ℕ → ℕ → List ℕ → Lettering
-given table end count blocks = record { classes = table; path_symbols = end; markers = count; blocks = blocks }
-
-pub lettering_is : (check : Checked) (n : ℕ) (blocks : List ℕ) (table : List SymbolSet) (end count : ℕ) → table ≡ check.classes → end ≡ path_symbols n
-    → count ≡ length (markers_of check.body) → given table end count blocks ≡ lettering_of check n blocks
-lettering_is check n blocks table end count table_is end_is count_is = λ i. given (table_is i) (end_is i) (count_is i) blocks
-
-pub given_blocks : (check : Checked) (n : ℕ) (blocks : List ℕ) (table : List SymbolSet) (end count : ℕ) → table ≡ check.classes → end ≡ path_symbols n
-    → count ≡ length (markers_of check.body) → AreBlocks check n blocks → AreLetterBlocks (given table end count blocks)
-given_blocks check n blocks table end count table_is end_is count_is are =
-    subst AreLetterBlocks (sym (lettering_is check n blocks table end count table_is end_is count_is)) (letter_blocks check n blocks are)
-
--- letters that are those of the check by some blocks are so by their own
-pub by_own : (check : Checked) (n : ℕ) (blocks : List ℕ) (l : Lettering) → l ≡ lettering_of check n blocks → l ≡ lettering_of check n l.blocks
-by_own check n blocks l is = is ∙ ap (λ (b : List ℕ). lettering_of check n b) (sym (ap (λ (k : Lettering). k.blocks) is))

@@ -15,10 +15,11 @@ use Rattle.rela_translate.specs.Checked.{Checked}
 use Rattle.rela_translate.specs.Settings.{bare}
 use Rattle.rela_translate.specs.Terms.{before_of, after_of}
 use Rattle.rela_translate.specs.Zones.{Before, After}
-use Rattle.rela_engine.specs.Blocks.{AreBlocks}
+use Rattle.rela_blocks.specs.Blocks.{AreBlocks}
 use Rattle.rela_engine.specs.Compilation.{AreRelations, Compilation, IsCompiled, IsTwofold, MustPassLimit, PassesLimit, Relations, Twofold}
 use Rattle.rela_engine.specs.Reading.{Realises}
-use Rattle.rela_engine.specs.Scenes.{bare_scene, lettering_of}
+use Rattle.rela_blocks.specs.Scenes.{lettering_of}
+use Rattle.rela_engine.specs.Scenes.{bare_scene}
 use Rattle.rela_engine.specs.Sides.{TreatsSidesAlike}
 use Rattle.rela_engine.proofs.AlikeTerms.{one_term}
 use Rattle.rela_engine.proofs.CheckedRelations.{realised}

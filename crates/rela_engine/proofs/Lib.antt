@@ -6,13 +6,13 @@ pub mod PathLetters
 pub mod LeastSymbols
 pub mod LeastWords
 pub mod ComparedPairs
+pub mod ComparedLetterPairs
 pub mod Rows
 pub mod PlacedImages
 pub mod PlainRows
 pub mod NodesApart
 pub mod Placed
 pub mod NamedByChecks
-pub mod SplitBlocks
 pub mod LimitedParts
 pub mod CheckLetters
 pub mod CheckedRelations
@@ -27,7 +27,6 @@ pub mod EdgesInTurn
 pub mod ZoneAutomata
 pub mod StateTexts
 pub mod SymbolForms
-pub mod BuiltPaths
 pub mod ComparedPlaces
 pub mod PlainPartitions
 pub mod RightLeaves

@@ -15,7 +15,7 @@ use Rattle.rela_rir.specs.Words.{WordSet, Relation, ImageOf}
 use Rattle.rela_translate.specs.Checked.{Checked}
 use Rattle.rela_translate.specs.Verdict.{AreMet, Meets}
 use Rattle.rela_translate.specs.Zones.{Before, After}
-use Rattle.rela_engine.specs.Blocks.{AreBlocks}
+use Rattle.rela_blocks.specs.Blocks.{AreBlocks}
 use Rattle.rela_engine.specs.Differing.{AreDifferences, Differences, HaveNoneOn, SamePairsOn, path_symbols_of}
 use Rattle.rela_engine.proofs.NodesApart.{one_of}
 use Rattle.rela_engine.proofs.PathLetters.{path_each}

@@ -15,7 +15,8 @@ use Rattle.rela_translate.specs.Checked.{Checked}
 use Rattle.rela_translate.specs.Terms.{before_of, after_of}
 use Rattle.rela_engine.specs.Compilation.{Compilation, PassesLimit, MustPassLimit}
 use Rattle.rela_engine.specs.RowOf.{RowOf, MustBeOpen}
-use Rattle.rela_engine.specs.Scenes.{scene, bare_scene}
+use Rattle.rela_blocks.specs.Scenes.{scene}
+use Rattle.rela_engine.specs.Scenes.{bare_scene}
 use Rattle.rela_engine.proofs.FixedTerms.{before_fixed, after_fixed}
 
 -- ---- images by their relations

@@ -30,8 +30,9 @@ use Rattle.rela_trans.specs.Machine.{Machine, IsMachine}
 use Rattle.rela_trans.specs.Runs.{ReachR}
 use Rattle.rela_trans.proofs.SymbolLetters.{letters_reached, symbols_reached}
 use Rattle.rela_translate.specs.Checked.{Checked}
-use Rattle.rela_engine.specs.Blocks.{symbols_of}
-use Rattle.rela_engine.specs.Scenes.{scene, bare_scene, lettering_of}
+use Rattle.rela_blocks.specs.RowBlocks.{symbols_of}
+use Rattle.rela_blocks.specs.Scenes.{scene, lettering_of}
+use Rattle.rela_engine.specs.Scenes.{bare_scene}
 use Rattle.rela_engine.specs.Seen.{IsImageBy, LeadAlike}
 use Rattle.rela_engine.proofs.ComparedPlaces as compared
 use Rattle.rela_engine.proofs.OpenRows.{agree}

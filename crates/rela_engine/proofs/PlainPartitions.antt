@@ -15,7 +15,8 @@ use Rattle.rela_rir.specs.declared.set.SymbolSet.{SymbolSet}
 use Rattle.rela_rir.specs.declared.term.PathTerm.{PathTerm}
 use Rattle.rela_engine.specs.Leaves.{plain_lettering}
 use Rattle.rela_rir.specs.NamedSymbols.{symbols_in, symbols_of_terms}
-use Rattle.rela_engine.specs.PlainBlocks.{ArePlainBlocks, IsGraphReadable, symbols_apart}
+use Rattle.rela_blocks.specs.Readable.{IsGraphReadable}
+use Rattle.rela_engine.specs.PlainBlocks.{ArePlainBlocks, symbols_apart}
 use Rattle.rela_engine.proofs.NodesApart.{IsSplit, now_alone, one_of}
 use Rattle.rela_engine.proofs.SymbolForms.{front, rest, told}
 

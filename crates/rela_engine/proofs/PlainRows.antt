@@ -22,10 +22,10 @@ use Rattle.rela_report.specs.declared.rows.Side.TheVariants as side
 use Rattle.rela_trans.specs.Machine.{Machine}
 use Rattle.rela_translate.specs.Terms.{before_of, after_of}
 use Rattle.rela_translate.specs.Verdict.{Offends, Offending}
-use Rattle.rela_engine.specs.Blocks.{symbols_of}
+use Rattle.rela_blocks.specs.RowBlocks.{symbols_of}
 use Rattle.rela_engine.specs.Compilation.{Compilation, Relations, AreRelations, Twofold}
 use Rattle.rela_engine.specs.RowOf.{IsLast, MayBeOpen, relation_of}
-use Rattle.rela_engine.specs.Scenes.{scene, paths_of, arrivals_of, before_image, after_image}
+use Rattle.rela_blocks.specs.Scenes.{scene, paths_of, arrivals_of, before_image, after_image}
 use Rattle.rela_engine.specs.Seen.{ImagePasses, KeepPlaces, LeadAlike}
 use Rattle.rela_engine.proofs.FixedTerms.{before_fixed, after_fixed}
 use Rattle.rela_engine.proofs.PlacedImages.{relation_placed, image_passes, image_placed, comparison_passes}

@@ -23,7 +23,7 @@ use Rattle.rela_nfa.specs.Runs.{Accepts}
 use Rattle.rela_pairs.specs.declared.errors.BuildError.{BuildError}
 use Rattle.rela_pairs.specs.declared.errors.BuildError.TheVariants as built
 use Rattle.rela_rir.specs.Assertions.{FailsBy, HoldsOnPaths, MayBeLeftOpen, TellsAgainst, first_term, second_term}
-use Rattle.rela_rir.specs.Limit.{ReachedInside}
+use Rattle.rela_rir.specs.Limit.{ForcedInside, ReachedInside}
 use Rattle.rela_rir.specs.Meaning.{In, IsPathWord}
 use Rattle.rela_rir.specs.Places.{Scene}
 use Rattle.rela_rir.specs.Tables.{IsPlaced}
@@ -32,7 +32,7 @@ use Rattle.rela_rir.specs.declared.assertion.Assertion.TheVariants.{Equal, Inclu
 use Rattle.rela_rir.specs.declared.set.SymbolSet.{SymbolSet}
 use Rattle.rela_rir.specs.declared.term.PathTerm.{PathTerm}
 use Rattle.rela_engine.specs.Compared.{HoldsOfWords, TellsAgainstWords, TellsVerdict}
-use Rattle.rela_engine.specs.Leaves.{LeafOf, plain_lettering, term_on}
+use Rattle.rela_engine.specs.Leaves.{LeafOf, MustBeLeftOpen, plain_lettering, term_on}
 use Rattle.rela_engine.specs.Seen.{AreLeast}
 use Rattle.rela_engine.specs.declared.leaf.Leaf.{Leaf}
 use Rattle.rela_engine.specs.declared.leaf.Leaf.TheVariants as leaf
@@ -157,6 +157,14 @@ open_by_first m assertion limit x is reached = inl (subst (ReachedInside m (limi
 
 pub open_by_second : (m : Scene) (assertion : Assertion) (limit : ℕ) (x : PathTerm) → x ≡ second_term assertion → ReachedInside m (limit + 1) x → MayBeLeftOpen m assertion limit
 open_by_second m assertion limit x is reached = inr (inl (subst (ReachedInside m (limit + 1)) is reached))
+
+-- where no complement in the two terms has a part that tells more words than the limit
+pub untold : (m : Scene) (assertion : Assertion) (limit : ℕ) (x y : PathTerm) → x ≡ first_term assertion → y ≡ second_term assertion
+    → ¬ ForcedInside m (limit + 1) x → ¬ ForcedInside m (limit + 1) y → ¬ MustBeLeftOpen m assertion limit
+untold m assertion limit x y x_is y_is first second forced = elim forced [
+  | inl one ↦ first (subst (ForcedInside m (limit + 1)) (sym x_is) one)
+  | inr two ↦ second (subst (ForcedInside m (limit + 1)) (sym y_is) two)
+]
 
 -- letters that were made of the numbers as they were lent
 pub lettering_is : (l : Lettering) (classes : List SymbolSet) (n end : ℕ) (blocks : List ℕ)

@@ -30,7 +30,7 @@ use Rattle.rela_engine.specs.Compilation.{Compilation, Relations, Twofold, AreRe
 use Rattle.rela_engine.specs.Reading.{Recognises, Realises, RealisesFrom}
 use Rattle.rela_engine.specs.LetterImages.{IsFirstOffence, TellsFirst}
 use Rattle.rela_engine.specs.RowOf.{RowOf, Says, IsOffence, relation_of, words_of}
-use Rattle.rela_engine.specs.Scenes.{lettering_of}
+use Rattle.rela_blocks.specs.Scenes.{lettering_of}
 use Rattle.rela_engine.specs.Seen.{AreSeen, AreLeastSymbols, IsSource, IsFirstSource, TellsOf, machine_of}
 use Rattle.rela_engine.specs.declared.seen.Form.{Form}
 use Rattle.rela_engine.specs.declared.seen.Form.TheVariants as form

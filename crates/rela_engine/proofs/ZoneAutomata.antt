@@ -20,8 +20,8 @@ use Rattle.rela_translate.specs.Settings.{bare}
 use Rattle.rela_translate.specs.Terms.{zone_of}
 use Rattle.rela_translate.specs.Zones.{Zone}
 use Rattle.rela_engine.specs.AutomatonText.{automaton_text}
-use Rattle.rela_engine.specs.Blocks.{AreBlocks}
-use Rattle.rela_engine.specs.Scenes.{lettering_of}
+use Rattle.rela_blocks.specs.Blocks.{AreBlocks}
+use Rattle.rela_blocks.specs.Scenes.{lettering_of}
 use Rattle.rela_engine.specs.Spelled.{IsLeastBy, spelled}
 use Rattle.rela_engine.specs.Zone.{IsZoneText, ZoneMustPassLimit, ZonePassesLimit}
 use Rattle.rela_engine.proofs.CheckLetters.{zone_alone}

@@ -11,8 +11,8 @@ use Rattle.rela_trans.specs.Machine.{Machine}
 use Rattle.rela_trans.specs.Runs.{Relates}
 use Rattle.rela_engine.specs.Compilation.{AreRelations}
 use Rattle.rela_engine.specs.LetterImages.{AreParents, IsReadOver}
-use Rattle.rela_engine.specs.RowOf.{RowOf}
-use Rattle.rela_engine.specs.Scenes.{paths_of}
+use Rattle.rela_engine.specs.RowOf.{MayBeOpen, RowOf}
+use Rattle.rela_blocks.specs.Scenes.{paths_of}
 use Rattle.rela_engine.specs.Seen.{AreFiner}
 use Rattle.rela_engine.specs.declared.block_paths.BlockPaths.{BlockPaths}
 use Rattle.rela_engine.specs.declared.case.Case.{Case}
@@ -36,6 +36,13 @@ IsRight case row =
     RowOf case.compiled.now.check (length case.alphabet.now)
     (paths_of case.compiled.now.check.level case.alphabet.now case.pair.now.before
     case.pair.now.after) case.compiled.now.states row
+
+-- the row may be left open for the check and the flow
+abbrev pub MayStayOpen : Case → Type 0
+MayStayOpen case =
+    MayBeOpen case.compiled.now.check (length case.alphabet.now)
+    (paths_of case.compiled.now.check.level case.alphabet.now case.pair.now.before
+    case.pair.now.after) case.compiled.now.states
 
 -- the automata of the flow's paths over the blocks, and for each block the check's own one in which it lies
 pub record AreBlockPaths (case : Case) (paths : BlockPaths) : Type 0 where

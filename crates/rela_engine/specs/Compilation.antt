@@ -10,9 +10,10 @@ use Rattle.rela_trans.specs.Runs.{Relates}
 use Rattle.rela_translate.specs.Checked.{Checked}
 use Rattle.rela_translate.specs.Terms.{before_of, after_of}
 use Rattle.rela_translate.specs.Zones.{Before, After}
-use Rattle.rela_engine.specs.Blocks.{AreBlocks}
+use Rattle.rela_blocks.specs.Blocks.{AreBlocks}
 use Rattle.rela_engine.specs.Reading.{Realises}
-use Rattle.rela_engine.specs.Scenes.{bare_scene, lettering_of}
+use Rattle.rela_blocks.specs.Scenes.{lettering_of}
+use Rattle.rela_engine.specs.Scenes.{bare_scene}
 
 -- a relation twice: as it was built, so that its states stand for places, and made small for many walks
 pub record Twofold : Type 0 where

@@ -6,6 +6,7 @@ use Rattle.rela_build.specs.Named.{Names}
 use Rattle.rela_compare.specs.declared.verdict.Which.{Which}
 use Rattle.rela_compare.specs.declared.verdict.Which.TheVariants as side
 use Rattle.rela_rir.specs.Assertions.{FailsBy, HoldsOnPaths, MayBeLeftOpen, first_term, second_term}
+use Rattle.rela_rir.specs.Limit.{Forced}
 use Rattle.rela_rir.specs.Places.{Scene}
 use Rattle.rela_rir.specs.declared.assertion.Assertion.{Assertion}
 use Rattle.rela_rir.specs.declared.set.SymbolSet.{SymbolSet}
@@ -55,6 +56,11 @@ LeafOf m assertion limit Holds = HoldsOnPaths m.setting assertion
 LeafOf m assertion limit (Fails word side) =
     FailsBy m.setting assertion (term_on side assertion) word
 LeafOf m assertion limit Undecided = MayBeLeftOpen m assertion limit
+
+-- the assertion has to be left open under the limit: a complement in one of its terms has a part that tells more words
+abbrev pub MustBeLeftOpen : Scene → Assertion → ℕ → Type 0
+MustBeLeftOpen m assertion limit =
+    Forced m (first_term assertion) (second_term assertion) limit
 
 -- what is known by a leaf
 abbrev pub value_of : Leaf → Value

@@ -1,6 +1,5 @@
 pub mod Reading
 pub mod Scenes
-pub mod Blocks
 pub mod Case
 pub mod Sides
 pub mod Compilation

@@ -1,29 +1,13 @@
--- The blocks of path symbols by which an assertion is decided for a flow, and the paths of the flow by them.
-use Rattle.std.specs.Prelude.{ℕ, ◌+◌, ◌<◌, ◌≤◌, List, [], ◌∷◌, ◌++◌, All, length, map}
+-- The blocks of path symbols by which an assertion is decided for a flow.
+use Rattle.std.specs.Prelude.{ℕ, ◌+◌, List, [], ◌∷◌, ◌++◌, length, map}
+use Rattle.rela_blocks.specs.Readable.{AreGraphsReadable}
 use Rattle.rela_build.specs.Lettering.{AreLetterBlocks, IsAlone}
-use Rattle.rela_graph.specs.Alone.{StandsAlone}
 use Rattle.rela_graph.specs.Topology.{Topology, symbol_at}
-use Rattle.rela_names.specs.Alphabet.{path_symbols}
 use Rattle.rela_names.specs.declared.level.Level.{Level}
 use Rattle.rela_rir.specs.declared.assertion.Assertion.{Assertion}
 use Rattle.rela_rir.specs.declared.set.SymbolSet.{SymbolSet}
 use Rattle.rela_engine.specs.Leaves.{TermsName, plain_lettering}
 use Rattle.rela_rir.specs.NamedSymbols.{symbols_of_terms}
-use Rattle.rela_engine.specs.Seen.{NodesStandAlone}
-
--- the nodes of the graph stand at locations, which have blocks of their own, and so have `drop` and `loop`
-pub record IsGraphReadable (level : Level) (names : List (List ℕ)) (g : Topology)
-    (blocks : List ℕ) : Type 0 where
-  pub placed : All (λ node. symbol_at level node < length names) g.nodes
-  pub symbols : path_symbols names ≤ length blocks
-  pub nodes : NodesStandAlone blocks level g.nodes
-  pub drops : StandsAlone blocks (length names)
-  pub loops : StandsAlone blocks (length names + 1)
-
--- both graphs of a flow can be read by the blocks
-abbrev pub AreGraphsReadable : Level → List (List ℕ) → Topology → Topology → List ℕ → Type 0
-AreGraphsReadable level names pre post blocks =
-    IsGraphReadable level names pre blocks × IsGraphReadable level names post blocks
 
 -- the symbols that are to have blocks of their own: those that the terms name by themselves, the locations of the
 -- nodes of both graphs, `drop` and `loop`

@@ -11,7 +11,7 @@ use Rattle.rela_rir.specs.Words.{WordSet, Relation, ImageOf}
 use Rattle.rela_translate.specs.Checked.{Checked}
 use Rattle.rela_translate.specs.Verdict.{Meets, Offending}
 use Rattle.rela_translate.specs.Zones.{Before, After}
-use Rattle.rela_engine.specs.Scenes.{scene, before_image, after_image}
+use Rattle.rela_blocks.specs.Scenes.{scene, before_image, after_image}
 
 -- of two sets of words, for before and after the change, the one of this side
 abbrev pub words_of : Side → WordSet → WordSet → WordSet

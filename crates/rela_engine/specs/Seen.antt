@@ -23,7 +23,7 @@ use Rattle.rela_trans.specs.Machine.{Machine, IsMachine}
 use Rattle.rela_trans.specs.Runs.{Relates}
 use Rattle.rela_engine.specs.Compilation.{Twofold}
 use Rattle.rela_engine.specs.Reading.{Recognises, RealisesFrom}
-use Rattle.rela_engine.specs.Scenes.{arrivals_of}
+use Rattle.rela_blocks.specs.Scenes.{arrivals_of}
 use Rattle.rela_engine.specs.declared.seen.Form.{Form}
 use Rattle.rela_engine.specs.declared.seen.Form.TheVariants as form
 

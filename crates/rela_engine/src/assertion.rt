@@ -9,19 +9,19 @@ ghost use Rattle.rela_labels.specs.Partition.{block_count};
 ghost use Rattle.rela_names.specs.Alphabet.{path_symbols};
 ghost use Rattle.rela_names.specs.Shortlex.{First};
 ghost use Rattle.rela_rir.specs.Assertions.{MayBeLeftOpen};
-ghost use Rattle.rela_rir.specs.Limit.{ReachedInside};
+ghost use Rattle.rela_rir.specs.Limit.{ForcedInside, ReachedInside};
 ghost use Rattle.rela_snapshot.specs.PairsLocated.{IsPairLocated};
 ghost use Rattle.rela_engine.specs.Compared.{HoldsOfWords, TellsAgainstWords, TellsVerdict};
-ghost use Rattle.rela_engine.specs.Leaves.{LeafOf, TermsName, plain_scene};
+ghost use Rattle.rela_engine.specs.Leaves.{LeafOf, MustBeLeftOpen, TermsName, plain_scene};
 ghost use Rattle.rela_rir.specs.NamedSymbols.{symbols_of_terms};
-ghost use Rattle.rela_engine.specs.PlainBlocks.{AreGraphsReadable};
-ghost use Rattle.rela_engine.specs.Scenes.{paths_of};
+ghost use Rattle.rela_blocks.specs.Readable.{AreGraphsReadable};
+ghost use Rattle.rela_blocks.specs.Scenes.{paths_of};
 
-use crate::flow_paths::FlowPaths;
 use crate::leaf::Leaf;
 use crate::plain_blocks::plain_blocks;
 use crate::terms::{first_term, second_term};
 use crate::witnesses::least_symbols;
+use rela_blocks::FlowPaths;
 use rela_build::{Builder, Letters, Stop};
 use rela_compare::{Verdict, equal, included};
 use rela_complement::LimitedComplements;
@@ -35,7 +35,8 @@ use std::alloc::{AllocError, Global};
 /// Whether the assertion holds for a flow, where a construction may have at most as many states as the
 /// limit of the complements: the terms' words of path symbols are compared, where `Pre` and `Post` are
 /// the flow's paths before and after the change. If it fails, the first word in shortlex order that
-/// tells against it, and the side that has the word. It is undecided only where that is licensed.
+/// tells against it, and the side that has the word. It is undecided only where that is licensed, and
+/// always where a complement in a term has a part that tells more words than the limit.
 ///
 /// The alphabet is that of the level. The classes list path symbols, and the terms name none but
 /// path symbols by themselves; a class that the table lacks is empty. The nodes of both graphs stand
@@ -59,9 +60,12 @@ pub fn decide_assertion(
     requires named { All (λ s. s < path_symbols alphabet.now)
         (symbols_of_terms assertion.now) }
     requires located { IsPairLocated alphabet.now level pair.now }
-    ensures { IfOk result (LeafOf (plain_scene classes.now (length alphabet.now)
+    ensures leaf { IfOk result (LeafOf (plain_scene classes.now (length alphabet.now)
         (paths_of level alphabet.now pair.now.before pair.now.after)) assertion.now
         complements.now) }
+    ensures forced { IfOk result (λ leaf. MustBeLeftOpen (plain_scene classes.now
+        (length alphabet.now) (paths_of level alphabet.now pair.now.before pair.now.after))
+        assertion.now complements.now → leaf ≡ Leaf.Undecided) }
 {
     let blocks = plain_blocks(alloc, assertion, classes, level, pair, alphabet)?;
     let letters = Letters::new(alloc, classes, alphabet.len(), 0, &blocks)?;
@@ -93,7 +97,8 @@ fn left_open(stop: Stop) -> Result<Leaf, AllocError>
 ///
 /// # Errors
 ///
-/// - `Limit` and `Refused` only where the assertion may be left open under the limit.
+/// - `Limit` and `Refused` only where the assertion may be left open under the limit, and one of them
+///   always where a complement in its terms has a part that tells more words.
 /// - `Memory` where there isn't memory.
 fn leaf_over(
     alloc: Global,
@@ -110,6 +115,9 @@ fn leaf_over(
     ensures leaf { IfOk result (LeafOf (scene_of letters.now (paths_of paths.now.level
         paths.now.alphabet.now paths.now.before.now paths.now.after.now)) assertion.now
         complements.now) }
+    ensures within { IfOk result (λ _. ¬ MustBeLeftOpen (scene_of letters.now
+        (paths_of paths.now.level paths.now.alphabet.now paths.now.before.now
+        paths.now.after.now)) assertion.now complements.now) }
     ensures open { IfErr result (λ e. e ≢ Stop.Memory →
         MayBeLeftOpen (scene_of letters.now (paths_of paths.now.level
         paths.now.alphabet.now paths.now.before.now paths.now.after.now)) assertion.now
@@ -126,7 +134,7 @@ fn leaf_over(
 /// # Errors
 ///
 /// - `Limit` and `Refused` only where some counted term in the term has more reached places than the
-///   limit.
+///   limit, and one of them always where a complement in it has a part that tells more words.
 /// - `Memory` where there isn't memory.
 fn words_of(
     alloc: Global,
@@ -140,6 +148,9 @@ fn words_of(
         paths.now.before.now paths.now.after.now letters.now.blocks }
     ensures made { IfOk result (IsMade ⊥ letters.now (paths_of paths.now.level
         paths.now.alphabet.now paths.now.before.now paths.now.after.now) term.now) }
+    ensures within { IfOk result (λ _. ¬ ForcedInside (scene_of letters.now (paths_of
+        paths.now.level paths.now.alphabet.now paths.now.before.now paths.now.after.now))
+        (complements.now + 1) term.now) }
     ensures past { IfErr result (λ e. e ≢ Stop.Memory →
         ReachedInside (scene_of letters.now (paths_of paths.now.level paths.now.alphabet.now
         paths.now.before.now paths.now.after.now)) (complements.now + 1) term.now) }

@@ -1,11 +1,11 @@
 //! The paths of a flow by letters that are blocks of symbols.
-ghost use Rattle.std.specs.Prelude.{◌≡◌, ◌<◌, IfOk, All, length};
+ghost use Rattle.std.specs.Prelude.{◌≡◌, ◌<◌, ◌⊎◌, IfNone, IfOk, None, All, length};
 ghost use Rattle.std.specs.Option.{ForSome};
 ghost use Rattle.rela_graph.specs.Paths.{Paths};
 ghost use Rattle.rela_graph.specs.Topology.{symbol_at};
 ghost use Rattle.rela_nfa.specs.Relabelling.{Refines};
 ghost use Rattle.rela_engine.specs.Case.{AreBlockPaths, IsCase};
-ghost use Rattle.rela_engine.specs.FlowLetters.{AcceptsPaths, AreAt, AreLettersOf};
+ghost use Rattle.rela_engine.specs.FlowLetters.{AcceptsPaths, AreAt, AreLettersOf, kept_after, kept_before};
 ghost use Rattle.rela_engine.specs.LetterImages.{AreParents, IsReadOver};
 ghost use Rattle.rela_engine.specs.Seen.{AreFiner};
 
@@ -44,7 +44,9 @@ pub(crate) fn block_paths(
     requires case { IsCase case.now }
     requires letters { AreLettersOf case.now.alphabet.now case.now.pair.now letters.now }
     requires at { AreAt case.now.compiled.now.check.level letters.now }
-    ensures { IfOk result (λ found. ForSome found (AreBlockPaths case.now)) }
+    ensures paths { IfOk result (λ found. ForSome found (AreBlockPaths case.now)) }
+    ensures none { IfOk result (λ found. IfNone found
+        ((kept_before letters.now ≡ None) ⊎ (kept_after letters.now ≡ None))) }
 {
     let Case {
         compiled,

@@ -5,9 +5,9 @@ ghost use Rattle.rela_names.specs.Alphabet.{path_symbols};
 ghost use Rattle.rela_snapshot.specs.PairsLocated.{IsPairLocated};
 ghost use Rattle.rela_engine.specs.Case.{IsCase, IsRight};
 ghost use Rattle.rela_engine.specs.Compilation.{AreRelations};
-ghost use Rattle.rela_engine.specs.FlowLetters.{AreLettersOf};
+ghost use Rattle.rela_engine.specs.FlowLetters.{AreAt, AreLettersOf};
 ghost use Rattle.rela_engine.specs.RowOf.{RowOf};
-ghost use Rattle.rela_engine.specs.Scenes.{paths_of};
+ghost use Rattle.rela_blocks.specs.Scenes.{paths_of};
 
 use crate::by_letters::row_by_letters;
 use crate::by_sets::row_by_sets;
@@ -59,6 +59,7 @@ pub(crate) fn row_by_automata(
         (paths_of compiled.now.check.level alphabet.now pair.now.before pair.now.after)
         compiled.now.states) }
     ensures letters { AreLettersOf alphabet.now pair.now letters.new }
+    ensures there { AreAt compiled.now.check.level letters.old → letters.new ≡ letters.old }
 {
     let blocks = finer_blocks(
         alloc,
@@ -95,16 +96,10 @@ fn row_over<L: LabelSet>(
     requires fits { L.fits (block_count case.now.blocks.now) }
     ensures row { IfOk result (IsRight case.now) }
     ensures letters { AreLettersOf case.now.alphabet.now case.now.pair.now letters.new }
+    ensures there { AreAt case.now.compiled.now.check.level letters.old → letters.new ≡ letters.old }
 {
     if let Some(row) = row_by_letters::<L>(alloc, case, maker, letters)? {
         return Ok(row);
     }
-    row_by_sets::<L>(
-        alloc,
-        case.compiled,
-        case.relations,
-        case.pair,
-        case.alphabet,
-        case.blocks,
-    )
+    row_by_sets::<L>(alloc, case)
 }

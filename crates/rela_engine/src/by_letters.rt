@@ -51,6 +51,7 @@ pub(crate) fn row_by_letters<L: LabelSet>(
     requires fits { L.fits (block_count case.now.blocks.now) }
     ensures row { IfOk result (λ found. ForSome found (IsRight case.now)) }
     ensures letters { AreLettersOf case.now.alphabet.now case.now.pair.now letters.new }
+    ensures there { AreAt case.now.compiled.now.check.level letters.old → letters.new ≡ letters.old }
 {
     let level = case.compiled.level();
     letters.make_at(alloc, maker, case.pair, case.alphabet, level)?;

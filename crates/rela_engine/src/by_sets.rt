@@ -1,96 +1,56 @@
 //! The row of a check for a flow, by automata whose edges are labelled by sets of letters.
-ghost use Rattle.std.specs.Prelude.{◌≡◌, ◌+◌, IfOk, IfErr, length};
+ghost use Rattle.std.specs.Prelude.{◌≡◌, ◌+◌, IfOk, IfErr};
 ghost use Rattle.rela_compare.specs.Comparison.{ReachPairsBefore};
 ghost use Rattle.rela_labels.specs.Partition.{block_count};
 ghost use Rattle.rela_nfa.specs.Runs.{Accepts};
-ghost use Rattle.rela_snapshot.specs.PairsLocated.{IsPairLocated};
 ghost use Rattle.rela_translate.specs.Verdict.{Offends};
-ghost use Rattle.rela_engine.specs.Compilation.{AreRelations};
-ghost use Rattle.rela_engine.specs.RowOf.{MayBeOpen, RowOf, words_of};
-ghost use Rattle.rela_engine.specs.Scenes.{paths_of};
-ghost use Rattle.rela_engine.specs.Seen.{AreFiner};
+ghost use Rattle.rela_engine.specs.Case.{IsCase, IsRight, MayStayOpen};
+ghost use Rattle.rela_engine.specs.RowOf.{words_of};
 ghost use Rattle.rela_engine.specs.ToldSides.{HasSources, TellsOfSides, TellsOnSide};
 
+use crate::case::Case;
 use crate::compiled::Compiled;
 use crate::offence::{Offence, first_offence};
-use crate::relations::Relations;
 use crate::seen::{Form, Seen, see};
 use crate::witnesses::violated_row;
 use rela_labels::{LabelSet, Partition};
-use rela_names::Alphabet;
 use rela_nfa::BuildError;
+use rela_pairs::pass_limit;
 use rela_report::{Row, Side};
-use rela_snapshot::FlowPair;
 use std::alloc::{AllocError, Global};
 
-/// The row, by automata whose edges are labelled by sets of these blocks. Only where small ones pass
-/// the limit plain ones are made, and a row is left open only where these pass it too.
+/// The row of the case, by automata whose edges are labelled by sets of its blocks. Only where small
+/// ones pass the limit plain ones are made, and a row is left open only where these pass it too. The
+/// only error is want of memory.
 pub(crate) fn row_by_sets<L: LabelSet>(
     alloc: Global,
-    compiled: &Compiled<'_>,
-    relations: &Relations,
-    pair: &FlowPair,
-    alphabet: &Alphabet,
-    blocks: &Partition,
+    case: &Case<'_, '_>,
 ) -> Result<Row, AllocError>
-    requires alphabet { length alphabet.now ≡ compiled.now.locations }
-    requires located { IsPairLocated alphabet.now compiled.now.check.level pair.now }
-    requires relations { AreRelations compiled.now relations.now }
-    requires blocks { AreFiner compiled.now.blocks (length alphabet.now) compiled.now.check.level
-        pair.now.before pair.now.after blocks.now }
-    requires fits { L.fits (block_count blocks.now) }
-    ensures { IfOk result (RowOf compiled.now.check (length alphabet.now)
-        (paths_of compiled.now.check.level alphabet.now pair.now.before pair.now.after)
-        compiled.now.states) }
+    requires case { IsCase case.now }
+    requires fits { L.fits (block_count case.now.blocks.now) }
+    ensures { IfOk result (IsRight case.now) }
 {
-    match row_by::<L>(
-        alloc,
-        compiled,
-        relations,
-        pair,
-        alphabet,
-        blocks,
-        Form::Small,
-    ) {
+    match row_by::<L>(alloc, case, Form::Small) {
         Ok(row) => Ok(row),
-        Err(BuildError::Limit) => plain_row::<L>(
-            alloc, compiled, relations, pair, alphabet, blocks,
-        ),
-        Err(BuildError::Memory) => Err(AllocError),
+        Err(error) => {
+            pass_limit(error)?;
+            plain_row::<L>(alloc, case)
+        }
     }
 }
 
-/// The row by plain automata, left open where they pass the limit.
-fn plain_row<L: LabelSet>(
-    alloc: Global,
-    compiled: &Compiled<'_>,
-    relations: &Relations,
-    pair: &FlowPair,
-    alphabet: &Alphabet,
-    blocks: &Partition,
-) -> Result<Row, AllocError>
-    requires alphabet { length alphabet.now ≡ compiled.now.locations }
-    requires located { IsPairLocated alphabet.now compiled.now.check.level pair.now }
-    requires relations { AreRelations compiled.now relations.now }
-    requires blocks { AreFiner compiled.now.blocks (length alphabet.now) compiled.now.check.level
-        pair.now.before pair.now.after blocks.now }
-    requires fits { L.fits (block_count blocks.now) }
-    ensures { IfOk result (RowOf compiled.now.check (length alphabet.now)
-        (paths_of compiled.now.check.level alphabet.now pair.now.before pair.now.after)
-        compiled.now.states) }
+/// The row by plain automata, left open where they pass the limit. The only error is want of memory.
+fn plain_row<L: LabelSet>(alloc: Global, case: &Case<'_, '_>) -> Result<Row, AllocError>
+    requires case { IsCase case.now }
+    requires fits { L.fits (block_count case.now.blocks.now) }
+    ensures { IfOk result (IsRight case.now) }
 {
-    match row_by::<L>(
-        alloc,
-        compiled,
-        relations,
-        pair,
-        alphabet,
-        blocks,
-        Form::Plain,
-    ) {
+    match row_by::<L>(alloc, case, Form::Plain) {
         Ok(row) => Ok(row),
-        Err(BuildError::Limit) => Ok(Row::Undecided),
-        Err(BuildError::Memory) => Err(AllocError),
+        Err(error) => {
+            pass_limit(error)?;
+            Ok(Row::Undecided)
+        }
     }
 }
 
@@ -101,50 +61,34 @@ fn plain_row<L: LabelSet>(
 /// - `Limit` where an image, or the comparison of the two, passes the check's limit. The row of plain
 ///   automata may then be left open.
 /// - `Memory` where there isn't memory.
-fn row_by<L: LabelSet>(
-    alloc: Global,
-    compiled: &Compiled<'_>,
-    relations: &Relations,
-    pair: &FlowPair,
-    alphabet: &Alphabet,
-    blocks: &Partition,
-    form: Form,
-) -> Result<Row, BuildError>
-    requires alphabet { length alphabet.now ≡ compiled.now.locations }
-    requires located { IsPairLocated alphabet.now compiled.now.check.level pair.now }
-    requires relations { AreRelations compiled.now relations.now }
-    requires blocks { AreFiner compiled.now.blocks (length alphabet.now) compiled.now.check.level
-        pair.now.before pair.now.after blocks.now }
-    requires fits { L.fits (block_count blocks.now) }
-    ensures row { IfOk result (RowOf compiled.now.check (length alphabet.now)
-        (paths_of compiled.now.check.level alphabet.now pair.now.before pair.now.after)
-        compiled.now.states) }
+fn row_by<L: LabelSet>(alloc: Global, case: &Case<'_, '_>, form: Form) -> Result<Row, BuildError>
+    requires case { IsCase case.now }
+    requires fits { L.fits (block_count case.now.blocks.now) }
+    ensures row { IfOk result (IsRight case.now) }
     ensures limit { IfErr result (λ e. e ≡ BuildError.Limit → form ≡ Form.Plain →
-        MayBeOpen compiled.now.check (length alphabet.now)
-        (paths_of compiled.now.check.level alphabet.now pair.now.before pair.now.after)
-        compiled.now.states) }
+        MayStayOpen case.now) }
 {
     // By what each compiled check keeps, its blocks are of its symbols.
-    let _ = compiled.blocks();
+    let _ = case.compiled.blocks();
     let before = see::<L>(
         alloc,
-        compiled,
-        relations.before(),
-        &pair.before,
-        alphabet,
-        blocks,
+        case.compiled,
+        case.relations.before(),
+        &case.pair.before,
+        case.alphabet,
+        case.blocks,
         form,
     )?;
     let after = see::<L>(
         alloc,
-        compiled,
-        relations.after(),
-        &pair.after,
-        alphabet,
-        blocks,
+        case.compiled,
+        case.relations.after(),
+        &case.pair.after,
+        case.alphabet,
+        case.blocks,
         form,
     )?;
-    row_of_sides(alloc, compiled, &before, &after, blocks)
+    row_of_sides(alloc, case.compiled, &before, &after, case.blocks)
 }
 
 /// The row, where both sides are seen so: compliant, or that of the first word that offends.

@@ -5,19 +5,19 @@ ghost use Rattle.std.specs.Option.{ForSome};
 ghost use Rattle.rela_labels.specs.Partition.{block_count};
 ghost use Rattle.rela_names.specs.Alphabet.{path_symbols};
 ghost use Rattle.rela_translate.specs.Zones.{Before, After};
-ghost use Rattle.rela_engine.specs.Blocks.{AreBlocks};
+ghost use Rattle.rela_blocks.specs.Blocks.{AreBlocks};
 ghost use Rattle.rela_engine.specs.Compilation.{AreRelations, IsCompiled, MustPassLimit, PassesLimit};
 ghost use Rattle.rela_engine.specs.Differing.{AreDifferences, SamePairsOn};
 ghost use Rattle.rela_engine.specs.Reading.{Realises};
-ghost use Rattle.rela_engine.specs.Scenes.{lettering_of};
+ghost use Rattle.rela_blocks.specs.Scenes.{lettering_of};
 ghost use Rattle.rela_engine.specs.Sides.{SamePairs, TreatsSidesAlike};
 
-use crate::blocks::blocks_of;
 use crate::differing::{Differing, compare_relations};
-use crate::markers::count_markers;
+use crate::limits::pass_stop;
 use crate::relation::relation_of;
 use crate::relations::Relations;
 use crate::sides::treats_sides_alike;
+use rela_blocks::{check_blocks, check_letters};
 use rela_build::{Letters, Stop};
 use rela_complement::LimitedComplements;
 use rela_labels::{Partition, WideSet};
@@ -104,7 +104,7 @@ pub fn compile<'a>(
     ensures states { IfOk result (λ compiled. compiled.states ≡ states) }
     ensures compiled { IfOk result IsCompiled }
 {
-    let blocks = blocks_of(alloc, check, alphabet)?;
+    let blocks = check_blocks(alloc, check, alphabet)?;
     let relations = relations_over(alloc, check, alphabet, &blocks, states)?;
     let alike = treats_sides_alike(check.body());
     let locations = alphabet.drop_symbol();
@@ -196,29 +196,14 @@ fn relations_over(
       relations = relations;
     })) }
 {
-    let letters = letters_of(alloc, check, alphabet, blocks)?;
+    let letters = check_letters(alloc, check, alphabet, blocks)?;
     match built(alloc, check, alphabet, &letters, states) {
         Ok(relations) => Ok(Some(relations)),
-        Err(Stop::Limit | Stop::Refused(_)) => Ok(None),
-        Err(Stop::Memory) => Err(AllocError),
+        Err(stop) => {
+            pass_stop(stop)?;
+            Ok(None)
+        }
     }
-}
-
-/// The letters of the check's relations.
-pub(crate) fn letters_of<'a>(
-    alloc: Global,
-    check: &'a Check,
-    alphabet: &Alphabet,
-    blocks: &'a Partition,
-) -> Result<Letters<'a>, AllocError>
-    requires blocks { AreBlocks check.now (length alphabet.now) blocks.now }
-    requires listed { All (λ set. All (λ s. s < path_symbols alphabet.now) set.members)
-        check.now.classes }
-    ensures { IfOk result (λ letters.
-        letters ≡ lettering_of check.now (length alphabet.now) blocks.now) }
-{
-    let markers = count_markers(check.body());
-    Letters::new(alloc, check.classes(), alphabet.len(), markers, blocks)
 }
 
 /// The check's relations over these letters, of which complements of equal parts are made once. Where

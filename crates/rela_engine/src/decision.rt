@@ -9,15 +9,14 @@ ghost use Rattle.rela_restriction.specs.Excess.{IsReadAs};
 ghost use Rattle.rela_snapshot.specs.PairsLocated.{IsPairLocated};
 ghost use Rattle.rela_translate.specs.Verdict.{Meets};
 ghost use Rattle.rela_engine.specs.Differing.{path_symbols_of};
-ghost use Rattle.rela_engine.specs.FlowLetters.{AreLettersOf};
+ghost use Rattle.rela_engine.specs.FlowLetters.{AreAt, AreLettersOf};
 ghost use Rattle.rela_engine.specs.RowOf.{RowOf};
-ghost use Rattle.rela_engine.specs.Scenes.{paths_of};
+ghost use Rattle.rela_blocks.specs.Scenes.{paths_of};
 
 use crate::by_automata::row_by_automata;
 use crate::compiled::Compiled;
-use crate::finer_blocks::push_locations;
 use crate::flow_letters::FlowLetters;
-use rela_graph::{Graph, Node};
+use rela_graph::{Graph, Node, push_locations};
 use rela_labels::Partition;
 use rela_letter_paths::LetterPaths;
 use rela_names::{Alphabet, Level, Symbol};
@@ -55,6 +54,7 @@ pub fn decide_with_letters(
         (paths_of compiled.now.check.level alphabet.now pair.now.before pair.now.after)
         compiled.now.states) }
     ensures letters { AreLettersOf alphabet.now pair.now letters.new }
+    ensures there { AreAt compiled.now.check.level letters.old → letters.new ≡ letters.old }
 {
     // Equal outlines don't decide a row that has to be left open.
     let Some(relations) = compiled.relations() else {

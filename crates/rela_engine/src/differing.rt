@@ -9,6 +9,7 @@ ghost use Rattle.rela_engine.specs.Differing.{AreDifferences, HaveNoneOn};
 
 use rela_labels::{Partition, WideSet};
 use rela_nfa::BuildError;
+use rela_pairs::pass_limit;
 use rela_restriction::Excess;
 use rela_trans::Transducer;
 use std::alloc::{AllocError, Global};
@@ -61,8 +62,10 @@ pub(crate) fn compare_relations(
     }
     match compared(alloc, first, second, blocks) {
         Ok(found) => Ok(Some(found)),
-        Err(BuildError::Limit) => Ok(None),
-        Err(BuildError::Memory) => Err(AllocError),
+        Err(error) => {
+            pass_limit(error)?;
+            Ok(None)
+        }
     }
 }
 

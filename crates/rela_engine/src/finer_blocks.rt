@@ -4,7 +4,7 @@ ghost use Rattle.rela_graph.specs.Alone.{StandsAlone};
 ghost use Rattle.rela_graph.specs.Topology.{symbol_at};
 ghost use Rattle.rela_engine.specs.Seen.{AreFiner};
 
-use rela_graph::{Graph, Node};
+use rela_graph::{Graph, push_locations};
 use rela_labels::Partition;
 use rela_names::{Level, Symbol};
 use std::alloc::{AllocError, Global};
@@ -31,30 +31,4 @@ pub(crate) fn finer_blocks(
     push_locations(&mut symbols, before.nodes(), level)?;
     push_locations(&mut symbols, after.nodes(), level)?;
     blocks.with_alone(alloc, symbols.as_slice())
-}
-
-/// Appends the location of each node.
-pub(crate) fn push_locations(
-    symbols: &mut Vec<Symbol>,
-    nodes: &[Node],
-    level: Level,
-) -> Result<(), AllocError>
-    ensures { IfOk result (λ _. symbols.new.items ≡ symbols.old.items
-        ++ map (symbol_at level) nodes.now) }
-{
-    for node in nodes {
-        symbols.push(location_of(node, level))?;
-    }
-    Ok(())
-}
-
-/// The node's location at the level.
-fn location_of(node: &Node, level: Level) -> Symbol
-    ensures { result ≡ symbol_at level node.now }
-{
-    match level {
-        Level::Interface => node.interface,
-        Level::Device => node.device,
-        Level::Group => node.group,
-    }
 }

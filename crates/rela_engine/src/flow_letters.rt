@@ -1,5 +1,5 @@
 //! The paths of a flow by letters that are symbols, kept for the checks that follow.
-ghost use Rattle.std.specs.Prelude.{◌≡◌, IfOk, OnOk, IfSome, IfNone, IsTrue, Some, None};
+ghost use Rattle.std.specs.Prelude.{◌≡◌, ◌↔◌, IfOk, OnErr, OnOk, IfSome, IfNone, IsTrue, Some, None};
 ghost use Rattle.std.specs.Option.{ForSome};
 ghost use Rattle.rela_names.specs.Alphabet.{path_symbols};
 ghost use Rattle.rela_snapshot.specs.Located.{IsLocated};
@@ -87,6 +87,8 @@ impl FlowLetters {
         requires letters { AreLettersOf alphabet.now pair.now self.old }
         ensures letters { AreLettersOf alphabet.now pair.now self.new }
         ensures at { OnOk result (AreAt level self.new) }
+        ensures there { AreAt level self.old → self.new ≡ self.old }
+        ensures unmade { OnErr result (self.new ≡ self.old) }
     {
         if self.is_at(level) {
             return Ok(());
@@ -98,7 +100,7 @@ impl FlowLetters {
 
     /// Whether automata of this level are kept.
     fn is_at(&self, level: Level) -> bool
-        ensures { IsTrue result → AreAt level self.now }
+        ensures { IsTrue result ↔ AreAt level self.now }
     {
         match &self.made {
             Some(sides) => sides.level == level,

@@ -1,5 +1,6 @@
 //! The first word that offends against a check, by images with one letter on each edge.
-ghost use Rattle.std.specs.Prelude.{true, false, IfOk, IfNone, IfSome};
+ghost use Rattle.std.specs.Prelude.{◌≡◌, ◌+◌, true, false, IfErr, IfOk, IfNone, IfSome};
+ghost use Rattle.rela_letter_nfa.specs.Differences.{ReachPairsBefore};
 ghost use Rattle.rela_letter_nfa.specs.Runs.{Accepts};
 ghost use Rattle.rela_names.specs.Shortlex.{First};
 ghost use Rattle.rela_translate.specs.Verdict.{AreMet, Offends};
@@ -9,12 +10,13 @@ ghost use Rattle.rela_engine.specs.RowOf.{words_of};
 use crate::offence::Offence;
 use crate::told::Told;
 use rela_letter_nfa::{BuildError, Difference, LetterNfa, Sought, Which, first_difference};
+use rela_pairs::pass_limit;
 use rela_report::Side;
 use std::alloc::{AllocError, Global};
 
 /// What the two images tell of a check, where `at_most` says that only words offend which the image
-/// after alone has. Nothing where the comparison would meet more than `states` pairs of sets of
-/// states.
+/// after alone has. Nothing only where words that do not come after the first that offends reach more
+/// than `states` pairs of sets of states. The only error is want of memory.
 pub(crate) fn compare(
     alloc: Global,
     at_most: bool,
@@ -22,13 +24,17 @@ pub(crate) fn compare(
     after: &LetterNfa,
     states: usize,
 ) -> Result<Told, AllocError>
-    ensures { IfOk result (TellsOfImages at_most (Accepts before.now) (Accepts after.now)) }
+    ensures told { IfOk result (TellsOfImages at_most (Accepts before.now) (Accepts after.now)) }
+    ensures open { IfOk result (λ told. told ≡ Told.Open → ReachPairsBefore before.now after.now
+        (Offends at_most (Accepts before.now) (Accepts after.now)) (states + 1)) }
 {
     match first_letter_offence(alloc, at_most, before, after, states) {
         Ok(None) => Ok(Told::Met),
         Ok(Some(offence)) => Ok(Told::Differ(offence)),
-        Err(BuildError::Limit) => Ok(Told::Open),
-        Err(BuildError::Memory) => Err(AllocError),
+        Err(error) => {
+            pass_limit(error)?;
+            Ok(Told::Open)
+        }
     }
 }
 
@@ -37,7 +43,8 @@ pub(crate) fn compare(
 ///
 /// # Errors
 ///
-/// - `Limit` only where words reach more than `states` pairs of sets of states before that word.
+/// - `Limit` only where words that do not come after that word reach more than `states` pairs of sets
+///   of states of the two images.
 /// - `Memory` where there isn't memory for them.
 fn first_letter_offence(
     alloc: Global,
@@ -52,6 +59,9 @@ fn first_letter_offence(
         First (Offends at_most (Accepts before.now) (Accepts after.now)) offence.letters)) }
     ensures side { IfOk result (λ found. IfSome found (λ offence.
         words_of offence.side (Accepts before.now) (Accepts after.now) offence.letters)) }
+    ensures limit { IfErr result (λ e. e ≡ BuildError.Limit →
+        ReachPairsBefore before.now after.now
+        (Offends at_most (Accepts before.now) (Accepts after.now)) (states + 1)) }
 {
     if at_most {
         first_new_word(alloc, before, after, states)
@@ -73,6 +83,9 @@ fn first_new_word(
         First (Offends true (Accepts before.now) (Accepts after.now)) offence.letters)) }
     ensures side { IfOk result (λ found. IfSome found (λ offence.
         words_of offence.side (Accepts before.now) (Accepts after.now) offence.letters)) }
+    ensures limit { IfErr result (λ e. e ≡ BuildError.Limit →
+        ReachPairsBefore before.now after.now
+        (Offends true (Accepts before.now) (Accepts after.now)) (states + 1)) }
 {
     match first_difference(alloc, after, before, Sought::FirstAlone, states)? {
         None => Ok(None),
@@ -96,6 +109,9 @@ fn first_other_word(
         First (Offends false (Accepts before.now) (Accepts after.now)) offence.letters)) }
     ensures side { IfOk result (λ found. IfSome found (λ offence.
         words_of offence.side (Accepts before.now) (Accepts after.now) offence.letters)) }
+    ensures limit { IfErr result (λ e. e ≡ BuildError.Limit →
+        ReachPairsBefore before.now after.now
+        (Offends false (Accepts before.now) (Accepts after.now)) (states + 1)) }
 {
     match first_difference(alloc, before, after, Sought::EitherAlone, states)? {
         None => Ok(None),

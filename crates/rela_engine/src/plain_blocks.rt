@@ -1,17 +1,15 @@
 //! The blocks of path symbols by which an assertion is decided for a flow.
 ghost use Rattle.std.specs.Prelude.{◌≡◌, ℕ, ◌<◌, ◌≤◌, IfOk, All, length};
-ghost use Rattle.rela_build.specs.Lettering.{AreListedAlike};
-ghost use Rattle.rela_labels.specs.Partition.{Together};
 ghost use Rattle.rela_names.specs.Alphabet.{path_symbols};
 ghost use Rattle.rela_snapshot.specs.PairsLocated.{IsPairLocated};
 ghost use Rattle.rela_rir.specs.NamedSymbols.{symbols_of_terms};
 ghost use Rattle.rela_engine.specs.PlainBlocks.{ArePlainBlocks, symbols_apart};
 
-use crate::blocks::split_by_classes;
-use crate::finer_blocks::push_locations;
 use crate::named::push_symbols;
 use crate::terms::{first_term, second_term};
-use rela_labels::{Partition, Splitter};
+use rela_blocks::blocks_of_classes;
+use rela_graph::push_locations;
+use rela_labels::Partition;
 use rela_names::{Alphabet, Level, Symbol};
 use rela_rir::{Assertion, SymbolSet};
 use rela_snapshot::FlowPair;
@@ -40,24 +38,6 @@ pub(crate) fn plain_blocks(
     let coarse = blocks_of_classes(alloc, classes, alphabet.len())?;
     let apart = set_apart(alloc, assertion, level, pair, alphabet)?;
     coarse.with_alone(alloc, apart.as_slice())
-}
-
-/// This many symbols in blocks: two share one where each class lists both or neither.
-fn blocks_of_classes(
-    alloc: Global,
-    classes: &[SymbolSet],
-    symbols: u32,
-) -> Result<Partition, AllocError>
-    requires some { 1 ≤ symbols }
-    requires listed { All (λ set. All (λ s. s < symbols) set.members) classes.now }
-    ensures symbols { IfOk result (λ blocks. length blocks ≡ symbols) }
-    ensures split { IfOk result (λ blocks. (s t : ℕ) → s < symbols → t < symbols →
-        Together blocks s t → AreListedAlike classes.now s t) }
-{
-    let whole = Partition::new(alloc, symbols)?;
-    let mut splitter = Splitter::of(alloc, &whole)?;
-    split_by_classes(alloc, &mut splitter, classes)?;
-    splitter.into_partition(alloc)
 }
 
 /// The symbols that are to be set apart.

@@ -14,7 +14,7 @@ ghost use Rattle.rela_rir.specs.Built.{PathStates};
 ghost use Rattle.rela_trans.specs.Machine.{IsMachine};
 ghost use Rattle.rela_trans.specs.Runs.{Relates};
 ghost use Rattle.rela_engine.specs.Reading.{Recognises, Realises, RealisesFrom};
-ghost use Rattle.rela_engine.specs.Scenes.{arrivals_of};
+ghost use Rattle.rela_blocks.specs.Scenes.{arrivals_of};
 ghost use Rattle.rela_engine.specs.Seen.{AreFiner, AreLeastSymbols, AreSeen, ImagePasses, KeepPlaces, LeadAlike, NodesStandAlone, machine_of};
 
 use crate::compiled::Compiled;

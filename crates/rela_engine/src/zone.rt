@@ -12,8 +12,7 @@ ghost use Rattle.rela_engine.specs.Spelled.{IsLeastBy};
 ghost use Rattle.rela_engine.specs.Zone.{IsZoneText, ZoneMustPassLimit, ZonePassesLimit};
 
 use crate::automaton_lines::automaton_text;
-use crate::blocks::blocks_of;
-use crate::compiled::letters_of;
+use rela_blocks::{check_blocks, check_letters};
 use rela_build::{Builder, Letters, NoPaths, Stop};
 use rela_complement::{LimitedComplements, least_over};
 use rela_labels::WideSet;
@@ -52,8 +51,8 @@ pub fn zone_text(
     ensures past { IfErr result (λ e. e ≡ BuildError.Limit →
         ZonePassesLimit check.now (length alphabet.now) states) }
 {
-    let blocks = blocks_of(alloc, check, alphabet)?;
-    let letters = letters_of(alloc, check, alphabet, &blocks)?;
+    let blocks = check_blocks(alloc, check, alphabet)?;
+    let letters = check_letters(alloc, check, alphabet, &blocks)?;
     let zone = zone_term(alloc, check, alphabet)?;
     let least = least_automaton(alloc, &zone, &letters, states)?;
     let text = automaton_text(alloc, &least, &blocks, alphabet)?;
@@ -127,7 +126,8 @@ fn plain_automaton(
 
 /// The error where a term isn't built: `Limit` but where there isn't memory.
 fn error_of(stop: Stop) -> BuildError
-    ensures { result ≡ BuildError.Limit → stop ≢ Stop.Memory }
+    ensures limit { result ≡ BuildError.Limit → stop ≢ Stop.Memory }
+    ensures memory { result ≡ BuildError.Memory → stop ≡ Stop.Memory }
 {
     match stop {
         Stop::Limit | Stop::Refused(_) => BuildError::Limit,

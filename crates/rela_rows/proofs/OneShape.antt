@@ -7,11 +7,11 @@ use Rattle.std.proofs.lemmas.Bool.{and_parts, cases_Bool, cond-false, eqb-true, 
 use Rattle.std.proofs.lemmas.List.Elements.{All-append, All-map}
 use Rattle.std.proofs.lemmas.Option.{slice_get_read}
 use Rattle.rela_build.specs.Reading.{read_by}
-use Rattle.rela_engine.specs.Blocks.{AreBlocks}
+use Rattle.rela_blocks.specs.Blocks.{AreBlocks}
 use Rattle.rela_engine.specs.Compilation.{Compilation, MustPassLimit}
 use Rattle.rela_engine.specs.Reading.{Realises}
 use Rattle.rela_engine.specs.RowOf.{MustBeOpen}
-use Rattle.rela_engine.specs.Scenes.{paths_of}
+use Rattle.rela_blocks.specs.Scenes.{paths_of}
 use Rattle.rela_engine.proofs.OpenRows.{not_forced}
 use Rattle.rela_graph.specs.Paths.{Paths, locations}
 use Rattle.rela_graph.specs.Topology.{Topology, IsTopology, symbol_at}

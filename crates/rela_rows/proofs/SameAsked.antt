@@ -4,7 +4,7 @@ use Rattle.std.specs.List.{All, Contains}
 use Rattle.std.proofs.lemmas.List.Elements.{All-contains}
 use Rattle.rela_build.specs.PathSets.{Paths}
 use Rattle.rela_engine.specs.RowOf.{IsLast, RowOf, Says}
-use Rattle.rela_engine.specs.Scenes.{after_image, before_image, paths_of, scene}
+use Rattle.rela_blocks.specs.Scenes.{after_image, before_image, paths_of, scene}
 use Rattle.rela_engine.specs.declared.compiled.Compiled.{Compiled}
 use Rattle.rela_names.specs.declared.level.Level.{Level}
 use Rattle.rela_report.specs.declared.rows.Row.{Row}

@@ -10,7 +10,8 @@ use Rattle.rela_engine.specs.declared.compiled.Compiled.{Compiled}
 use Rattle.rela_flows.specs.declared.planning.PlannedRow.{PlannedRow}
 use Rattle.rela_flows.specs.declared.planning.PlannedRow.TheVariants as planned
 use Rattle.rela_engine.specs.RowOf.{RowOf}
-use Rattle.rela_engine.specs.Scenes.{SamePathSets, paths_of}
+use Rattle.rela_blocks.specs.Scenes.{paths_of}
+use Rattle.rela_engine.specs.Scenes.{SamePathSets}
 use Rattle.rela_graph.specs.Outline.{Outline, outline_of}
 use Rattle.rela_graph.specs.Paths.{Paths, Arrives, Undelivered, locations}
 use Rattle.rela_graph.specs.Topology.{Topology}

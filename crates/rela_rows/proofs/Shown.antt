@@ -3,7 +3,7 @@ use Rattle.std.proofs.Common.{◌≡◌, ℕ, ◌+◌, ◌<◌, ◌≤◌, ◌�
 use Rattle.std.specs.List.{All}
 use Rattle.std.proofs.lemmas.List.Elements.{All-nil, All-cons, All-append, All-weaker}
 use Rattle.rela_engine.specs.RowOf.{Says}
-use Rattle.rela_engine.specs.Scenes.{paths_of}
+use Rattle.rela_blocks.specs.Scenes.{paths_of}
 use Rattle.rela_graph.specs.Paths.{Paths as GraphPaths}
 use Rattle.rela_graph.specs.Topology.{Topology}
 use Rattle.rela_names.specs.declared.level.Level.{Level}

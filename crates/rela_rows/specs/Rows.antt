@@ -3,7 +3,7 @@
 use Rattle.std.specs.Prelude.{◌≡◌, ℕ, ◌⊎◌, List, length, map, slice_get, IsSomeAnd, All}
 use Rattle.std.specs.List.{AllZip}
 use Rattle.rela_engine.specs.RowOf.{RowOf}
-use Rattle.rela_engine.specs.Scenes.{paths_of}
+use Rattle.rela_blocks.specs.Scenes.{paths_of}
 use Rattle.rela_expand.specs.Listed.{ListsPathSymbols}
 use Rattle.rela_flows.specs.Plan.{Plan}
 use Rattle.rela_flows.specs.declared.planning.PlannedRow.{PlannedRow}

@@ -3,7 +3,7 @@ use Rattle.std.specs.Prelude.{◌≡◌, ℕ, ◌==◌, ◌&&◌, All, Bool, Lis
 use Rattle.std.specs.HashMap.{HashMap, get}
 use Rattle.rela_engine.specs.Compilation.{Compilation}
 use Rattle.rela_engine.specs.RowOf.{RowOf}
-use Rattle.rela_engine.specs.Scenes.{paths_of}
+use Rattle.rela_blocks.specs.Scenes.{paths_of}
 use Rattle.rela_flows.specs.declared.planning.PlannedRow.{PlannedRow}
 use Rattle.rela_report.specs.Text.{VerdictHasTexts}
 use Rattle.rela_report.specs.declared.rows.ReportRow.{ReportRow}

@@ -3,7 +3,7 @@
 ghost use Rattle.std.specs.Prelude.{◌≡◌, ◌<◌, ℕ, List, IfOk, length};
 ghost use Rattle.rela_engine.specs.FlowLetters.{AreLettersOf};
 ghost use Rattle.rela_engine.specs.RowOf.{RowOf};
-ghost use Rattle.rela_engine.specs.Scenes.{paths_of};
+ghost use Rattle.rela_blocks.specs.Scenes.{paths_of};
 ghost use Rattle.rela_names.specs.Alphabet.{path_symbols};
 ghost use Rattle.rela_report.specs.Text.{VerdictHasTexts};
 ghost use Rattle.rela_snapshot.specs.PairsLocated.{ArePairsLocated, IsPairLocated};

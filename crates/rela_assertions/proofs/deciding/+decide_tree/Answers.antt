@@ -39,7 +39,7 @@ decide_tree-requires-in-Or-2 t c =
 pub returns-in_ok-push-in-Leaf : goal.returns-in_ok-push-in-Leaf
 returns-in_ok-push-in-Leaf t c = record {
   decided = leaf_decided _ _ c.args.tree.now c.in-Leaf.assertion c.args.leaves.now.items c.push.new.self.items c.in_ok-leaf-in-Leaf.leaf c.value-value.result c.in-Leaf.is
-      c.in_ok-push-in-Leaf.ensures.items c.in_ok-leaf-in-Leaf.ensures c.value-value.ensures;
+      c.in_ok-push-in-Leaf.ensures.items c.in_ok-leaf-in-Leaf.ensures.leaf c.value-value.ensures;
 }
 
 pub returns-in_ok-second-in-And : goal.returns-in_ok-second-in-And

@@ -19,5 +19,5 @@ judge_one-requires-clause-met c =
     (subst (λ (l : Level). (w : List ℕ) → Paths pre l names w ↔ Paths post l names w) c.level.ensures
     (c.same_outline_same_paths.ensures (subst (λ (l : Level). outline_of l pre ≡ outline_of l post) (sym c.level.ensures) c.requires.alike.1) names))
 
-pub returns-in-Err-Limit-clause-judged : goal.returns-in-Err-Limit-clause-judged
-returns-in-Err-Limit-clause-judged c listed = c.in-Err-Limit.ensures.limit c.in-Err-Limit.field-0-is
+pub returns-in_ok-pass_limit-in-Err-clause-judged : goal.returns-in_ok-pass_limit-in-Err-clause-judged
+returns-in_ok-pass_limit-in-Err-clause-judged c listed = c.in-Err.ensures.limit c.in_ok-pass_limit-in-Err.ensures.limit

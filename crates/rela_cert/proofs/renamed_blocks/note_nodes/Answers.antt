@@ -12,10 +12,10 @@ loop-k-preserved c places count were =
     let nodes = c.args.nodes.now in
     let at = symbol_at c.args.level in
     let k = c.loop-k.k in
-    let place = c.location_of-place.result in
+    let place = c.symbol_at-place.result in
     let before = places ++ map at (take k nodes) in
     let first : AreFirstPlaces before c.loop-k.first = c.loop-k.invariant places count were in
-    let more : before ++ place ∷ [] ≡ places ++ map at (take (k + 1) nodes) = behind at places nodes k place _ c.loop-k-test.true c.location_of-place.ensures in
+    let more : before ++ place ∷ [] ≡ places ++ map at (take (k + 1) nodes) = behind at places nodes k place _ c.loop-k-test.true c.symbol_at-place.ensures in
     elim c.if-not-contains_key.branch [
       | then-not-contains_key+in_ok-insert w ↦
           let many : c.args.passed + k ≡ length before = so_many at places nodes k c.args.passed count c.loop-k.auto.k-end in

@@ -9,5 +9,5 @@ row_blocks-requires-clause-blocks c =
 pub flow_images-requires-clause-relations : goal.flow_images-requires-clause-relations
 flow_images-requires-clause-relations c = c.requires.kept.1.relations
 
-pub returns-in-Err-Limit : goal.returns-in-Err-Limit
-returns-in-Err-Limit c listed = c.in-Err-Limit.ensures.limit c.in-Err-Limit.field-0-is
+pub returns : goal.returns
+returns c listed = c.in-Err.ensures.limit c.in_ok-pass_limit-in-Err.ensures.limit

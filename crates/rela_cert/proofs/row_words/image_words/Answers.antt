@@ -81,12 +81,12 @@ returns-in-Ok-clause-excused c =
     (subst (λ (at_most : Bool). Offends at_most (Accepts a) (Accepts b) offends.0) c.at_most.ensures offends.2)))
     c.words_if_met.ensures.offends
 
-pub returns-in-Err-Limit-clause-excused : goal.returns-in-Err-Limit-clause-excused
-returns-in-Err-Limit-clause-excused c =
+pub returns-clause-excused : goal.returns-clause-excused
+returns-clause-excused c =
     let row = c.args.row.now in
     let blocks = c.args.letters.now.blocks in
     many_excused row.check.now (length row.alphabet.now) (paths_at row) blocks c.requires.letters.blocks.letters c.args.states
     c.args.both.now.before c.args.both.now.after c.requires.before c.requires.after c.in_ok-all.all
     (all_hold blocks (symbols_at row) c.requires.letters.blocks.letters.symbols c.in_ok-all.all (c.in_ok-all.ensures.size ∙ c.count.ensures)
     (λ k below. c.in_ok-all.ensures.all k (omega (arith, below, c.count.ensures))))
-    (c.in-Err-Limit.ensures.limit c.in-Err-Limit.field-0-is)
+    (c.in-Err.ensures.limit c.in_ok-pass_limit-in-Err.ensures.limit)

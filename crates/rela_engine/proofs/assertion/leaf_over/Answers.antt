@@ -6,8 +6,8 @@ use Rattle.rela_build.specs.PathSets.{scene_of}
 use Rattle.rela_rir.specs.Assertions.{MayBeLeftOpen}
 use Rattle.rela_rir.specs.declared.term.PathTerm.{PathTerm}
 use Rattle.rela_engine.specs.Compared.{TellsVerdict}
-use Rattle.rela_engine.specs.Scenes.{paths_of}
-use Rattle.rela_engine.proofs.RightLeaves.{exit, open_by_first, open_by_pairs, open_by_second, right, same_letters, stopped_by_pairs, verdict_below}
+use Rattle.rela_blocks.specs.Scenes.{paths_of}
+use Rattle.rela_engine.proofs.RightLeaves.{exit, open_by_first, open_by_pairs, open_by_second, right, same_letters, stopped_by_pairs, untold, verdict_below}
 use Rattle.rela_engine.proofs.assertion.leaf_over.Goals as goal
 
 pub words_of-requires-clause-alone : goal.words_of-requires-clause-alone
@@ -46,6 +46,12 @@ returns-clause-leaf c =
     (subst (λ (x : PathTerm). IsMade ⊥ l flow x a) c.first_term.ensures c.in_ok-first.ensures.made, subst (λ (y : PathTerm). IsMade ⊥ l flow y b) c.second_term.ensures c.in_ok-second.ensures.made)
     c.args.complements.now c.in_ok-verdict.verdict c.in_ok-verdict.ensures.same c.in_ok-verdict.ensures.first c.in_ok-verdict.ensures.side c.in_ok-leaf_of.field-0
     (subst (λ (blocks : List ℕ). TellsVerdict blocks c.in_ok-verdict.verdict c.in_ok-leaf_of.field-0) c.partition.ensures c.in_ok-leaf_of.ensures)
+
+pub returns-clause-within : goal.returns-clause-within
+returns-clause-within c =
+    let flow = paths_of c.args.paths.now.level c.args.paths.now.alphabet.now c.args.paths.now.before.now c.args.paths.now.after.now in
+    untold (scene_of c.args.letters.now flow) c.args.assertion.now c.args.complements.now c.first_term.result.now c.second_term.result.now
+    c.first_term.ensures c.second_term.ensures c.in_ok-first.ensures.within c.in_ok-second.ensures.within
 
 pub returns-in_err-first-clause-open : goal.returns-in_err-first-clause-open
 returns-in_err-first-clause-open c =

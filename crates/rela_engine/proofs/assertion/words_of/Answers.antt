@@ -1,10 +1,15 @@
-use Rattle.std.proofs.Common.{◌+◌, ℕ, subst, sym}
-use Rattle.std.proofs.lemmas.Result.{IfErr-weaker}
+use Rattle.std.proofs.Common.{◌+◌, ℕ, refl, subst, sym}
+use Rattle.std.proofs.lemmas.Result.{IfErr-weaker, on_ok_weaker}
 use Rattle.rela_build.specs.PathSets.{scene_of}
 use Rattle.rela_rir.specs.Limit.{ReachedInside}
-use Rattle.rela_engine.specs.Scenes.{paths_of}
-use Rattle.rela_engine.proofs.ComplementedParts.{stopped_inside}
+use Rattle.rela_blocks.specs.Scenes.{paths_of}
+use Rattle.rela_engine.proofs.ComplementedParts.{noted_within, stopped_inside}
 use Rattle.rela_engine.proofs.assertion.words_of.Goals as goal
+
+pub returns-clause-within : goal.returns-clause-within
+returns-clause-within c =
+    let flow = paths_of c.args.paths.now.level c.args.paths.now.alphabet.now c.args.paths.now.before.now c.args.paths.now.after.now in
+    on_ok_weaker c.automaton.result (noted_within c.args.letters.now flow ⊥ _ c.args.complements.now refl c.args.term.now _ _) c.automaton.ensures.noted
 
 pub returns-clause-past : goal.returns-clause-past
 returns-clause-past c =

@@ -48,4 +48,4 @@ returns c =
     (image_below k.blocks blocks parents same are c.args.paths.now.before first before c.in_ok-before.ensures.machine of_before)
     (image_below k.blocks blocks parents same are c.args.paths.now.after second after c.in_ok-after.ensures.machine of_after) told
     (subst (λ (b : Bool). TellsOfImages b (Accepts before) (Accepts after) told) c.at_most-at_most.ensures tells))
-    c.compare.ensures
+    c.compare.ensures.told

@@ -7,7 +7,7 @@ use Rattle.rela_trans.specs.Runs.{Relates}
 use Rattle.rela_engine.specs.Compilation.{Twofold}
 use Rattle.rela_engine.specs.LetterImages.{IsFirstOffence, TellsFirst}
 use Rattle.rela_engine.specs.RowOf.{RowOf}
-use Rattle.rela_engine.specs.Scenes.{paths_of}
+use Rattle.rela_blocks.specs.Scenes.{paths_of}
 use Rattle.rela_engine.proofs.LetterImages.{lent_letters, side_image, side_row}
 use Rattle.rela_engine.proofs.NodesApart.{finer_before, finer_after}
 use Rattle.rela_engine.proofs.Placed.{placed}

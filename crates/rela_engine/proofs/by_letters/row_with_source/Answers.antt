@@ -1,4 +1,4 @@
-use Rattle.std.proofs.Common.{◌≤◌, ◌≡◌, List, ℕ, length, arith, subst, sym}
+use Rattle.std.proofs.Common.{◌≤◌, List, ℕ, length, arith, subst, sym}
 use Rattle.std.proofs.lemmas.Result.{IfOk-weaker}
 use Rattle.rela_build.specs.Reading.{read_by}
 use Rattle.rela_letter_image.specs.Coarse.{coarse_of}

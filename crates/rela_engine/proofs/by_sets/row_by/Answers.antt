@@ -9,7 +9,7 @@ use Rattle.rela_trans.specs.Runs.{Relates}
 use Rattle.rela_build.specs.Reading.{read_by}
 use Rattle.rela_translate.specs.Verdict.{Offends}
 use Rattle.rela_engine.specs.RowOf.{RowOf, MayBeOpen}
-use Rattle.rela_engine.specs.Scenes.{paths_of}
+use Rattle.rela_blocks.specs.Scenes.{paths_of}
 use Rattle.rela_engine.specs.Seen.{machine_of}
 use Rattle.rela_engine.specs.ToldSides.{TellsOfSides}
 use Rattle.rela_engine.specs.declared.seen.Form.TheVariants as form
@@ -22,110 +22,110 @@ use Rattle.rela_engine.proofs.by_sets.row_by.Goals as goal
 
 pub see-requires-clause-placed : goal.see-requires-clause-placed
 see-requires-clause-placed g c =
-    placed c.args.alphabet.now c.args.compiled.now.check.level c.args.compiled.now.check.level (length c.args.alphabet.now) c.args.pair.now.before refl refl c.requires.located.0
+    placed c.args.case.now.alphabet.now c.args.case.now.compiled.now.check.level c.args.case.now.compiled.now.check.level (length c.args.case.now.alphabet.now) c.args.case.now.pair.now.before refl refl c.requires.case.located.0
 
 pub see-requires-2-clause-placed : goal.see-requires-2-clause-placed
 see-requires-2-clause-placed g c =
-    placed c.args.alphabet.now c.args.compiled.now.check.level c.args.compiled.now.check.level (length c.args.alphabet.now) c.args.pair.now.after refl refl c.requires.located.1
+    placed c.args.case.now.alphabet.now c.args.case.now.compiled.now.check.level c.args.case.now.compiled.now.check.level (length c.args.case.now.alphabet.now) c.args.case.now.pair.now.after refl refl c.requires.case.located.1
 
 pub see-requires-clause-blocks : goal.see-requires-clause-blocks
 see-requires-clause-blocks g c =
-    finer_before c.args.compiled.now.blocks (length c.args.alphabet.now) c.args.compiled.now.check.level c.args.pair.now.before c.args.pair.now.after c.args.blocks.now c.requires.blocks
+    finer_before c.args.case.now.compiled.now.blocks (length c.args.case.now.alphabet.now) c.args.case.now.compiled.now.check.level c.args.case.now.pair.now.before c.args.case.now.pair.now.after c.args.case.now.blocks.now c.requires.case.blocks
 
 pub see-requires-2-clause-blocks : goal.see-requires-2-clause-blocks
 see-requires-2-clause-blocks g c =
-    finer_after c.args.compiled.now.blocks (length c.args.alphabet.now) c.args.compiled.now.check.level c.args.pair.now.before c.args.pair.now.after c.args.blocks.now c.requires.blocks
+    finer_after c.args.case.now.compiled.now.blocks (length c.args.case.now.alphabet.now) c.args.case.now.compiled.now.check.level c.args.case.now.pair.now.before c.args.case.now.pair.now.after c.args.case.now.blocks.now c.requires.case.blocks
 
 pub see-requires-clause-plain : goal.see-requires-clause-plain
-see-requires-clause-plain g c = (before_letters_are c.args.compiled.now c.args.relations.now c.requires.relations c.before-2.result.now c.before-2.ensures).0
+see-requires-clause-plain g c = (before_letters_are c.args.case.now.compiled.now c.args.case.now.relations.now c.requires.case.relations c.before-2.result.now c.before-2.ensures).0
 
 pub see-requires-clause-small : goal.see-requires-clause-small
-see-requires-clause-small g c = (before_letters_are c.args.compiled.now c.args.relations.now c.requires.relations c.before-2.result.now c.before-2.ensures).1
+see-requires-clause-small g c = (before_letters_are c.args.case.now.compiled.now c.args.case.now.relations.now c.requires.case.relations c.before-2.result.now c.before-2.ensures).1
 
 pub see-requires-2-clause-plain : goal.see-requires-2-clause-plain
-see-requires-2-clause-plain g c = (after_letters_are c.args.compiled.now c.args.relations.now c.requires.relations c.after.result.now c.after.ensures).0
+see-requires-2-clause-plain g c = (after_letters_are c.args.case.now.compiled.now c.args.case.now.relations.now c.requires.case.relations c.after.result.now c.after.ensures).0
 
 pub see-requires-2-clause-small : goal.see-requires-2-clause-small
-see-requires-2-clause-small g c = (after_letters_are c.args.compiled.now c.args.relations.now c.requires.relations c.after.result.now c.after.ensures).1
+see-requires-2-clause-small g c = (after_letters_are c.args.case.now.compiled.now c.args.case.now.relations.now c.requires.case.relations c.after.result.now c.after.ensures).1
 
 pub returns-in_err-before-clause-limit : goal.returns-in_err-before-clause-limit
 returns-in_err-before-clause-limit g c =
-    let k = c.args.compiled.now in
-    let names = c.args.alphabet.now in
-    let pre = c.args.pair.now.before in
-    let post = c.args.pair.now.after in
+    let k = c.args.case.now.compiled.now in
+    let names = c.args.case.now.alphabet.now in
+    let pre = c.args.case.now.pair.now.before in
+    let post = c.args.case.now.pair.now.after in
     let p = err_from_is_err_and c.from_residual.result c.from_residual.ensures.1 in
     rw (p.1, p.2)
-    (λ is plain. subst (λ (n : ℕ). MayBeOpen k.check n (paths_of k.check.level names pre post) k.states) (sym c.requires.alphabet)
-    (before_passes k c.args.relations.now c.requires.relations c.args.blocks.now c.requires.blocks.partition
-    (c.requires.blocks.refines.same_symbols ∙ c.blocks-2.ensures.together.symbols) k.check.level names pre post
+    (λ is plain. subst (λ (n : ℕ). MayBeOpen k.check n (paths_of k.check.level names pre post) k.states) (sym c.requires.case.alphabet)
+    (before_passes k c.args.case.now.relations.now c.requires.case.relations c.args.case.now.blocks.now c.requires.case.blocks.partition
+    (c.requires.case.blocks.refines.same_symbols ∙ c.blocks-2.ensures.together.symbols) k.check.level names pre post
     c.before-2.result.now c.before-2.ensures (c.in_err-before.ensures.limit is plain)))
 
 pub returns-in_err-after-clause-limit : goal.returns-in_err-after-clause-limit
 returns-in_err-after-clause-limit g c =
-    let k = c.args.compiled.now in
-    let names = c.args.alphabet.now in
-    let pre = c.args.pair.now.before in
-    let post = c.args.pair.now.after in
+    let k = c.args.case.now.compiled.now in
+    let names = c.args.case.now.alphabet.now in
+    let pre = c.args.case.now.pair.now.before in
+    let post = c.args.case.now.pair.now.after in
     let p = err_from_is_err_and c.from_residual-in_err-after.result c.from_residual-in_err-after.ensures.1 in
     rw (p.1, p.2)
-    (λ is plain. subst (λ (n : ℕ). MayBeOpen k.check n (paths_of k.check.level names pre post) k.states) (sym c.requires.alphabet)
-    (after_passes k c.args.relations.now c.requires.relations c.args.blocks.now c.requires.blocks.partition
-    (c.requires.blocks.refines.same_symbols ∙ c.blocks-2.ensures.together.symbols) k.check.level names pre post
+    (λ is plain. subst (λ (n : ℕ). MayBeOpen k.check n (paths_of k.check.level names pre post) k.states) (sym c.requires.case.alphabet)
+    (after_passes k c.args.case.now.relations.now c.requires.case.relations c.args.case.now.blocks.now c.requires.case.blocks.partition
+    (c.requires.case.blocks.refines.same_symbols ∙ c.blocks-2.ensures.together.symbols) k.check.level names pre post
     c.after.result.now c.after.ensures (c.in_err-after.ensures.limit is plain)))
 
 pub row_of_sides-requires-clause-before : goal.row_of_sides-requires-clause-before
 row_of_sides-requires-clause-before g c =
-    let k = c.args.compiled.now in
+    let k = c.args.case.now.compiled.now in
     let x = c.in_ok-before.before in
-    sources_of c.args.blocks.now c.requires.blocks.partition (Paths c.args.pair.now.before k.check.level c.args.alphabet.now)
+    sources_of c.args.case.now.blocks.now c.requires.case.blocks.partition (Paths c.args.case.now.pair.now.before k.check.level c.args.case.now.alphabet.now)
     (Relates (read_by k.blocks) (machine_of c.args.form c.before-2.result.now)) x.paths x.relation x.image c.in_ok-before.ensures.seen
 
 pub row_of_sides-requires-clause-after : goal.row_of_sides-requires-clause-after
 row_of_sides-requires-clause-after g c =
-    let k = c.args.compiled.now in
+    let k = c.args.case.now.compiled.now in
     let y = c.in_ok-after.after in
-    sources_of c.args.blocks.now c.requires.blocks.partition (Paths c.args.pair.now.after k.check.level c.args.alphabet.now)
+    sources_of c.args.case.now.blocks.now c.requires.case.blocks.partition (Paths c.args.case.now.pair.now.after k.check.level c.args.case.now.alphabet.now)
     (Relates (read_by k.blocks) (machine_of c.args.form c.after.result.now)) y.paths y.relation y.image c.in_ok-after.ensures.seen
 
 pub returns-clause-row : goal.returns-clause-row
 returns-clause-row g c =
-    let k = c.args.compiled.now in
-    let names = c.args.alphabet.now in
-    let pre = c.args.pair.now.before in
-    let post = c.args.pair.now.after in
+    let k = c.args.case.now.compiled.now in
+    let names = c.args.case.now.alphabet.now in
+    let pre = c.args.case.now.pair.now.before in
+    let post = c.args.case.now.pair.now.after in
     let x = c.in_ok-before.before in
     let y = c.in_ok-after.after in
     let flow = paths_of k.check.level names pre post in
-    let sides = sides_of k c.args.relations.now c.requires.relations c.args.blocks.now c.args.form (Paths pre k.check.level names) (Paths post k.check.level names)
+    let sides = sides_of k c.args.case.now.relations.now c.requires.case.relations c.args.case.now.blocks.now c.args.form (Paths pre k.check.level names) (Paths post k.check.level names)
     c.before-2.result.now c.after.result.now x.paths x.relation x.image y.paths y.relation y.image
-    c.requires.blocks.partition c.before-2.ensures c.after.ensures c.in_ok-before.ensures.seen c.in_ok-after.ensures.seen in
-    IfOk-weaker c.row_of_sides.result (TellsOfSides k.check.at_most c.args.blocks.now x.paths x.relation x.image y.paths y.relation y.image)
+    c.requires.case.blocks.partition c.before-2.ensures c.after.ensures c.in_ok-before.ensures.seen c.in_ok-after.ensures.seen in
+    IfOk-weaker c.row_of_sides.result (TellsOfSides k.check.at_most c.args.case.now.blocks.now x.paths x.relation x.image y.paths y.relation y.image)
     (RowOf k.check (length names) flow k.states)
     (λ row tells.
-    subst (λ (n : ℕ). RowOf k.check n flow k.states row) (sym c.requires.alphabet)
-    (right_row k c.args.relations.now c.requires.relations flow row
-    (sides_told c.args.blocks.now k.check k.locations flow k.states x.paths x.relation x.image y.paths y.relation y.image sides row tells)))
+    subst (λ (n : ℕ). RowOf k.check n flow k.states row) (sym c.requires.case.alphabet)
+    (right_row k c.args.case.now.relations.now c.requires.case.relations flow row
+    (sides_told c.args.case.now.blocks.now k.check k.locations flow k.states x.paths x.relation x.image y.paths y.relation y.image sides row tells)))
     c.row_of_sides.ensures.row
 
 pub returns-clause-limit : goal.returns-clause-limit
 returns-clause-limit g c =
-    let k = c.args.compiled.now in
-    let names = c.args.alphabet.now in
-    let pre = c.args.pair.now.before in
-    let post = c.args.pair.now.after in
+    let k = c.args.case.now.compiled.now in
+    let names = c.args.case.now.alphabet.now in
+    let pre = c.args.case.now.pair.now.before in
+    let post = c.args.case.now.pair.now.after in
     let x = c.in_ok-before.before in
     let y = c.in_ok-after.after in
-    let sides = sides_of k c.args.relations.now c.requires.relations c.args.blocks.now c.args.form (Paths pre k.check.level names) (Paths post k.check.level names)
+    let sides = sides_of k c.args.case.now.relations.now c.requires.case.relations c.args.case.now.blocks.now c.args.form (Paths pre k.check.level names) (Paths post k.check.level names)
     c.before-2.result.now c.after.result.now x.paths x.relation x.image y.paths y.relation y.image
-    c.requires.blocks.partition c.before-2.ensures c.after.ensures c.in_ok-before.ensures.seen c.in_ok-after.ensures.seen in
+    c.requires.case.blocks.partition c.before-2.ensures c.after.ensures c.in_ok-before.ensures.seen c.in_ok-after.ensures.seen in
     IfErr-weaker c.row_of_sides.result
     (λ e. e ≡ built.Limit → ReachPairsBefore x.image y.image (Offends k.check.at_most (Accepts x.image) (Accepts y.image)) (k.states + 1))
     (λ e. e ≡ built.Limit → c.args.form ≡ form.Plain → MayBeOpen k.check (length names) (paths_of k.check.level names pre post) k.states)
     (λ e many is plain.
-    subst (λ (n : ℕ). MayBeOpen k.check n (paths_of k.check.level names pre post) k.states) (sym c.requires.alphabet)
-    (both_pass k c.args.relations.now c.requires.relations c.args.blocks.now c.requires.blocks.partition
-    (c.requires.blocks.refines.same_symbols ∙ c.blocks-2.ensures.together.symbols) k.check.level names pre post
+    subst (λ (n : ℕ). MayBeOpen k.check n (paths_of k.check.level names pre post) k.states) (sym c.requires.case.alphabet)
+    (both_pass k c.args.case.now.relations.now c.requires.case.relations c.args.case.now.blocks.now c.requires.case.blocks.partition
+    (c.requires.case.blocks.refines.same_symbols ∙ c.blocks-2.ensures.together.symbols) k.check.level names pre post
     x.paths x.relation x.image y.paths y.relation y.image sides c.before-2.result.now c.after.result.now c.before-2.ensures c.after.ensures
     (c.in_ok-before.ensures.places plain) (c.in_ok-after.ensures.places plain) (many is)))
     c.row_of_sides.ensures.limit

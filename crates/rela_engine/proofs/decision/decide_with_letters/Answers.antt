@@ -1,7 +1,7 @@
 use Rattle.std.proofs.Common.{ℕ, sym, subst}
 use Rattle.rela_report.specs.declared.rows.Row.TheVariants.{Compliant, Undecided}
 use Rattle.rela_engine.specs.RowOf.{RowOf}
-use Rattle.rela_engine.specs.Scenes.{paths_of}
+use Rattle.rela_blocks.specs.Scenes.{paths_of}
 use Rattle.rela_engine.proofs.OpenRows.{undecided}
 use Rattle.rela_engine.proofs.Rows.{right_row}
 use Rattle.rela_engine.proofs.decision.decide_with_letters.Goals as goal

@@ -19,7 +19,7 @@ returns c =
     let names = c.args.alphabet.now in
     plain_result c.args.assertion.now c.args.classes.now c.args.level names c.args.pair.now.before c.args.pair.now.after c.in_ok-coarse.coarse c.as_slice.result.now c.with_alone.result
     (c.as_slice.ensures.value ∙ c.in_ok-apart.ensures) (c.in_ok-coarse.ensures.symbols ∙ c.len.ensures.len)
-    (λ s t s_in t_in one. c.in_ok-coarse.ensures.split s t (omega (arith, s_in, c.len.ensures.len)) (omega (arith, t_in, c.len.ensures.len)) one)
+    (λ s t s_in t_in one. (c.in_ok-coarse.ensures.split s t (omega (arith, s_in, c.len.ensures.len)) (omega (arith, t_in, c.len.ensures.len))).0 one)
     c.with_alone.ensures.symbols c.with_alone.ensures.partition c.with_alone.ensures.together c.requires.named
     (placed names c.args.level c.args.level (length names) c.args.pair.now.before refl refl c.requires.located.0)
     (placed names c.args.level c.args.level (length names) c.args.pair.now.after refl refl c.requires.located.1)

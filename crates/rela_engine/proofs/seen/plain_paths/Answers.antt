@@ -1,7 +1,7 @@
 use Rattle.std.proofs.Common.{length}
 use Rattle.rela_graph.specs.Paths.{Paths}
 use Rattle.rela_names.specs.Alphabet.{path_symbols}
-use Rattle.rela_engine.specs.Scenes.{arrivals_of}
+use Rattle.rela_blocks.specs.Scenes.{arrivals_of}
 use Rattle.rela_engine.proofs.LeastWords.{paths_least}
 use Rattle.rela_engine.proofs.PathLetters.{recognises, path_states, arrival_symbols, end_symbols}
 use Rattle.rela_engine.proofs.seen.plain_paths.Goals as goal

@@ -9,4 +9,4 @@ returns-in-Ok-clause-within c =
 pub returns-clause-past : goal.returns-clause-past
 returns-clause-past c is =
     stopped_inside c.args.letters.now no_paths c.are_covered.ensures.letters ⊥ _ c.args.limit _ c.new-complements.ensures c.args.term.now c.in-Err.stop
-    c.in-Err.ensures.stopped (c.error_of.ensures is)
+    c.in-Err.ensures.stopped (c.error_of.ensures.limit is)

@@ -1,4 +1,4 @@
-use Rattle.rela_engine.specs.Scenes.{paths_of}
+use Rattle.rela_blocks.specs.Scenes.{paths_of}
 use Rattle.rela_rows.proofs.sharing.share_verdicts.Given as goal
 
 -- the paths of the flow that has a verdict

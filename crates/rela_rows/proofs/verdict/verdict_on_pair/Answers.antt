@@ -1,7 +1,7 @@
 use Rattle.std.proofs.Common.{subst, length}
 use Rattle.std.specs.List.{All}
 use Rattle.rela_engine.specs.RowOf.{RowOf}
-use Rattle.rela_engine.specs.Scenes.{paths_of}
+use Rattle.rela_blocks.specs.Scenes.{paths_of}
 use Rattle.rela_report.specs.Text.{VerdictHasTexts}
 use Rattle.rela_snapshot.specs.Located.{StandsAt}
 use Rattle.rela_translate.specs.Checked.{markers_of}

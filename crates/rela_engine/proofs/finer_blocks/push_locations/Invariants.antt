@@ -1,6 +1,0 @@
-use Rattle.std.proofs.Common.{◌≡◌, ◌++◌, map, take}
-use Rattle.rela_graph.specs.Topology.{symbol_at}
-use Rattle.rela_engine.proofs.finer_blocks.push_locations.Given as goal
-
-abbrev pub invariant-loop-node : goal.invariant-loop-node
-invariant-loop-node l = l.symbols.items ≡ l.fn.symbols.items ++ map (symbol_at l.level) (take l.node-index l.nodes)
