@@ -1,6 +1,6 @@
 //! What an assertion file asks for, from its text.
 
-ghost use Rattle.std.specs.Prelude.{◌≡◌, ◌≤◌, All, IfOk, length};
+ghost use Rattle.std.specs.Prelude.{◌≤◌, All, IfOk, length};
 ghost use Rattle.rela_assertions.specs.Rows.{IsClaimAt};
 ghost use Rattle.rela_locations.specs.Network.{alphabet_of};
 ghost use Rattle.rela_assert.specs.Asserted.{ReadsClaims, SameAsserted, asserted_by};

@@ -1,7 +1,7 @@
 //! The text of a run over assertions: a line for each row with one for each leaf that doesn't hold,
 //! and the total line.
 
-ghost use Rattle.std.specs.Prelude.{◌≡◌, ◌+◌, ◌++◌, All, IfOk, OnOk, codes, count_by, length, string_bytes};
+ghost use Rattle.std.specs.Prelude.{◌≡◌, ◌+◌, ◌++◌, All, IfOk, OnOk, codes, count_by, string_bytes};
 ghost use Rattle.std.specs.List.{flat_map};
 ghost use Rattle.rela_report.specs.Text.{count_text};
 ghost use Rattle.rela_assertions.specs.Text.{LeafHasText, RowHasTexts, assertions_text, head_line, is_failing, is_holding, is_open, leaf_line, leaf_lines, row_lines, side_label, total_line, total_text, value_text};

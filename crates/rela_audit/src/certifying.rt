@@ -1,6 +1,6 @@
 //! From the files of a change to a certificate of the rows that are met.
 
-ghost use Rattle.std.specs.Prelude.{◌≡◌, ◌≢◌, ◌≤◌, Err, All, IsTrue, IfOk, is_some};
+ghost use Rattle.std.specs.Prelude.{◌≢◌, ◌≤◌, Err, All, IsTrue, IfOk, is_some};
 ghost use Rattle.rela_audit.specs.Audits.{subject_of};
 ghost use Rattle.rela_audit.specs.Certifies.{AnswersCertificate, Certifies, SameCertificates};
 ghost use Rattle.rela_expand.specs.Listed.{ListsPathSymbols};

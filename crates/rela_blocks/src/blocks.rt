@@ -1,5 +1,5 @@
 //! The blocks of a check's symbols, and those by which it is judged for one flow.
-ghost use Rattle.std.specs.Prelude.{◌≡◌, ◌<◌, ◌≤◌, ◌++◌, IfOk, All, length, map};
+ghost use Rattle.std.specs.Prelude.{◌≡◌, ◌<◌, ◌≤◌, ◌++◌, IfOk, All, length};
 ghost use Rattle.std.specs.List.{range_with_len};
 ghost use Rattle.rela_names.specs.Alphabet.{path_symbols};
 ghost use Rattle.rela_nfa.specs.Relabelling.{Refines};
@@ -12,7 +12,7 @@ use crate::markers::count_markers;
 use crate::split::blocks_of_classes;
 use rela_graph::push_locations;
 use rela_labels::Partition;
-use rela_names::{Alphabet, Level, Symbol};
+use rela_names::{Alphabet, Symbol};
 use rela_snapshot::FlowPair;
 use rela_translate::Check;
 use std::alloc::{AllocError, Global};

@@ -1,6 +1,6 @@
 //! The transducers of a check's two relations, by listed complement blocks.
 
-ghost use Rattle.std.specs.Prelude.{◌≡◌, ℕ, ◌<◌, ◌≤◌, ◌↔◌, IfOk, IfErr, IsTrue, None, All, length, map};
+ghost use Rattle.std.specs.Prelude.{◌≡◌, ℕ, ◌<◌, ◌≤◌, ◌↔◌, IfOk, IfErr, IsTrue, None, All, map};
 ghost use Rattle.std.specs.Option.{unwrap_or};
 ghost use Rattle.rela_build.specs.Lettering.{IsAlone};
 ghost use Rattle.rela_build.specs.Made.{IsMadeR};

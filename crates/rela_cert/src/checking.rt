@@ -12,7 +12,7 @@ use rela_certfile::Step;
 use rela_closed::complement;
 use rela_labels::{Partition, WideSet};
 use rela_nfa::{BuildError, Nfa};
-use std::alloc::{AllocError, Global};
+use std::alloc::Global;
 
 /// Makes each complement by the words of its block, whose states are the sets of states that they
 /// reach in its part. It is refused where the block isn't closed for the part.

@@ -1,6 +1,6 @@
 //! What an audit has to do with what is certified.
 
-ghost use Rattle.std.specs.Prelude.{◌<◌, ◌^◌, ℕ, All, List, length, map};
+ghost use Rattle.std.specs.Prelude.{◌<◌, ◌^◌, ℕ, All, List, length};
 ghost use Rattle.rela_certfile.specs.Layout.{HasBounds};
 ghost use Rattle.rela_names.specs.Name.{IsName};
 ghost use Rattle.rela_cert.specs.Accepted.{AcceptsRows};

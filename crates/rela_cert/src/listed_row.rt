@@ -1,6 +1,6 @@
 //! What one listed row of a certificate gives its audit.
 
-ghost use Rattle.std.specs.Prelude.{◌≡◌, ℕ, ◌<◌, ◌≤◌, IfNone, IfOk, IfSome, IsSome, OnOk, Some, length, map};
+ghost use Rattle.std.specs.Prelude.{◌≡◌, ℕ, ◌<◌, ◌≤◌, IfNone, IfOk, IfSome, IsSome, OnOk, Some, length};
 ghost use Rattle.std.specs.List.{slice_get};
 ghost use Rattle.rela_certfile.specs.Blocks.{block_at};
 ghost use Rattle.rela_certfile.specs.Listed.{AreListed};

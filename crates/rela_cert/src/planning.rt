@@ -1,6 +1,6 @@
 //! The rows of which a certificate lists some, and what is asked of each.
 
-ghost use Rattle.std.specs.Prelude.{◌≡◌, ◌+◌, ◌<◌, ◌^◌, IfOk, length, map};
+ghost use Rattle.std.specs.Prelude.{◌≡◌, ◌+◌, ◌<◌, IfOk, length, map};
 ghost use Rattle.rela_cert.specs.Inputs.{subject_of};
 ghost use Rattle.rela_cert.specs.Planned.{IsPlanned};
 ghost use Rattle.rela_cert.specs.Rows.{parts_of};

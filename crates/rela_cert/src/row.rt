@@ -8,7 +8,7 @@ ghost use Rattle.rela_flows.specs.declared.planning.PlannedRow.TheVariants.{Chec
 ghost use Rattle.rela_cert.specs.Inputs.{subject_of};
 ghost use Rattle.rela_cert.specs.RowAt.{IsRowAt};
 ghost use Rattle.rela_cert.specs.Planned.{IsPlanned};
-ghost use Rattle.rela_cert.specs.Subject.{IsSubject, layout_of};
+ghost use Rattle.rela_cert.specs.Subject.{layout_of};
 
 use crate::inputs::Inputs;
 use crate::planning::Planning;

@@ -1,6 +1,6 @@
 //! The words from which it can be computed that a row is met.
 
-ghost use Rattle.std.specs.Prelude.{◌≡◌, ℕ, ◌+◌, ◌<◌, ◌≤◌, Bool, true, List, [], ◌∷◌, Contains, IfNone, IfOk, OnErr, IfSome, None};
+ghost use Rattle.std.specs.Prelude.{◌≡◌, ℕ, ◌<◌, ◌≤◌, Bool, true, List, [], ◌∷◌, Contains, IfNone, IfOk, OnErr, IfSome, None};
 ghost use Rattle.rela_build.specs.Reading.{HoldsJust};
 ghost use Rattle.rela_closed.specs.Closed.{IsClosed};
 ghost use Rattle.rela_closed.specs.Words.{AreOrdered, words_of};

@@ -2,7 +2,6 @@
 //! that what is found of the check on one of them holds of each.
 
 ghost use Rattle.std.specs.Prelude.{ℕ, ◌↔◌, Option, List, length};
-ghost use Rattle.rela_blocks.specs.Scenes.{after_image, before_image};
 ghost use Rattle.rela_certfile.specs.declared.rows.ListedRow.{ListedRow};
 ghost use Rattle.rela_rir.specs.Agreement.{AgreeOn};
 ghost use Rattle.rela_rir.specs.Limit.{Licensed};

@@ -1,5 +1,5 @@
 //! Whether an assertion holds for a flow.
-ghost use Rattle.std.specs.Prelude.{◌≡◌, ◌≢◌, ◌+◌, ◌<◌, ◌≤◌, IfOk, IfErr, OnErr, All, length};
+ghost use Rattle.std.specs.Prelude.{◌≡◌, ◌≢◌, ◌+◌, ◌<◌, IfOk, IfErr, OnErr, All, length};
 ghost use Rattle.rela_build.specs.Lettering.{AreLetterBlocks, IsAlone};
 ghost use Rattle.rela_build.specs.Made.{IsMade};
 ghost use Rattle.rela_build.specs.Named.{Names};

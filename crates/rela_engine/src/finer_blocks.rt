@@ -1,12 +1,12 @@
 //! The blocks of a check's symbols, split so that the symbols of some paths stand alone.
-ghost use Rattle.std.specs.Prelude.{◌≡◌, ◌+◌, ◌<◌, ◌++◌, IfOk, All, length, map};
+ghost use Rattle.std.specs.Prelude.{◌+◌, ◌<◌, IfOk, All, length};
 ghost use Rattle.rela_graph.specs.Alone.{StandsAlone};
 ghost use Rattle.rela_graph.specs.Topology.{symbol_at};
 ghost use Rattle.rela_engine.specs.Seen.{AreFiner};
 
 use rela_graph::{Graph, push_locations};
 use rela_labels::Partition;
-use rela_names::{Level, Symbol};
+use rela_names::Level;
 use std::alloc::{AllocError, Global};
 
 /// The blocks refined further, so that the location of each node of both graphs has a block of its

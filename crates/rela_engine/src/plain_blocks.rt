@@ -1,5 +1,5 @@
 //! The blocks of path symbols by which an assertion is decided for a flow.
-ghost use Rattle.std.specs.Prelude.{◌≡◌, ℕ, ◌<◌, ◌≤◌, IfOk, All, length};
+ghost use Rattle.std.specs.Prelude.{◌≡◌, ◌<◌, IfOk, All, length};
 ghost use Rattle.rela_names.specs.Alphabet.{path_symbols};
 ghost use Rattle.rela_snapshot.specs.PairsLocated.{IsPairLocated};
 ghost use Rattle.rela_rir.specs.NamedSymbols.{symbols_of_terms};

@@ -5,7 +5,7 @@ ghost use Rattle.rela_build.specs.Reading.{read_by};
 ghost use Rattle.rela_graph.specs.Alone.{StandsAlone};
 ghost use Rattle.rela_graph.specs.Paths.{Paths};
 ghost use Rattle.rela_graph.specs.Topology.{symbol_at};
-ghost use Rattle.rela_labels.specs.Partition.{IsPartition, block_count};
+ghost use Rattle.rela_labels.specs.Partition.{block_count};
 ghost use Rattle.rela_names.specs.Alphabet.{path_symbols};
 ghost use Rattle.rela_nfa.specs.Automaton.{IsAutomaton};
 ghost use Rattle.rela_nfa.specs.Relabelling.{Refines};

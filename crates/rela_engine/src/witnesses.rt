@@ -1,6 +1,6 @@
 //! What a violated row tells: words of letters as words of symbols, and the sources of words.
 ghost use Rattle.std.specs.Prelude.{◌≡◌, ◌<◌, ℕ, List, IfOk, All};
-ghost use Rattle.rela_labels.specs.Partition.{IsPartition, block_count};
+ghost use Rattle.rela_labels.specs.Partition.{block_count};
 ghost use Rattle.rela_nfa.specs.Automaton.{IsAutomaton};
 ghost use Rattle.rela_engine.specs.LetterImages.{TellsSource};
 ghost use Rattle.rela_engine.specs.Seen.{AreLeast, IsSource, IsFirstSource, TellsOf};

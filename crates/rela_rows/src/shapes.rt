@@ -1,6 +1,6 @@
 //! Compliance that flows share whose graphs differ in the names of locations alone.
 
-ghost use Rattle.std.specs.Prelude.{◌≡◌, ◌<◌, ℕ, List, IfOk, OnOk, IsSome, IsTrue, All, length};
+ghost use Rattle.std.specs.Prelude.{◌≡◌, ◌<◌, List, IfOk, OnOk, IsSome, IsTrue, All, length};
 ghost use Rattle.rela_engine.specs.Compilation.{Compilation};
 ghost use Rattle.rela_shape.specs.Shape.{IsShape};
 ghost use Rattle.rela_snapshot.specs.PairsLocated.{ArePairsLocated, IsPairLocated};
