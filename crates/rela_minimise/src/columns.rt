@@ -1,5 +1,5 @@
 //! Where letters lead from each state.
-ghost use Rattle.std.specs.Prelude.{◌≡◌, ℕ, ◌<◌, true, IfOk, length};
+ghost use Rattle.std.specs.Prelude.{◌≡◌, ℕ, ◌<◌, ◌&&◌, true, IfOk, length};
 ghost use Rattle.rela_labels.specs.Letters.{has};
 ghost use Rattle.rela_subset.specs.Deterministic.{IsDeterministic, next, states};
 ghost use Rattle.rela_minimise.specs.Refining.{AreColumns, IsColumn, LeadAlike};
@@ -101,7 +101,7 @@ fn leading<L: LabelSet>(
     for edge in edges {
         if let Some(label) = &edge.label {
             if label.contains(letter) {
-                let letters = block.meet(alloc, label)?;
+                let letters = common(alloc, block, label)?;
                 let to = edge.to;
                 return Ok(LabelPart { letters, to });
             }
@@ -109,4 +109,18 @@ fn leading<L: LabelSet>(
     }
     let to = dfa.start();
     Ok(LabelPart { letters: block, to })
+}
+
+/// The letters that are in both. At most states the label is the block itself, which is then given
+/// back. Time: a comparison, and a set operation where the two differ.
+fn common<L: LabelSet>(alloc: Global, block: L, label: &L) -> Result<L, AllocError>
+    requires { length (L.letters block) ≡ length (L.letters label.now) }
+    ensures size { IfOk result (λ set. length (L.letters set) ≡ length (L.letters block)) }
+    ensures both { IfOk result (λ set. (k : ℕ) → has (L.letters set) k
+        ≡ (has (L.letters block) k && has (L.letters label.now) k)) }
+{
+    if block.same(label) {
+        return Ok(block);
+    }
+    block.meet(alloc, label)
 }

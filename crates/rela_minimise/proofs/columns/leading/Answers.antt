@@ -5,8 +5,8 @@ use Rattle.rela_subset.specs.Deterministic.{target}
 use Rattle.rela_minimise.proofs.LeadingAlike.{has_target, label_sized, meets_alike, meets_leads, meets_within}
 use Rattle.rela_minimise.proofs.columns.leading.Goals as goal
 
-pub meet-requires : goal.meet-requires
-meet-requires g c =
+pub common-requires : goal.common-requires
+common-requires g c =
     c.requires.size
     ∙ sym (label_sized g.L.LabelSet.letters c.args.dfa.now c.requires.deterministic c.args.q c.requires.state c.edges-edges.result.now c.edges-edges.ensures c.loop-edge.edge-index c.edge-item.result
     c.loop-edge-test.true c.edge-item.is c.in-Some.label c.in-Some.is)
