@@ -1,9 +1,14 @@
 -- What a text of digits alone writes.
-use Rattle.std.proofs.Common.{◌≡◌, ℕ, ◌^◌, ◌<◌, ◌==◌, ◌&&◌, List, [], Some, Bool, length, get_or, drop, false, true, refl, sym, ap, ◌∙◌, arith, cond, if◌then◌else◌, subst, append-nil, nat_lt}
-use Rattle.std.specs.Str.Parse.{AllDigits, IsNumeral, digits_value, without_leading_plus}
+use Rattle.std.proofs.Common.{◌≡◌, ℕ, ◌+◌, ◌-◌, ◌*◌, ◌^◌, ◌<◌, ◌≤◌, ◌==◌, ◌&&◌, List, [], Some, Bool, length, get_or, drop, take, false, true, sym, refl, ap, ◌∙◌, arith, if◌then◌else◌, lit<, subst, append-nil, nat_lt}
+use Rattle.std.specs.Char.{digit_value}
+use Rattle.std.specs.Str.Parse.{AllDigits, IsNumeral, digits_value}
 use Rattle.std.specs.Float.Numeral.{Parts}
 use Rattle.std.proofs.lemmas.Float.Parse.{scan_numeral-text_of}
+use Rattle.std.proofs.lemmas.Int.Digits.{digits_value-lt}
+use Rattle.std.proofs.lemmas.List.{length-take-le}
+use Rattle.std.proofs.lemmas.Str.{digit_value_digit}
 use Rattle.std.proofs.lemmas.Str.Parse.{digit_at}
+use Rattle.std.proofs.Math.Nat.{pow-le-pow_right}
 use Rattle.fast_float.specs.Text.{scan, digits_of}
 use Rattle.serde_json.specs.Data.{unsigned}
 use Rattle.serde_json.specs.Read.{number_of, number_from, float_of, is_integer}
@@ -37,9 +42,10 @@ read s some small =
     let fits : nat_lt (digits_of (parts s)) (2 ^ 64) ≡ true = grind (arith, small) in
     chosen (is_integer (parts s) && nat_lt (digits_of (parts s)) (2 ^ 64)) (Some (unsigned (digits_of (parts s)))) (float_of false (parts s)) (λ i. ((long i && true) && true) && fits i)
 
-plain : (s : List ℕ) → IsNumeral 10 s → digits_value 10 s < 2 ^ 64 → number_of s ≡ Some (unsigned (digits_value 10 s))
+-- Digits alone write their number.
+pub number_is : (s : List ℕ) → IsNumeral 10 s → digits_value 10 s < 2 ^ 64 → number_of s ≡ Some (unsigned (digits_value 10 s))
 unfolding number_of
-plain s numeral small =
+number_is s numeral small =
     let unsigned_text : (get_or s 0 0 == 45) ≡ false = no_minus s numeral.0 numeral.1 in
     let front : number_of s ≡ number_from false (scan s) = ap (λ b. if b then number_from true (scan (drop 1 s)) else number_from false (scan s)) unsigned_text in
     front ∙ ap (number_from false) (scanned s numeral.1) ∙ read s numeral.0 (small_is s small) ∙ ap (λ n. Some (unsigned n)) (value_is s)
@@ -47,10 +53,14 @@ plain s numeral small =
     small_is : (s : List ℕ) → digits_value 10 s < 2 ^ 64 → digits_of (parts s) < 2 ^ 64
     small_is s small = omega (arith, small, value_is s)
 
--- A text without a plus that parses as a number writes that number.
-pub number_is : (s : List ℕ) (n : ℕ) → (get_or s 0 0 == 43) ≡ false → IsNumeral 10 (without_leading_plus s) → n ≡ digits_value 10 (without_leading_plus s) → n < 2 ^ 64
-    → number_of s ≡ Some (unsigned n)
-number_is s n no_plus numeral is small =
-    let same : without_leading_plus s ≡ s = ap (λ b. drop (cond b 1 0) s) no_plus in
-    let value : digits_value 10 s ≡ n = ap (digits_value 10) (sym same) ∙ sym is in
-    plain s (subst (IsNumeral 10) same numeral) (omega (arith, value, small)) ∙ ap (λ n. Some (unsigned n)) value
+-- one more digit after at most eight still fits 32 bits
+pub digit_fits : (s : List ℕ) (i d : ℕ) → i < 9 → i ≤ length s → AllDigits 10 (take i s) → d < 10 → digits_value 10 (take i s) * 10 + d < 2 ^ 32
+digit_fits s i d short inside digits small =
+    let n : ℕ = digits_value 10 (take i s) in
+    let below : n < 10 ^ i = subst (λ k. n < 10 ^ k) (length-take-le i s inside) (digits_value-lt 10 (take i s) digits) in
+    let power : 10 ^ i ≤ 10 ^ 8 = pow-le-pow_right {n = 10} (lit< tt) (let eight : i ≤ 8 = omega arith in eight) in
+    omega arith
+
+-- a byte of the digits by its value
+pub digit_is : (c : ℕ) → 48 ≤ c → c ≤ 57 → digit_value c ≡ c - 48
+digit_is c low high = let value = digit_value_digit c (low, high) in omega (arith, value)

@@ -2,6 +2,7 @@
 #![tactic(auto)]
 
 mod laws;
+mod layout;
 mod lists;
 mod members;
 mod number;
@@ -9,6 +10,7 @@ mod piece;
 mod unread;
 
 pub use laws::what_holds;
+pub use layout::{close_object, close_text, open_array, open_object, take_key};
 pub use lists::read_text;
 pub use members::{find, read_members};
 pub use number::read_number;

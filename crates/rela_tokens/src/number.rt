@@ -1,6 +1,6 @@
 //! Whole numbers.
 
-ghost use Rattle.std.specs.Prelude.{◌≡◌, ◌==◌, ◌<◌, Some, IfOk, OnOk, length, slice_index};
+ghost use Rattle.std.specs.Prelude.{◌≡◌, ◌<◌, Some, IfOk, OnOk, length};
 ghost use Rattle.serde_json.specs.Data.{unsigned};
 ghost use Rattle.serde_json.specs.Read.{number_of};
 ghost use Rattle.rela_tokens.specs.Holds.{Holds};
@@ -9,8 +9,11 @@ ghost use Rattle.rela_tokens.specs.Pieces.{whole};
 use crate::unread::Unread;
 use json::{Reader, Token};
 
-/// Takes a whole number below 2^32, written without sign, fraction or exponent. Time: linear in
-/// its digits.
+/// The greatest number of digits of a number that is read: whatever these write, it is below 2^32.
+const MAX_DIGITS: usize = 9;
+
+/// Takes a whole number of at most nine digits, written without sign, fraction or exponent. Time:
+/// constant.
 ///
 /// # Errors
 ///
@@ -25,22 +28,20 @@ pub fn read_number(reader: &mut Reader<'_>) -> Result<u32, Unread>
     }
 }
 
-/// The whole number below 2^32 that a text writes.
+/// The whole number that a text of at most nine digits writes.
 pub(crate) fn whole_number(text: &str) -> Result<u32, Unread>
     ensures number { IfOk result (λ n. number_of text.now ≡ Some (unsigned n)) }
 {
-    if has_plus(text.as_bytes()) {
+    let digits = text.as_bytes();
+    if digits.is_empty() || digits.len() > MAX_DIGITS {
         return Err(Unread);
     }
-    match text.parse::<u32>() {
-        Ok(number) => Ok(number),
-        Err(_) => Err(Unread),
+    let mut number: u32 = 0;
+    for &digit in digits {
+        if !digit.is_ascii_digit() {
+            return Err(Unread);
+        }
+        number = number * 10 + u32::from(digit - b'0');
     }
-}
-
-/// Whether a plus comes first, which no number of JSON has and `parse` would pass over.
-fn has_plus(bytes: &[u8]) -> bool
-    ensures value { result ≡ (slice_index bytes.now 0 == 43) }
-{
-    !bytes.is_empty() && bytes[0] == b'+'
+    Ok(number)
 }
