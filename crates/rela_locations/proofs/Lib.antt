@@ -21,3 +21,4 @@ pub mod NumberLists
 pub mod TagMembers
 pub mod MemberLaws
 pub mod Numbering
+pub mod PlainLaws

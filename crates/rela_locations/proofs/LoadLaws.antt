@@ -1,18 +1,19 @@
 -- In what a file stands for no two entries of one kind have one name.
 use Rattle.std.proofs.Common.{◌≡◌, ℕ, false, List, [], ◌∷◌, ◌++◌, Some, Result, Ok, Err, map, ◌==◌, if◌then◌else◌, codes, subst, refl, ap, arith}
 use Rattle.serde_json.specs.Data.{Data}
-use Rattle.rela_json.specs.Results.{◌>>=◌}
+use Rattle.rela_json.specs.Results.{◌>>=◌, ok_or}
 use Rattle.rela_locations.specs.Names.{with_name, with_names, next_row, new_name, has_name}
 use Rattle.rela_locations.specs.Network.{Device, Group, Network, devices_in}
 use Rattle.rela_json.specs.Parts.{text_of, number_of, items_of}
-use Rattle.rela_json.specs.declared.error.LoadError.TheVariants.{BadVersion}
+use Rattle.rela_json.specs.declared.error.LoadError.TheVariants.{BadVersion, NotJson}
 use Rattle.std.proofs.lemmas.Grind.{flat_map-append}
 use Rattle.std.proofs.lemmas.List.{map-append}
-use Rattle.rela_locations.specs.Load.{part, needed, load_tags, load_interface, load_interfaces, load_device, load_devices, load_group, load_groups, load_file}
+use Rattle.rela_json.specs.Reading.{reading}
+use Rattle.rela_locations.specs.Load.{Load, part, needed, load_tags, load_interface, load_interfaces, load_device, load_devices, load_group, load_groups, load_file}
 use Rattle.rela_locations.specs.Tables.{device_names, interface_names, AreNew, IsNamedOnce}
 use Rattle.rela_locations.proofs.NameSets.{AreNew-append}
 
-bind_ok : {A B E : Type 0} (r : Result A E) (f : A → Result B E) (y : B) → (r >>= f) ≡ Ok y → (x : A) × (r ≡ Ok x) × (f x ≡ Ok y)
+pub bind_ok : {A B E : Type 0} (r : Result A E) (f : A → Result B E) (y : B) → (r >>= f) ≡ Ok y → (x : A) × (r ≡ Ok x) × (f x ≡ Ok y)
 bind_ok (Ok x) f y e = (x, refl, e)
 bind_ok (Err e) f y h = cc
 
@@ -127,3 +128,8 @@ loaded_names d network e =
     let ds = bind_ok (if version.0 == 1 then needed 3 0 items_of groups_part.0 else Err BadVersion) _ network version.2 in
     let new = groups_are_new [] [] [] ds.0 network ds.2 in
     record { groups = new.0; devices = new.1; interfaces = new.2 }
+
+pub read_names : (bytes : List ℕ) (network : Network) → Load bytes ≡ Ok network → IsNamedOnce network
+read_names bytes network e =
+    let root = bind_ok (ok_or NotJson (reading bytes)) load_file network e in
+    loaded_names root.0 network root.2

@@ -13,6 +13,8 @@ mod network;
 mod numbered;
 mod pairs;
 mod parts;
+mod plain;
+mod plain_device;
 mod tables;
 mod tags;
 mod walk;

@@ -2,6 +2,7 @@
 
 ghost use Rattle.std.specs.Prelude.{◌≡◌, ◌≢◌, ℕ, ◌<◌, ◌≤◌, Ok, Err, Some, IfOk, IfErr, IfNone, OnOk, IsErrOf, IsTrue, true, false, length, slice_get, ◌↔◌};
 ghost use Rattle.std.specs.List.{All};
+ghost use Rattle.rela_locations.specs.Load.{Load};
 ghost use Rattle.rela_locations.specs.Tables.{AreAlphabets, IsNamedOnce};
 
 use crate::alphabets::Alphabets;
@@ -9,10 +10,13 @@ use crate::lookup::{devices_with, has, inside, interfaces_with, itself};
 use crate::members::{By, MemberError, is_finer};
 use crate::network::GroupEntry;
 use crate::numbered::{NumberedGroup, number_groups};
+use crate::plain::read_plain;
 use crate::tables::Tables;
 use crate::walk::read_network;
+use json::Scratch;
 use rela_json::{LoadError, read};
 use rela_names::{Alphabet, Level, Name, Symbol};
+use rela_tokens::Unread;
 use std::alloc::{AllocError, Global};
 use std::marker::Model;
 
@@ -46,7 +50,6 @@ impl Locations {
     ghost use Rattle.rela_locations.specs.declared.members.By.TheVariants as bys;
     ghost use Rattle.rela_locations.specs.Names.{has_name};
     ghost use Rattle.rela_locations.specs.Network.{alphabet_of, location_of, members_of, is_finer, names_by};
-    ghost use Rattle.rela_locations.specs.Load.{Load};
 
     /// The locations that a file in JSON lists. Time: O(n log n) in its length; space: linear.
     ///
@@ -76,6 +79,9 @@ impl Locations {
         ensures network { IfOk result (λ locations. Load bytes.now ≡ Ok locations) }
         ensures fault { IfErr result (λ e. e ≢ LoadError.Memory → Load bytes.now ≡ Err e) }
     {
+        if let Ok(locations) = read_plainly(alloc, bytes) {
+            return Ok(locations);
+        }
         let root = read(alloc, bytes)?;
         let (entries, seen) = read_network(alloc, &root)?;
         let alphabets = seen.into_alphabets(alloc)?;
@@ -274,6 +280,20 @@ impl Locations {
             Level::Group => Err(MemberError::Finer),
         }
     }
+}
+
+/// The locations that a plain file lists.
+///
+/// # Errors
+///
+/// `Unread`, which says nothing of the file.
+fn read_plainly(alloc: Global, bytes: &[u8]) -> Result<Locations, Unread>
+    ensures { IfOk result (λ locations. Load bytes.now ≡ Ok locations) }
+{
+    let mut scratch = Scratch::new(alloc);
+    let (entries, seen) = read_plain(alloc, bytes, &mut scratch)?;
+    let alphabets = seen.into_alphabets(alloc)?;
+    Ok(locations_of(alloc, alphabets, entries.as_slice())?)
 }
 
 /// The locations of these groups, whose names the alphabets have.

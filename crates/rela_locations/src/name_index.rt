@@ -13,11 +13,8 @@ const FREE: Symbol = 0xffff_ffff;
 /// How many places of the table a name may stand at, from the one on that its hash picks.
 const REACH: u32 = 16;
 
-/// What a hash begins with.
-const OFFSET: u64 = 0xcbf2_9ce4_8422_2325;
-
-/// What a hash is multiplied by after each byte.
-const FACTOR: u64 = 0x0000_0100_0000_01b3;
+/// What a hash is multiplied by with each word, whose bits this spreads.
+const FACTOR: u64 = 0x9e37_79b9_7f4a_7c15;
 
 /// The locations of a level, found by a hash of their names. Contracts see it as the list of the
 /// names, as they see the alphabet.
@@ -139,11 +136,38 @@ fn is_name_of(alphabet: &Alphabet, symbol: Symbol, name: &[u8]) -> bool
     }
 }
 
-/// A hash of a name's bytes (FNV-1a, with the upper half mixed into the lower).
+/// A hash of a name's bytes, which are taken eight at a time, and at last the last eight.
 fn hash_of(name: &[u8]) -> usize {
-    let mut hash = OFFSET;
-    for byte in name {
-        hash = (hash ^ u64::from(*byte)).wrapping_mul(FACTOR);
+    let hash = match name.last_chunk::<8>() {
+        Some(last) => mixed(hash_of_words(name), u64::from_le_bytes(*last)),
+        None => hash_of_bytes(name),
+    };
+    mixed(hash, 0) as usize
+}
+
+/// A hash of the words of eight bytes that a name begins with.
+fn hash_of_words(name: &[u8]) -> u64 {
+    let mut hash = name.len() as u64;
+    let mut rest = name;
+    'words: while let Some((word, more)) = rest.split_first_chunk::<8>() {
+        hash = mixed(hash, u64::from_le_bytes(*word));
+        rest = more;
     }
-    (hash ^ (hash >> 32)) as usize
+    hash
+}
+
+/// A hash of a short name, byte by byte.
+fn hash_of_bytes(name: &[u8]) -> u64 {
+    let mut hash = name.len() as u64;
+    for byte in name {
+        hash = mixed(hash, u64::from(*byte));
+    }
+    hash
+}
+
+/// The hash with one word more. The lower bits hang on all bits but the highest of the word, and on
+/// these after one word more.
+fn mixed(hash: u64, word: u64) -> u64 {
+    let spread = (hash ^ word).wrapping_mul(FACTOR);
+    spread ^ (spread >> 32)
 }

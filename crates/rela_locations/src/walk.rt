@@ -30,6 +30,19 @@ pub(crate) struct Seen {
 }
 
 impl Seen {
+    /// No names.
+    pub(crate) fn new(alloc: Global) -> Seen
+        ensures groups { result.groups ≡ [] }
+        ensures devices { result.devices ≡ [] }
+        ensures interfaces { result.interfaces ≡ [] }
+    {
+        Seen {
+            groups: NameSet::new(alloc),
+            devices: NameSet::new(alloc),
+            interfaces: NameSet::new(alloc),
+        }
+    }
+
     /// The names as alphabets with their indexes.
     ///
     /// # Errors
@@ -95,11 +108,7 @@ pub(crate) fn read_network<'a>(
     if whole_number(version, 2, 0)? != 1 {
         return Err(LoadError::BadVersion);
     }
-    let mut seen = Seen {
-        groups: NameSet::new(alloc),
-        devices: NameSet::new(alloc),
-        interfaces: NameSet::new(alloc),
-    };
+    let mut seen = Seen::new(alloc);
     let groups = read_groups(alloc, &mut seen, entries(groups, 3, 0)?)?;
     Ok((groups, seen))
 }
