@@ -1,19 +1,16 @@
 -- Finding edges in order by the node that they come from.
-use Rattle.std.proofs.Common.{◌≡◌, ℕ, ◌+◌, ◌-◌, ◌<◌, ◌≤◌, ◌↔◌, Bool, true, false, IsTrue, IfOk, Result, Ok, Err, List, length, get_or, take, drop, inl, inr, arith, refl, sym, ap, ◌∙◌, length-take, length-drop}
+use Rattle.std.proofs.Common.{◌≡◌, ℕ, ◌+◌, ◌-◌, ◌<◌, ◌≤◌, true, false, List, length, get_or, take, drop, inl, inr, arith, sym, ap, ◌∙◌, length-take, length-drop}
 use Rattle.std.specs.Prelude.{nat_lt}
-use Rattle.std.specs.declared.cmp.Ordering.{Ordering}
-use Rattle.std.specs.declared.cmp.Ordering.TheVariants.{Less, Equal, Greater}
-use Rattle.std.specs.Ordering.{is_lt, ordering_reverse}
-use Rattle.std.specs.List.{All, Contains, HoldsAt}
-use Rattle.std.specs.List.Sorted.{IsSorted, IsPartitionPoint, IsPartitionedBy, IsBinarySearchResult, IsSearchInRange}
-use Rattle.std.specs.Result.{is_ok}
-use Rattle.std.proofs.lemmas.Bool.{cases_lt, lt-ltb, ltb-true, ltb-false}
+use Rattle.std.specs.Ordering.{is_lt}
+use Rattle.std.specs.List.{All, AllWithin, Contains}
+use Rattle.std.specs.List.Sorted.{IsSorted, IsPartitionPoint}
+use Rattle.std.proofs.lemmas.Bool.{cases_lt, lt-ltb}
 use Rattle.std.proofs.lemmas.List.{get_or-take, get_or-drop, get_or_read_under, get_or_default}
-use Rattle.std.proofs.lemmas.List.Sorted.{sorted_far, ranks_by, searchable_from_sorted}
+use Rattle.std.proofs.lemmas.List.Sorted.{sorted_far, ranks_by}
 use Rattle.rela_graph.specs.Adjacency.{IsIndexed, link_cmp}
 use Rattle.rela_graph.specs.Topology.{JoinsNodes}
 use Rattle.rela_graph.specs.declared.node.Link.{Link}
-use Rattle.rela_graph.proofs.Links.{links_total, same_links}
+use Rattle.rela_graph.proofs.Links.{links_total}
 
 below_or_less : (x y : Link) → is_lt (link_cmp y x) ≡ false → x.a ≤ y.a
 below_or_less x y h = elim (cases_lt y.a x.a) [
@@ -26,16 +23,26 @@ pub rises : (edges : List Link) → IsSorted link_cmp edges → (i j : ℕ) (d :
 rises edges up i j d order within =
     below_or_less (get_or edges i d) (get_or edges j d) (sorted_far (λ x y. is_lt (link_cmp x y)) (ranks_by links_total (λ (x : Link). x)) edges up i j d order within)
 
-pub parted_by : (edges : List Link) (n : ℕ) → IsSorted link_cmp edges → IsPartitionedBy (λ link. nat_lt link.a n) edges
-parted_by edges n up i j d order within below =
-    lt-ltb (get_or edges i d).a n (let low = rises edges up i j d order within in let high : (get_or edges j d).a < n = ltb-true (get_or edges j d).a n below in omega arith)
-
-pub parted_at : (edges : List Link) (n i : ℕ) → IsPartitionPoint (λ link. nat_lt link.a n ≡ true) (λ link. nat_lt link.a n ≡ false) edges i
+-- what comes from nodes before n stands before the first edge that doesn't
+pub parted_here : (edges : List Link) (n i : ℕ) → IsSorted link_cmp edges → AllWithin (λ link. link.a < n) edges 0 i → ((d : Link) → i < length edges → n ≤ (get_or edges i d).a)
     → IsPartitionPoint (λ link. link.a < n) (λ link. n ≤ link.a) edges i
-parted_at edges n i parted = (
-  λ k d low high. ltb-true (get_or edges k d).a n (parted.0 k d low high),
-  λ k d low high. ltb-false (get_or edges k d).a n (parted.1 k d low high),
+parted_here edges n i up low here = (
+  low,
+  λ k d behind within. let first = here d (omega arith) in let later = rises edges up i k d behind within in omega arith,
 )
+
+pub not_before : (edges : List Link) (n i : ℕ) (d e : Link) → i < length edges → n ≤ (get_or edges i e).a → n ≤ (get_or edges i d).a
+not_before edges n i d e within above = let same = ap (λ (l : Link). l.a) (get_or_default edges i d e within) in omega (arith, above, same)
+
+-- one more comes from a node before n
+pub one_more_before : (edges : List Link) (n i : ℕ) → AllWithin (λ link. link.a < n) edges 0 i → ((d : Link) → (get_or edges i d).a < n) → AllWithin (λ link. link.a < n) edges 0 (i + 1)
+one_more_before edges n i low here k d from below = elim (cases_lt k i) [
+  | inl less ↦ low k d from less
+  | inr more ↦ let same : k ≡ i = omega arith in rw same (here d)
+]
+
+pub later_node : (edges : List Link) (n m i : ℕ) → n ≤ m → AllWithin (λ link. link.a < n) edges 0 i → AllWithin (λ link. link.a < m) edges 0 i
+later_node edges n m i le low k d from below = let one = low k d from below in omega arith
 
 -- the edges from n stand between the offsets of n and of the node after it
 module _ (edges : List Link) (offsets : List ℕ) (count n from to : ℕ) (indexed : IsIndexed count edges offsets) (node : n < count)

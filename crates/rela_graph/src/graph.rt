@@ -1,6 +1,6 @@
 //! What a forwarding graph is, and what it tells of itself.
 ghost use Rattle.std.specs.Prelude.{◌≡◌, ℕ, ◌<◌, ◌≤◌, ◌↔◌, IsTrue, IfOk, Contains, length, vec_len};
-ghost use Rattle.std.specs.List.{All};
+ghost use Rattle.std.specs.List.{All, AllWithin};
 ghost use Rattle.std.specs.List.Sorted.{IsSorted, IsPartitionPoint};
 ghost use Rattle.rela_graph.specs.Adjacency.{IsIndexed, link_cmp};
 ghost use Rattle.rela_graph.specs.Topology.{IsTopology, JoinsNodes, IsEdgeFrom, HasEdge, IsStart, IsDelivered, IsDropped, HasFlag};
@@ -52,8 +52,7 @@ impl Model for Graph {
 impl Graph {
     /// The graph of these nodes, edges, starts and lists of nodes that deliver and that drop.
     /// Repetitions count once. Nodes are named by their place in the list. Time: n log n in the
-    /// edges, with a binary search among them for each node, and linear in the lists; space: linear
-    /// in the nodes and the edges.
+    /// edges, and linear in the nodes and the lists; space: linear in the nodes and the edges.
     pub fn new(
         alloc: Global,
         nodes: Vec<Node>,
@@ -192,19 +191,28 @@ fn offsets_of(alloc: Global, edges: &[Link], count: usize) -> Result<Vec<u32>, A
     ensures { IfOk result (λ v. IsIndexed count edges.now v.items) }
 {
     let mut offsets = Vec::with_capacity(alloc, count + 1)?;
+    let mut before = 0;
     for n in 0..count + 1 {
-        offsets.push(edges_before(edges, n) as u32)?;
+        before = edges_before(edges, before, n);
+        offsets.push(before as u32)?;
     }
     Ok(offsets)
 }
 
-/// How many edges come from nodes before `n`. Time: a binary search.
-fn edges_before(edges: &[Link], n: usize) -> usize
-    requires { IsSorted link_cmp edges.now }
+/// How many edges come from nodes before `n`, as the first `from` do. Time: linear in the others
+/// that do.
+fn edges_before(edges: &[Link], from: usize, n: usize) -> usize
+    requires ordered { IsSorted link_cmp edges.now }
+    requires within { from ≤ length edges.now }
+    requires before { AllWithin (λ link. link.a < n) edges.now 0 from }
     ensures parted { IsPartitionPoint (λ link. link.a < n) (λ link. n ≤ link.a) edges.now result }
     ensures within { result ≤ length edges.now }
 {
-    edges.partition_point(|edge| (edge.a as usize) < n)
+    let mut before = from;
+    'edges: while before < edges.len() && (edges[before].a as usize) < n {
+        before += 1;
+    }
+    before
 }
 
 /// A flag for each number below `count`, which is set for those that are listed.

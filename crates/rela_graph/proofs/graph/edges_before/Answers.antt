@@ -1,11 +1,6 @@
-use Rattle.std.proofs.Common.{rules}
-use Rattle.std.specs.Prelude.{nat_lt}
-use Rattle.std.proofs.lemmas.Fn.{always_returns_same}
-use Rattle.rela_graph.proofs.Adjacent.{parted_by, parted_at}
+use Rattle.rela_graph.proofs.Adjacent.{not_before, parted_here}
 use Rattle.rela_graph.proofs.graph.edges_before.Goals as goal
 
-pub returns-clause-parted : goal.returns-clause-parted
-returns-clause-parted c =
-    parted_at c.args.edges.now c.args.n c.partition_point.result
-    (c.partition_point.ensures.partitioned (λ link. nat_lt link.a c.args.n) (always_returns_same _ _ _ (λ a r g called. search rules))
-    (parted_by c.args.edges.now c.args.n c.requires))
+pub returns-else-edges-before-clause-parted : goal.returns-else-edges-before-clause-parted
+returns-else-edges-before-clause-parted c =
+    parted_here c.args.edges.now c.args.n c.edges.before c.requires.ordered c.edges.invariant.each (λ d within. not_before _ _ _ d _ within c.if-edges-before.false)
