@@ -9,6 +9,7 @@ pub mod Gaps
 pub mod Elided
 pub mod Ipv6Addresses
 pub mod SamePrefix
+pub mod Apart
 pub mod PrefixTexts
 pub mod OwnText
 pub mod SelectionLemmas

@@ -1,6 +1,6 @@
 //! The texts of prefixes, read: dotted decimal (RFC 4632, section 3.1) and colon hexadecimal
 //! (RFC 4291, section 2.2), each with a slash and a length.
-ghost use Rattle.std.specs.Prelude.{◌≡◌, ℕ, ◌+◌, ◌*◌, ◌<◌, ◌≤◌, ◌^◌, ◌↔◌, ◌==◌, ◌∷◌, Option, Some, MatchOption, length, option_copied, slice_index};
+ghost use Rattle.std.specs.Prelude.{◌≡◌, ℕ, ◌+◌, ◌*◌, ◌<◌, ◌≤◌, ◌^◌, ◌↔◌, ◌==◌, ◌∷◌, Option, Some, MatchOption, length, option_copied};
 ghost use Rattle.std.specs.List.{slice_split};
 ghost use Rattle.std.specs.Str.Parse.{IsNumeral, digits_value};
 ghost use Rattle.rela_flows.specs.Notation.{IsOctet, IsIpv4Address, IsIpv6Address};
