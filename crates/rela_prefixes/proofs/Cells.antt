@@ -1,9 +1,7 @@
 -- A prefix as a range of addresses, and its two halves.
-use Rattle.std.proofs.Common.{◌≡◌, ◌∙◌, sym, ap, ℕ, ◌+◌, ◌-◌, ◌*◌, ◌/◌, ◌%◌, ◌^◌, ◌<◌, ◌≤◌, arith}
-use Rattle.std.proofs.lemmas.Nat.{pow-add, pow_pos, div-add-mod', div-mul-add, mod-mul-add, mod_below}
+use Rattle.std.proofs.Common.{◌≡◌, ◌∙◌, sym, ap, ℕ, ◌+◌, ◌-◌, ◌*◌, ◌/◌, ◌%◌, ◌^◌, ◌<◌, ◌≤◌, refl, arith}
+use Rattle.std.proofs.lemmas.Nat.{pow-add, pow_pos, div-add-mod', div_below, div-mul-add, mod-mul-add, mod_below, mul-add-lt}
 use Rattle.rela_flows.specs.declared.prefix.Ipv4Prefix.{Ipv4Prefix}
-use Rattle.rela_flows.proofs.FirstBits.{own_number, block_fits}
-use Rattle.rela_flows.proofs.PrefixSets.{block4}
 use Rattle.rela_prefixes.specs.Holding.{Holds}
 
 -- how many addresses a prefix of this length has
@@ -12,7 +10,14 @@ size n = 2 ^ (32 - n)
 
 -- a prefix ends among the addresses
 pub ends : (p : Ipv4Prefix) → p.address + size p.length ≤ 2 ^ 32
-ends p = block_fits 32 p.length p.address p.length_fits p.address_fits p.host_bits_zero
+ends p =
+    let k : ℕ = size p.length in
+    let q : ℕ = p.address / k in
+    let whole : 2 ^ 32 ≡ 2 ^ p.length * k = ap (λ j. 2 ^ j) (let e : 32 ≡ p.length + (32 - p.length) = omega (arith, p.length_fits) in e) ∙ pow-add 2 p.length (32 - p.length) in
+    let some : 0 < k = pow_pos (32 - p.length) in
+    let below : q < 2 ^ p.length = div_below p.address k (2 ^ p.length) some (rw (← whole) p.address_fits) in
+    let last : q * k + (k - 1) < k * 2 ^ p.length = mul-add-lt q k (k - 1) (2 ^ p.length) below (omega (arith, some)) in
+    omega (arith, last, whole, some, div-add-mod' p.address k, p.host_bits_zero)
 
 -- the addresses of a prefix are those from its first on, as many as its size says
 pub from_first : (p : Ipv4Prefix) (a : ℕ) → Holds p a → p.address ≤ a
@@ -35,7 +40,7 @@ holds_from p a above below =
     }
 
 pub holds_own : (p : Ipv4Prefix) → Holds p p.address
-holds_own p = own_number 32 p.length p.address (block4 p)
+holds_own p = record { fits = p.address_fits; first_bits = refl }
 
 -- ---- halves
 

@@ -4,3 +4,4 @@ pub mod Splitting
 pub mod Cutting
 pub mod Halving
 pub mod Order
+pub mod OneList

@@ -11,13 +11,13 @@ use Rattle.rela_flows.specs.declared.prefix.Ipv4Prefix.{Ipv4Prefix}
 use Rattle.rela_prefixes.specs.declared.leaf.Leaf.{Leaf}
 use Rattle.rela_prefixes.specs.declared.leaf.Numbered.{Numbered}
 use Rattle.rela_prefixes.specs.Classes.{Adjoin, AreClasses, IsClass, IsInOne, IsParent}
-use Rattle.rela_prefixes.specs.Holding.{Holds, IsStrictlyWithin}
+use Rattle.rela_prefixes.specs.Holding.{Holds, HoldsAllOrNone, IsStrictlyWithin}
 use Rattle.rela_prefixes.specs.Inside.{AreNumbered, IsAbove, IsInside, IsKnown, IsNumbered, rank}
 use Rattle.rela_prefixes.specs.Leaves.{AreLeaves, HasLeaves, IsLeaf, cells}
 use Rattle.rela_prefixes.specs.Longest.{Longest, LongestWanted}
 use Rattle.rela_prefixes.proofs.Cells.{size, from_first, before_end, holds_from, holds_own}
 use Rattle.rela_prefixes.proofs.Cutting.{at_of}
-use Rattle.rela_prefixes.proofs.Nesting.{all_held, first_held, first_of_within, same_prefix, within_from_first}
+use Rattle.rela_prefixes.proofs.Nesting.{AreApart, all_held, all_or_none, first_held, first_of_within, same_prefix, within_from_first}
 
 -- ---- the whole trie
 
@@ -158,11 +158,11 @@ not_longer prefixes c d a one two in_c in_d longer = ⊎_elim
     one.uncut k p reached.2.2 (subst (λ x. IsStrictlyWithin x c) (sym reached.2.3) strict))
     two.parent_cut
 
-pub same_class : (prefixes : List Ipv4Prefix) (c d : Ipv4Prefix) (a : ℕ) → IsClass prefixes c → IsClass prefixes d → Holds c a → Holds d a → c ≡ d
-same_class prefixes c d a one two in_c in_d =
+pub same_class : AreApart → (prefixes : List Ipv4Prefix) (c d : Ipv4Prefix) (a : ℕ) → IsClass prefixes c → IsClass prefixes d → Holds c a → Holds d a → c ≡ d
+same_class apart prefixes c d a one two in_c in_d =
     let not_less : d.length ≤ c.length = ⊎_elim (λ less. absurd (not_longer prefixes c d a one two in_c in_d less)) (λ ge. ge) (cases_lt c.length d.length) in
     let not_more : c.length ≤ d.length = ⊎_elim (λ less. absurd (not_longer prefixes d c a two one in_d in_c less)) (λ ge. ge) (cases_lt d.length c.length) in
-    same_prefix c d a (omega arith) in_c in_d
+    same_prefix apart c d a (omega arith) in_c in_d
 
 some_cell : (leaves : List Leaf) (k : ℕ) (leaf : Leaf) → slice_get leaves k ≡ Some leaf → slice_get (cells leaves) k ≡ Some leaf.cell
 some_cell leaves k leaf at = slice_get-map (λ (l : Leaf). l.cell) leaves k ∙ ap (option_map (λ (l : Leaf). l.cell)) at
@@ -176,12 +176,12 @@ leaf_of leaves a j other at holds = by (slice_get leaves j) refl
         let same : leaf.cell ≡ other = same_Some leaf.cell other (sym (some_cell leaves j leaf e) ∙ at) in
         record { leaf = leaf; at = e; holds = subst (λ c. Holds c a) (sym same) holds }
 
-class_listed : (prefixes : List Ipv4Prefix) (leaves : List Leaf) → AreLeaves prefixes 0 (2 ^ 32) leaves → (c : Ipv4Prefix) → IsClass prefixes c → Contains (cells leaves) c
-class_listed prefixes leaves are c class =
+class_listed : AreApart → (prefixes : List Ipv4Prefix) (leaves : List Leaf) → AreLeaves prefixes 0 (2 ^ 32) leaves → (c : Ipv4Prefix) → IsClass prefixes c → Contains (cells leaves) c
+class_listed apart prefixes leaves are c class =
     let found = is_at 0 (2 ^ 32) leaves c.address are.adjoin (omega arith) c.address_fits in
     let leaf : Leaf = found.1.leaf in
     let own = at_of (IsLeaf prefixes) leaves found.0 leaf found.1.at are.each in
-    let same : leaf.cell ≡ c = same_class prefixes leaf.cell c c.address own.class class found.1.holds (holds_own c) in
+    let same : leaf.cell ≡ c = same_class apart prefixes leaf.cell c c.address own.class class found.1.holds (holds_own c) in
     let at : slice_get (cells leaves) found.0 ≡ Some c = some_cell leaves found.0 leaf found.1.at ∙ ap Some same in
     (found.0, slice_get_within (cells leaves) found.0 c at, get_or_from_slice_get (cells leaves) found.0 c c at)
 
@@ -197,10 +197,14 @@ in_one prefixes leaves are a fits =
       },
     )
 
-pub are_classes : (prefixes : List Ipv4Prefix) (leaves : List Leaf) (classes : List Ipv4Prefix) → AreLeaves prefixes 0 (2 ^ 32) leaves → classes ≡ cells leaves → AreClasses prefixes classes
-are_classes prefixes leaves classes are is = subst (AreClasses prefixes) (sym is) (record {
+pub are_classes : AreApart → (prefixes : List Ipv4Prefix) (leaves : List Leaf) (classes : List Ipv4Prefix) → AreLeaves prefixes 0 (2 ^ 32) leaves → classes ≡ cells leaves → AreClasses prefixes classes
+are_classes apart prefixes leaves classes are is = subst (AreClasses prefixes) (sym is) (record {
   each = All-map (IsClass prefixes) (λ (l : Leaf). l.cell) leaves (All-weaker (IsLeaf prefixes) (λ (l : Leaf). IsClass prefixes l.cell) (λ l own. own.class) leaves are.each);
-  every = class_listed prefixes leaves are;
+  every = class_listed apart prefixes leaves are;
   in_order = are.adjoin;
   one = in_one prefixes leaves are;
 })
+
+-- each prefix holds all addresses of a class or none
+pub all_whole : (prefixes classes : List Ipv4Prefix) → AreClasses prefixes classes → All (λ c. All (λ p. HoldsAllOrNone p c) prefixes) classes
+all_whole prefixes classes are = All-weaker (IsClass prefixes) (λ c. All (λ p. HoldsAllOrNone p c) prefixes) (λ c class k d lt. all_or_none (get_or prefixes k d) c (class.uncut k d lt)) classes are.each

@@ -1,11 +1,12 @@
 -- How the prefixes inside a cell are split, where they come in their order.
-use Rattle.std.proofs.Common.{◌≡◌, ◌≢◌, ◌∙◌, refl, sym, ap, subst, ℕ, zero, suc, ◌+◌, ◌<◌, ◌≤◌, Bool, true, false, cond, eqb, ltb, List, [], ◌∷◌, ◌++◌, length, get_or, take, drop, Option, Some, None, IfSome, IfNone, arith}
-use Rattle.std.specs.Prelude.{slice_get}
+use Rattle.std.proofs.Common.{◌≡◌, ◌≢◌, ◌∙◌, refl, sym, ap, subst, ℕ, zero, suc, ◌+◌, ◌-◌, ◌<◌, ◌≤◌, Bool, true, false, cond, eqb, ltb, List, [], ◌∷◌, ◌++◌, length, get_or, take, drop, Option, Some, None, IfSome, IfNone, arith}
+use Rattle.std.specs.Prelude.{option_map, slice_get}
 use Rattle.std.specs.List.{All, AllWithin, Contains, filter}
 use Rattle.std.specs.List.Sorted.{IsNonDecreasingBy, IsPartitionPoint, IsPartitionedBy}
 use Rattle.std.proofs.lemmas.Bool.{eq-eqb, false_from_ne_true, eqb-true, lt-ltb, le-ltb}
-use Rattle.std.proofs.lemmas.List.{append-nil, get_or_append_left, get_or-append-add}
+use Rattle.std.proofs.lemmas.List.{append-nil, get_or_default, get_or_append_left, get_or-append-add}
 use Rattle.std.proofs.lemmas.List.Elements.{All-contains, All-drop, All-head, All-more, All-tail, filter-append, Contains-append_left}
+use Rattle.std.proofs.lemmas.Option.{none-some, slice_get-get_or}
 use Rattle.std.proofs.lemmas.List.Sorted.{IsNonDecreasingBy-drop, IsPartitionedBy-ltb}
 use Rattle.rela_flows.specs.declared.prefix.Ipv4Prefix.{Ipv4Prefix}
 use Rattle.rela_prefixes.specs.declared.leaf.Halves.{Halves}
@@ -13,7 +14,7 @@ use Rattle.rela_prefixes.specs.declared.leaf.Numbered.{Numbered}
 use Rattle.rela_prefixes.specs.Inside.{IsInside, IsRun, middle_of, rank}
 use Rattle.rela_prefixes.specs.Split.{is_low, is_high, IsHere, IsParted, NoneHere}
 use Rattle.rela_prefixes.proofs.Cells.{from_first, holds_own}
-use Rattle.rela_prefixes.proofs.Nesting.{same_prefix}
+use Rattle.rela_prefixes.proofs.Nesting.{same_address}
 
 -- ---- filters
 
@@ -52,7 +53,7 @@ high_above length middle n other above = rw (other_length length n other, le-ltb
 
 -- what is the cell itself
 is_cell : (cell : Ipv4Prefix) (n : Numbered) → IsInside cell n.prefix → n.prefix.length ≡ cell.length → n.prefix.address ≡ cell.address
-is_cell cell n inside same = ap (λ (p : Ipv4Prefix). p.address) (same_prefix n.prefix cell n.prefix.address same (holds_own n.prefix) inside.begins)
+is_cell cell n inside same = same_address n.prefix cell n.prefix.address same (holds_own n.prefix) inside.begins
 
 -- where the first is longer than the cell, all are
 all_longer : (cell : Ipv4Prefix) (ns : List Numbered) → All (λ n. IsInside cell n.prefix) ns → IsNonDecreasingBy rank ns → ((n : Numbered) → slice_get ns 0 ≡ Some n → n.prefix.length ≢ cell.length) → NoneHere cell.length ns
@@ -89,26 +90,41 @@ get_drop zero xs = refl
 get_drop (suc k) [] = refl
 get_drop (suc k) (x ∷ xs) = get_drop k xs
 
-here_found : (length : ℕ) (ns here longer : List Numbered) (found : Option ℕ) → ns ≡ here ++ longer → All (λ n. n.prefix.length ≡ length) here → IfSome found (λ number. (n : Numbered) × Contains here n × (n.number ≡ number)) → IfSome found (IsHere length ns)
-here_found length ns here longer None both same some = tt
-here_found length ns here longer (Some number) both same some = record {
-  one = some.0;
-  listed = subst (λ xs. Contains xs some.0) (sym both) (Contains-append_left here longer some.0 some.1);
-  number_is = some.2;
-  length_is = All-contains (λ (n : Numbered). n.prefix.length ≡ length) here some.0 same some.1;
-}
+-- the number of the last one, if there is one
+abbrev pub last_number : List Numbered → Option ℕ
+last_number ns = option_map (λ (n : Numbered). n.number) (slice_get ns (length ns - 1))
 
-none_found : (cell : ℕ) (ns here longer : List Numbered) (found : Option ℕ) → ns ≡ here ++ longer → NoneHere cell longer → IfNone found (length here ≡ 0) → IfNone found (NoneHere cell ns)
-none_found cell ns [] longer None both none nowhere = subst (NoneHere cell) (sym both) none
-none_found cell ns (n ∷ here) longer None both none nowhere = absurd (omega (arith, nowhere))
-none_found cell ns here longer (Some number) both none nowhere = tt
+last_is : (ns : List Numbered) (k : ℕ) (n : Numbered) → k ≡ length ns - 1 → k < length ns → last_number ns ≡ Some (get_or ns k n).number
+last_is ns k n is lt =
+    ap (λ i. option_map (λ (n : Numbered). n.number) (slice_get ns i)) (sym is)
+    ∙ ap (option_map (λ (n : Numbered). n.number)) (slice_get-get_or ns k n lt)
+
+here_found : (cell : ℕ) (ns here longer : List Numbered) (found : Option ℕ) → ns ≡ here ++ longer → All (λ n. n.prefix.length ≡ cell) here → found ≡ last_number here → IfSome found (IsHere cell ns)
+here_found cell ns [] longer None both same last = tt
+here_found cell ns [] longer (Some number) both same last = absurd (none-some number (sym last))
+here_found cell ns (n ∷ here) longer found both same last =
+    let k : ℕ = length here in
+    let lt : k < length (n ∷ here) = omega arith in
+    let m : Numbered = get_or (n ∷ here) k n in
+    let listed : Contains (n ∷ here) m = (k, lt, get_or_default (n ∷ here) k m n lt) in
+    subst (λ (o : Option ℕ). IfSome o (IsHere cell ns)) (sym (last ∙ last_is (n ∷ here) k n (omega arith) lt)) (record {
+      one = m;
+      listed = subst (λ xs. Contains xs m) (sym both) (Contains-append_left (n ∷ here) longer m listed);
+      number_is = refl;
+      length_is = All-contains (λ (n : Numbered). n.prefix.length ≡ cell) (n ∷ here) m same listed;
+    })
+
+none_found : (cell : ℕ) (ns here longer : List Numbered) (found : Option ℕ) → ns ≡ here ++ longer → NoneHere cell longer → found ≡ last_number here → IfNone found (NoneHere cell ns)
+none_found cell ns [] longer found both none last = subst (λ (o : Option ℕ). IfNone o (NoneHere cell ns)) (sym last) (subst (NoneHere cell) (sym both) none)
+none_found cell ns (n ∷ here) longer found both none last =
+    subst (λ (o : Option ℕ). IfNone o (NoneHere cell ns)) (sym (last ∙ last_is (n ∷ here) (length here) n (omega arith) (omega arith))) tt
 
 -- the prefixes of the cell's length, then those below the middle, then the others
 pub parted : (cell : Ipv4Prefix) (ns here longer low high : List Numbered) (count m : ℕ) (parts : Halves) → IsRun cell ns → ns ≡ here ++ longer → longer ≡ drop count ns → longer ≡ low ++ high → length low ≡ m → length high + m ≡ length longer
     → All (λ n. n.prefix.length ≡ cell.length) here → ((n : Numbered) → slice_get ns count ≡ Some n → n.prefix.length ≢ cell.length)
     → (IsPartitionedBy (λ n. ltb n.prefix.address (middle_of cell)) longer → IsPartitionPoint (λ n. n.prefix.address < middle_of cell) (λ n. middle_of cell ≤ n.prefix.address) longer m)
-    → IfSome parts.here (λ number. (n : Numbered) × Contains here n × (n.number ≡ number)) → IfNone parts.here (length here ≡ 0) → parts.low.now ≡ low → parts.high.now ≡ high → IsParted cell ns parts
-parted cell ns here longer low high count m parts run both rest halves first total same stops divides some nowhere l h =
+    → parts.here ≡ last_number here → parts.low.now ≡ low → parts.high.now ≡ high → IsParted cell ns parts
+parted cell ns here longer low high count m parts run both rest halves first total same stops divides last l h =
     let middle : ℕ = middle_of cell in
     let within : All (λ (n : Numbered). IsInside cell n.prefix) longer = subst (All (λ (n : Numbered). IsInside cell n.prefix)) (sym rest) (All-drop (λ (n : Numbered). IsInside cell n.prefix) count ns run.within) in
     let ranked : IsNonDecreasingBy rank longer = subst (IsNonDecreasingBy rank) (sym rest) (IsNonDecreasingBy-drop rank count ns run.ranked) in
@@ -133,6 +149,6 @@ parted cell ns here longer low high count m parts run both rest halves first tot
     record {
       low = l ∙ sym low_is;
       high = h ∙ sym high_is;
-      here = here_found cell.length ns here longer parts.here both same some;
-      none = none_found cell.length ns here longer parts.here both none nowhere;
+      here = here_found cell.length ns here longer parts.here both same last;
+      none = none_found cell.length ns here longer parts.here both none last;
     }

@@ -1,12 +1,14 @@
 //! The classes of addresses that some prefixes cut.
 
 ghost use Rattle.std.specs.Prelude.{◌≡◌, ◌<◌, ◌^◌, IfOk, length};
+ghost use Rattle.std.specs.List.{All};
 ghost use Rattle.rela_prefixes.specs.Classes.{AreClasses};
+ghost use Rattle.rela_prefixes.specs.Holding.{HoldsAllOrNone};
 ghost use Rattle.rela_prefixes.specs.Leaves.{cells};
 
 use crate::leaf::Leaf;
 use crate::table::leaves_of;
-use rela_flows::Ipv4Prefix;
+use rela_flows::{Ipv4Prefix, prefixes_of_one_length_are_apart};
 use std::alloc::{AllocError, Global};
 
 /// The classes of addresses that these prefixes cut, in the order of their addresses.
@@ -21,9 +23,12 @@ use std::alloc::{AllocError, Global};
 /// Only where memory is wanted.
 pub fn classes_of(alloc: Global, prefixes: &[Ipv4Prefix]) -> Result<Vec<Ipv4Prefix>, AllocError>
     requires { length prefixes.now < 2 ^ 32 }
-    ensures { IfOk result (λ classes. AreClasses prefixes.now classes.items) }
+    ensures classes { IfOk result (λ classes. AreClasses prefixes.now classes.items) }
+    ensures whole { IfOk result (λ classes.
+        All (λ c. All (λ p. HoldsAllOrNone p c) prefixes.now) classes.items) }
 {
     let leaves = leaves_of(alloc, prefixes)?;
+    prefixes_of_one_length_are_apart();
     let classes = cells_of(alloc, leaves.as_slice())?;
     Ok(classes)
 }

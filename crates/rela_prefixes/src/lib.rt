@@ -3,10 +3,12 @@
 #![tactic(auto)]
 
 mod classes;
+mod laws;
 mod leaf;
 mod leaves;
 mod split;
 mod table;
 
 pub use classes::classes_of;
+pub use laws::classes_are_unique;
 pub use table::PrefixTable;

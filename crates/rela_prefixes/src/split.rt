@@ -1,12 +1,12 @@
 //! The prefixes inside a cell of the trie, split by the half of the cell in which they lie.
 
-ghost use Rattle.std.specs.Prelude.{◌≡◌, ◌≢◌, ◌<◌, ◌≤◌, ℕ, Some, IfSome, IfNone, length as len, nat_lt, slice_get, take};
-ghost use Rattle.std.specs.List.{All, Contains};
+ghost use Rattle.std.specs.Prelude.{◌≡◌, ◌≢◌, ◌-◌, ◌<◌, ◌≤◌, Some, length as len, nat_lt, option_map, slice_get, take};
+ghost use Rattle.std.specs.List.{All};
 ghost use Rattle.std.specs.List.Sorted.{IsPartitionPoint, IsPartitionedBy};
 ghost use Rattle.rela_flows.specs.declared.prefix.Ipv4Prefix.{Ipv4Prefix};
 ghost use Rattle.rela_prefixes.specs.declared.leaf.Numbered.{Numbered};
 ghost use Rattle.rela_prefixes.specs.Inside.{IsRun, middle_of};
-ghost use Rattle.rela_prefixes.specs.Split.{IsHere, IsParted};
+ghost use Rattle.rela_prefixes.specs.Split.{IsParted};
 
 use crate::leaf::{Halves, Numbered};
 
@@ -54,11 +54,9 @@ fn count_below(longer: &[Numbered], middle: u32) -> usize
     longer.partition_point(|numbered| numbered.prefix.address < middle)
 }
 
-/// The index in the list of the last of these prefixes.
+/// The index in the list of the last of these prefixes, and `None` where there is none.
 fn last_number(here: &[Numbered]) -> Option<u32>
-    ensures some { IfSome result (λ number. (n : Numbered) × Contains here.now n
-        × (n.number ≡ number)) }
-    ensures none { IfNone result (len here.now ≡ 0) }
+    ensures { result ≡ option_map (λ n. n.number) (slice_get here.now (len here.now - 1)) }
 {
     match here.last() {
         Some(numbered) => Some(numbered.number),

@@ -14,4 +14,4 @@ returns c = λ cell long mid run.
     (λ n at same. c.count_here.ensures.stops n at (same ∙ long))
     (λ divided. subst (λ middle. IsPartitionPoint (λ (n : Numbered). n.prefix.address < middle) (λ n. middle ≤ n.prefix.address) longer c.count_below.result) (sym mid)
     (c.count_below.ensures.parted (subst (λ middle. IsPartitionedBy (λ (n : Numbered). ltb n.prefix.address middle) longer) mid divided)))
-    c.last_number.ensures.some c.last_number.ensures.none refl refl
+    c.last_number.ensures refl refl
