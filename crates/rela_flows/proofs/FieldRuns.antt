@@ -10,6 +10,7 @@ use Rattle.rela_flows.specs.declared.prefix.reading.Notation.{Notation}
 use Rattle.rela_flows.specs.declared.prefix.reading.Notation.TheVariants.{Dotted, Colons}
 use Rattle.rela_flows.specs.declared.prefix.reading.Fields.{Fields}
 use Rattle.rela_flows.specs.Fields.{separator_of, bits_of, IsField, parts_of, Write}
+use Rattle.rela_flows.specs.Written.{parts_in}
 use Rattle.rela_flows.proofs.Parts.{IsNot, splits, splits_joined, joined_splits}
 use Rattle.rela_flows.proofs.Numerals.{numeral_of_octet, digits_avoid}
 
@@ -35,38 +36,33 @@ fields_avoid notation [] numbers each = tt
 fields_avoid notation (part ∷ parts) [] each = absurd each
 fields_avoid notation (part ∷ parts) (n ∷ ns) each = (field_avoids notation part n each.0, fields_avoid notation parts ns each.1)
 
--- the parts of a text; the empty one has none
-abbrev pub all_parts : ℕ → List ℕ → List (List ℕ)
-all_parts separator [] = []
-all_parts separator (c ∷ cs) = splits separator (c ∷ cs)
-
-all_parts_some : (s : ℕ) (text : List ℕ) → 0 < length text → all_parts s text ≡ splits s text
-all_parts_some s [] some = absurd (omega arith)
-all_parts_some s (c ∷ cs) some = refl
+parts_in_some : (s : ℕ) (text : List ℕ) → 0 < length text → parts_in s text ≡ splits s text
+parts_in_some s [] some = absurd (omega arith)
+parts_in_some s (c ∷ cs) some = refl
 
 joined_some : (s : ℕ) (part : List ℕ) (parts : List (List ℕ)) → 0 < length part → 0 < length (join_with_byte s (part ∷ parts))
 joined_some s part [] some = some
 joined_some s part (next ∷ more) some = omega (arith, length-append part (s ∷ join_with_byte s (next ∷ more)))
 
-parts_of_joined : (notation : Notation) (parts : List (List ℕ)) (numbers : List ℕ) → AllZip (IsField notation) parts numbers → all_parts (separator_of notation) (join_with_byte (separator_of notation) parts) ≡ parts
+pub parts_of_joined : (notation : Notation) (parts : List (List ℕ)) (numbers : List ℕ) → AllZip (IsField notation) parts numbers → parts_in (separator_of notation) (join_with_byte (separator_of notation) parts) ≡ parts
 parts_of_joined notation [] numbers each = refl
 parts_of_joined notation (part ∷ parts) [] each = absurd each
 parts_of_joined notation (part ∷ parts) (n ∷ ns) each =
-    all_parts_some (separator_of notation) (join_with_byte (separator_of notation) (part ∷ parts))
+    parts_in_some (separator_of notation) (join_with_byte (separator_of notation) (part ∷ parts))
     (joined_some (separator_of notation) part parts (field_some notation part n each.0))
     ∙ splits_joined (separator_of notation) part parts (fields_avoid notation (part ∷ parts) (n ∷ ns) each)
 
-joined_parts : (s : ℕ) (text : List ℕ) → text ≡ join_with_byte s (all_parts s text)
+pub joined_parts : (s : ℕ) (text : List ℕ) → text ≡ join_with_byte s (parts_in s text)
 joined_parts s [] = refl
 joined_parts s (c ∷ cs) = joined_splits s (c ∷ cs)
 
 -- no fields are read yet
-pub run_start : (notation : Notation) (text : List ℕ) (fields : Fields) → Write notation text fields ↔ Continues notation 0 0 (all_parts (separator_of notation) text) fields
+pub run_start : (notation : Notation) (text : List ℕ) (fields : Fields) → Write notation text fields ↔ Continues notation 0 0 (parts_in (separator_of notation) text) fields
 run_start notation text fields = (
   (λ write. record {
     numbers = write.numbers;
-    each = let parts : all_parts (separator_of notation) text ≡ write.written.fields =
-        ap (all_parts (separator_of notation)) write.written.joined ∙ parts_of_joined notation write.written.fields write.numbers write.written.each in
+    each = let parts : parts_in (separator_of notation) text ≡ write.written.fields =
+        ap (parts_in (separator_of notation)) write.written.joined ∙ parts_of_joined notation write.written.fields write.numbers write.written.each in
         rw parts write.written.each;
     few = omega (arith, write.few);
     total = omega (arith, write.count);
@@ -74,7 +70,7 @@ run_start notation text fields = (
   }),
   λ run. record {
     numbers = run.numbers;
-    written = record { fields = all_parts (separator_of notation) text; joined = joined_parts (separator_of notation) text; each = run.each };
+    written = record { fields = parts_in (separator_of notation) text; joined = joined_parts (separator_of notation) text; each = run.each };
     few = omega (arith, run.few);
     count = omega (arith, run.total);
     number = run.value;
@@ -203,12 +199,12 @@ shifted_fits notation count number n part small field =
     ∙ pow-add 2 (bits_of notation) (bits_of notation * count) in
     rw power below
 
-pub all_of_empty : (s : ℕ) (text : List ℕ) (rest : Option (Bor (List ℕ))) → length text ≡ 0 → rest ≡ None → parts_of s (option_copied rest) ≡ all_parts s text
+pub all_of_empty : (s : ℕ) (text : List ℕ) (rest : Option (Bor (List ℕ))) → length text ≡ 0 → rest ≡ None → parts_of s (option_copied rest) ≡ parts_in s text
 all_of_empty s [] rest empty none = rw none refl
 all_of_empty s (c ∷ cs) rest empty none = absurd (omega arith)
 
-pub all_of_some : (s : ℕ) (text : List ℕ) (rest : Option (Bor (List ℕ))) (whole : Bor (List ℕ)) → 0 < length text → rest ≡ Some whole → whole.now ≡ text → parts_of s (option_copied rest) ≡ all_parts s text
-all_of_some s text rest whole some is same = rw (is, same) (sym (all_parts_some s text some))
+pub all_of_some : (s : ℕ) (text : List ℕ) (rest : Option (Bor (List ℕ))) (whole : Bor (List ℕ)) → 0 < length text → rest ≡ Some whole → whole.now ≡ text → parts_of s (option_copied rest) ≡ parts_in s text
+all_of_some s text rest whole some is same = rw (is, same) (sym (parts_in_some s text some))
 
 pub none_left : (s : ℕ) (rest : Option (Bor (List ℕ))) → ((more : Bor (List ℕ)) → rest ≡ Some more → ⊥) → parts_of s (option_copied rest) ≡ []
 none_left s None none = refl

@@ -11,5 +11,6 @@ pub mod Ipv6Addresses
 pub mod SamePrefix
 pub mod Apart
 pub mod PrefixTexts
+pub mod WrittenTexts
 pub mod OwnText
 pub mod SelectionLemmas

@@ -1,6 +1,5 @@
 -- Prefixes are the same where their numbers are.
-use Rattle.std.proofs.Common.{◌≡◌, ℕ, ◌<◌, ◌≤◌, ◌-◌, ◌/◌, ◌+◌, ◌%◌, ◌^◌, ◌↔◌, Some, sym, ◌∙◌, ap, subst, arith}
-use Rattle.std.proofs.lemmas.Nat.{mod-mul-add, pow_pos}
+use Rattle.std.proofs.Common.{◌≡◌, ℕ, ◌<◌, ◌≤◌, ◌-◌, ◌%◌, ◌^◌, ◌↔◌, Some, sym, ◌∙◌, ap, subst}
 use Rattle.rela_flows.specs.Network.{network}
 use Rattle.std.specs.Coded.{Coded-set, coded_ℕ, le_prop}
 use Rattle.rela_flows.specs.declared.prefix.Ipv4Prefix.{Ipv4Prefix}
@@ -39,12 +38,6 @@ same6 p q length address =
     let Q : ℕ → ℕ → Type 0 = λ b m. (fits : b < 2 ^ 128) (short : m ≤ 128) (zeros : b % 2 ^ (128 - m) ≡ 0) → p ≡ make6 b m fits short zeros in
     let start : Q p.address p.length = λ fits short zeros. alike6 p.address p.length p.address_fits fits p.length_fits short p.host_bits_zero zeros in
     subst (λ m. Q q.address m) length (subst (λ b. Q b p.length) address start) q.address_fits q.length_fits q.host_bits_zero
-
--- a network has no bits past its own
-pub network_zeros : (w n a k : ℕ) → k ≡ network w n a → k % 2 ^ (w - n) ≡ 0
-network_zeros w n a k is =
-    let zeros : (network w n a + 0) % 2 ^ (w - n) ≡ 0 = mod-mul-add (a / 2 ^ (w - n)) (2 ^ (w - n)) 0 (pow_pos (w - n)) in
-    ap (λ x. x % 2 ^ (w - n)) (let e : k ≡ network w n a + 0 = omega (arith, is) in e) ∙ zeros
 
 -- the one prefix of its numbers
 pub only4 : (made : Ipv4Prefix) (a n : ℕ) → made.length ≡ n → made.address ≡ network 32 n a → (p : Ipv4Prefix) → (Some made ≡ Some p) ↔ ((p.length ≡ n) × (p.address ≡ network 32 n a))

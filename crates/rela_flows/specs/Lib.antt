@@ -4,3 +4,4 @@ pub mod Notation
 pub mod Network
 pub mod Selects
 pub mod Plan
+pub mod Written

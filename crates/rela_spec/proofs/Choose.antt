@@ -1,15 +1,14 @@
 -- Readings of nothing, of one token, and of one of two phrases.
-use Rattle.std.proofs.Common.{◌≡◌, ◌⊎◌, ℕ, zero, suc, ◌+◌, ◌<◌, ◌≤◌, Bool, true, false, if◌then◌else◌, Option, None, Some, Result, Ok, Err, List, [], ◌∷◌, ◌++◌, refl, sym, ap, ◌∙◌, subst, inl, inr, arith, append_assoc}
+use Rattle.std.proofs.Common.{◌≡◌, ℕ, ◌≤◌, Bool, true, false, if◌then◌else◌, Option, None, Some, Result, Ok, Err, List, [], ◌∷◌, ◌++◌, refl, sym, ap, ◌∙◌, inl, inr, arith}
 use Rattle.std.specs.Option.{option_and_then}
-use Rattle.std.proofs.lemmas.Bool.{cases_Bool}
 use Rattle.rela_lex.specs.declared.error.SpecError.{SpecError}
-use Rattle.rela_lex.specs.declared.error.SpecError.TheVariants.{BadToken, Syntax, UnknownName, RepeatedName, TooDeep, TooLarge, BadNumber, FinerLevel, UnknownLocation, Memory}
+use Rattle.rela_lex.specs.declared.error.SpecError.TheVariants.{Syntax, TooDeep, Memory}
 use Rattle.rela_lex.specs.declared.token.Token.{Token}
 use Rattle.rela_lex.specs.declared.token.TokenKind.{TokenKind}
 use Rattle.rela_spec.specs.Grammar.{SameNext, room_after, room_behind}
 use Rattle.rela_spec.specs.Phrases.{Phrase, token, done, ◌or◌}
 use Rattle.rela_spec.specs.Readings.{Reading, next_is, choose, read_done, read_token, token_value}
-use Rattle.rela_spec.proofs.Exact.{Stops, Read, Stuck, Deep, Outcome, Completed, Exact, same_after, same_passes, nothing_opened}
+use Rattle.rela_spec.proofs.Exact.{Stops, Outcome, Completed, Exact, same_after, same_passes, nothing_opened}
 
 -- only where the next token passes the phrase begins
 abbrev pub Begins : {A : Type 0} → (ℕ → Phrase A) → (TokenKind → Bool) → Type 0

@@ -1,9 +1,9 @@
 -- What it means that a reading is exact for a phrase.
-use Rattle.std.proofs.Common.{◌≡◌, ◌⊎◌, ℕ, zero, suc, ◌+◌, ◌<◌, ◌≤◌, Bool, true, false, if◌then◌else◌, Option, None, Some, Result, Ok, Err, List, [], ◌∷◌, ◌++◌, length, refl, sym, ap, ◌∙◌, subst, inl, inr, arith, append_assoc}
+use Rattle.std.proofs.Common.{◌≡◌, ℕ, ◌<◌, ◌≤◌, Bool, true, false, Option, None, Some, Result, Ok, Err, List, [], ◌∷◌, ◌++◌, refl, sym, ap, subst}
 use Rattle.std.specs.Prelude.{⊤}
 use Rattle.std.specs.Option.{option_and_then}
 use Rattle.rela_lex.specs.declared.error.SpecError.{SpecError}
-use Rattle.rela_lex.specs.declared.error.SpecError.TheVariants.{BadToken, Syntax, UnknownName, RepeatedName, TooDeep, TooLarge, BadNumber, FinerLevel, UnknownLocation, Memory}
+use Rattle.rela_lex.specs.declared.error.SpecError.TheVariants.{Syntax, TooDeep, Memory}
 use Rattle.rela_lex.specs.declared.token.Token.{Token}
 use Rattle.rela_lex.specs.declared.token.TokenKind.{TokenKind}
 use Rattle.rela_spec.specs.Grammar.{SameNext, offset, opens, room_after, room_behind}

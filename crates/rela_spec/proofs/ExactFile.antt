@@ -1,44 +1,44 @@
 -- Items and whole texts are read exactly.
-use Rattle.std.proofs.Common.{◌≡◌, ℕ, zero, suc, ◌+◌, ◌<◌, ◌≤◌, Bool, true, false, ◌||◌, Option, None, Some, Err, List, [], ◌∷◌, ◌++◌, refl, sym, ap, ◌∙◌, subst, inl, inr, arith}
-use Rattle.std.specs.Prelude.{⊤, codes}
+use Rattle.std.proofs.Common.{◌≡◌, ℕ, Bool, true, false, ◌||◌, List, [], ◌∷◌, refl, sym, ◌∙◌, subst, arith}
+use Rattle.std.specs.Prelude.{codes}
 use Rattle.rela_names.specs.declared.level.Level.{Level}
 use Rattle.rela_names.specs.declared.level.Level.TheVariants as level
 use Rattle.rela_flows.specs.declared.predicate.Predicate.{Predicate}
 use Rattle.rela_flows.specs.declared.predicate.Predicate.TheVariants as flows
 use Rattle.rela_lex.specs.declared.token.Token.{Token}
 use Rattle.rela_lex.specs.declared.token.TokenKind.{TokenKind}
-use Rattle.rela_lex.specs.declared.token.TokenKind.TheVariants.{Mark, Bare}
 use Rattle.rela_spec.specs.Grammar.{is_mark_of, level_word, level_line, condition, path_item, spec_item, check_item, an_item, file}
 use Rattle.rela_spec.specs.GrammarWords.{Named, mark, word, name}
 use Rattle.rela_spec.specs.GrammarPaths.{path}
 use Rattle.rela_spec.specs.GrammarSpecs.{body}
 use Rattle.rela_spec.specs.GrammarPredicates.{predicate}
 use Rattle.rela_spec.specs.Keywords.{is_keyword, is_item_word, is_member_word, is_modifier_word, is_joining_word, is_predicate_word}
-use Rattle.rela_spec.specs.Phrases.{Phrase, done, whether, many, ◌or◌, ◌>>=◌, ◌>>◌}
-use Rattle.rela_spec.specs.ReadWords.{is_word_of, is_name_kind, read_mark, read_word, read_name, whether_word}
+use Rattle.rela_spec.specs.Phrases.{Phrase, done, whether, many, ◌>>=◌, ◌>>◌}
+use Rattle.rela_spec.specs.ReadWords.{is_word_of, is_name_kind, read_mark, read_name, whether_word}
 use Rattle.rela_spec.specs.ReadPaths.{starts_member, starts_path, read_path}
 use Rattle.rela_spec.specs.ReadPredicates.{read_predicate}
 use Rattle.rela_spec.specs.ReadSpecs.{read_body}
 use Rattle.rela_spec.specs.ReadFile.{read_level_word, read_level_line, read_condition, read_path_item, read_spec_item, read_check_item, read_item, read_items, read_file}
-use Rattle.rela_spec.specs.Readings.{Reading, next_is, choose, and_read, read_done}
+use Rattle.rela_spec.specs.Readings.{Reading, next_is, and_read, read_done}
 use Rattle.rela_spec.specs.declared.tree.Item.{Item}
 use Rattle.rela_spec.specs.declared.tree.Item.TheVariants as item
 use Rattle.rela_spec.specs.declared.tree.SpecFile.{SpecFile}
 use Rattle.rela_spec.proofs.Exact.{Stops, Exact}
 use Rattle.rela_spec.proofs.Then.{Follows, exact_then}
-use Rattle.rela_spec.proofs.Choose.{Begins, exact_done, weaken}
+use Rattle.rela_spec.proofs.Choose.{exact_done, weaken}
 use Rattle.rela_spec.proofs.Many.{all_exact}
-use Rattle.rela_spec.proofs.ExactPaths.{path_goes_on, led_path}
+use Rattle.rela_spec.proofs.ExactPaths.{led_path}
 use Rattle.rela_spec.proofs.ExactPredicates.{predicate_goes_on, led_predicate}
-use Rattle.rela_spec.proofs.ExactSpecs.{body_goes_on, led_body}
+use Rattle.rela_spec.proofs.ExactPrefixes.{AreFound}
+use Rattle.rela_spec.proofs.ExactSpecs.{led_body}
 use Rattle.rela_spec.proofs.ExactWords.{nothing, stops_nothing, stops_first, stops_second, Apart, apart_mark, apart_word, apart_back, apart_next, begins_mark, begins_name, begins_then, avoids_done, follows_nothing, follows_begins, exact_name}
-use Rattle.rela_spec.proofs.Leading.{Leading, behind_mark, led_word, or_word, word_or_else, led_then, closed_by}
+use Rattle.rela_spec.proofs.Leading.{Leading, behind_mark, led_word, or_word, word_or_else, closed_by}
 
 -- any token
 abbrev pub anything : TokenKind → Bool
 anything kind = true
 
-module _ (end : ℕ) where
+module _ (are_found : AreFound) (end : ℕ) where
   abbrev starts_level : TokenKind → Bool
   starts_level kind = is_word_of (codes "interface") kind || (is_word_of (codes "device") kind || is_word_of (codes "group") kind)
 
@@ -56,14 +56,14 @@ module _ (end : ℕ) where
       (exact_done level.Interface (is_word_of (codes "level")) 0 room room end) (avoids_done level.Interface (is_word_of (codes "level")) (is_word_of (codes "level")) (λ ts h. h))
 
   abbrev condition_goes_on : TokenKind → Bool
-  condition_goes_on kind = predicate_goes_on end kind || is_word_of (codes "for") kind
+  condition_goes_on kind = predicate_goes_on are_found end kind || is_word_of (codes "for") kind
 
   exact_condition : (room : ℕ) → Exact (λ d. condition d) condition_goes_on 0 room room room end (read_condition end room)
   unfolding condition read_condition
   exact_condition room =
       word_or_else (codes "for") (omega arith)
-      (weaken (λ d. predicate d) (read_predicate end room) (predicate_goes_on end) condition_goes_on 0 0 room room room end (omega arith) (stops_first (predicate_goes_on end) (is_word_of (codes "for"))) (led_predicate end room).exact)
-      (exact_done flows.All condition_goes_on 0 room room end) (avoids_done flows.All (is_word_of (codes "for")) condition_goes_on (stops_second (predicate_goes_on end) (is_word_of (codes "for"))))
+      (weaken (λ d. predicate d) (read_predicate end room) (predicate_goes_on are_found end) condition_goes_on 0 0 room room room end (omega arith) (stops_first (predicate_goes_on are_found end) (is_word_of (codes "for"))) (led_predicate are_found end room).exact)
+      (exact_done flows.All condition_goes_on 0 room room end) (avoids_done flows.All (is_word_of (codes "for")) condition_goes_on (stops_second (predicate_goes_on are_found end) (is_word_of (codes "for"))))
 
   abbrev path_of : Named → ℕ → Phrase Item
   path_of n d = mark 61 >> (path d >>= λ e. mark 59 >> done (item.Path n.name n.at e))

@@ -1,29 +1,27 @@
 -- Path expressions are read exactly.
-use Rattle.std.proofs.Common.{◌≡◌, ℕ, zero, suc, ◌+◌, ◌-◌, ◌<◌, ◌≤◌, Bool, true, false, ◌||◌, Option, None, Some, Err, List, [], ◌∷◌, ◌++◌, refl, sym, ap, ◌∙◌, subst, inl, inr, arith}
-use Rattle.std.specs.Prelude.{⊤, codes}
-use Rattle.std.proofs.lemmas.Bool.{or_cases}
+use Rattle.std.proofs.Common.{◌≡◌, ℕ, zero, suc, ◌-◌, Bool, true, false, ◌||◌, Some, Err, List, [], ◌∷◌, refl, sym, subst, arith}
+use Rattle.std.specs.Prelude.{codes}
 use Rattle.rela_lex.specs.declared.error.SpecError.TheVariants.{Memory}
 use Rattle.rela_lex.specs.declared.token.Token.{Token}
 use Rattle.rela_lex.specs.declared.token.TokenKind.{TokenKind}
 use Rattle.rela_lex.specs.declared.token.TokenKind.TheVariants.{Mark, Bare, Quoted, Reference}
 use Rattle.rela_locations.specs.declared.members.By.TheVariants as by
 use Rattle.rela_spec.specs.Grammar.{is_mark_of, room_after}
-use Rattle.rela_spec.specs.GrammarWords.{Named, mark, word, name, reference, number}
+use Rattle.rela_spec.specs.GrammarWords.{mark, name, reference, number}
 use Rattle.rela_spec.specs.GrammarPaths.{picked_by, picked, a_member, class, times, group, atom, postfix, negation, expression, path}
 use Rattle.rela_spec.specs.Keywords.{is_keyword, is_item_word, is_member_word, is_modifier_word, is_joining_word, is_predicate_word}
 use Rattle.rela_spec.specs.Phrases.{Phrase, done, none, whether, many, chain, bracketed, ◌or◌, ◌>>=◌, ◌>>◌}
-use Rattle.rela_spec.specs.ReadWords.{is_word_of, is_name_kind, is_reference_kind, read_mark, read_word, read_name, read_reference, read_number, whether_mark}
-use Rattle.rela_spec.specs.ReadPaths.{is_picking, read_picked_by, read_picked, read_member, starts_member, read_members, read_class, read_times, read_group, read_atom, read_postfix, read_postfixed, read_negation, starts_path, read_sequence, read_conjunction, read_alternation, read_expression, read_path}
-use Rattle.rela_spec.specs.Readings.{Reading, next_is, choose, and_read, read_done, read_open, read_all}
-use Rattle.rela_spec.specs.declared.tree.Member.{Member}
+use Rattle.rela_spec.specs.ReadWords.{is_word_of, is_name_kind, is_reference_kind, read_mark, read_name, read_reference, read_number, whether_mark}
+use Rattle.rela_spec.specs.ReadPaths.{is_picking, read_picked_by, read_picked, read_member, starts_member, read_members, read_class, read_times, read_group, read_atom, read_postfix, read_postfixed, read_negation, starts_path, read_sequence, read_conjunction, read_expression, read_path}
+use Rattle.rela_spec.specs.Readings.{Reading, next_is, choose, and_read, read_done}
 use Rattle.rela_spec.specs.declared.tree.Member.TheVariants as member
 use Rattle.rela_spec.specs.declared.tree.PathExpr.{PathExpr}
 use Rattle.rela_spec.specs.declared.tree.PathExpr.TheVariants as expr
 use Rattle.rela_spec.proofs.Exact.{Stops, Completed, Exact}
 use Rattle.rela_spec.proofs.Then.{Follows, exact_then}
-use Rattle.rela_spec.proofs.Choose.{Begins, Avoids, exact_done, exact_as, exact_choose, first_completes, second_completes}
+use Rattle.rela_spec.proofs.Choose.{Avoids, exact_done, exact_as, exact_choose, first_completes, second_completes}
 use Rattle.rela_spec.proofs.Many.{all_exact}
-use Rattle.rela_spec.proofs.ExactWords.{nothing, stops_nothing, stops_first, stops_second, Apart, apart_mark, apart_word, apart_or, apart_back, apart_next, begins_mark, begins_name, begins_reference, begins_then, avoids_begins, avoids_or, avoids_done, follows_nothing, follows_begins, exact_mark, exact_name, exact_reference, exact_number}
+use Rattle.rela_spec.proofs.ExactWords.{nothing, stops_nothing, stops_first, stops_second, Apart, apart_mark, apart_word, apart_or, apart_back, apart_next, begins_mark, begins_name, begins_reference, begins_then, avoids_begins, avoids_or, avoids_done, follows_nothing, exact_name, exact_reference, exact_number}
 use Rattle.rela_spec.proofs.Leading.{Leading, widen, behind_mark, led_mark, led_word, led_or, or_mark, or_word, mark_or_else, make_of, led_make, led_then, closed_by, led_open, closes_to, led_chain}
 
 module _ (end : ℕ) where

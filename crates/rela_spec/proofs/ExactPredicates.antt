@@ -1,6 +1,6 @@
 -- Predicates on flows are read exactly.
-use Rattle.std.proofs.Common.{◌≡◌, ℕ, zero, suc, ◌+◌, ◌-◌, ◌<◌, ◌≤◌, Bool, true, false, ◌||◌, Option, None, Some, Err, List, [], ◌∷◌, ◌++◌, refl, sym, ap, ◌∙◌, subst, inl, inr, arith}
-use Rattle.std.specs.Prelude.{⊤, codes}
+use Rattle.std.proofs.Common.{◌≡◌, ℕ, zero, suc, Bool, ◌||◌, Err, List, [], ◌∷◌, refl, subst, inl, inr, arith}
+use Rattle.std.specs.Prelude.{codes}
 use Rattle.rela_flows.specs.declared.prefix.Prefix.{Prefix}
 use Rattle.rela_flows.specs.declared.predicate.Predicate.{Predicate}
 use Rattle.rela_flows.specs.declared.predicate.Predicate.TheVariants as flows
@@ -9,27 +9,27 @@ use Rattle.rela_lex.specs.declared.token.Token.{Token}
 use Rattle.rela_lex.specs.declared.token.TokenKind.{TokenKind}
 use Rattle.rela_lex.specs.declared.token.TokenKind.TheVariants.{Mark, Bare}
 use Rattle.rela_spec.specs.Grammar.{is_mark_of}
-use Rattle.rela_spec.specs.GrammarWords.{mark, word, name, prefix}
+use Rattle.rela_spec.specs.GrammarWords.{mark, word}
 use Rattle.rela_spec.specs.GrammarPredicates.{placed, test, single, denial, disjunction, predicate}
-use Rattle.rela_spec.specs.Phrases.{Phrase, done, none, chain, bracketed, ◌or◌, ◌>>=◌, ◌>>◌}
-use Rattle.rela_spec.specs.ReadWords.{is_word_of, read_mark, read_word, read_name, read_prefix}
-use Rattle.rela_spec.specs.ReadPredicates.{read_placed, read_destination, read_source, read_test, read_group, read_single, read_denial, read_conjunction, read_disjunction, read_over, read_predicate}
-use Rattle.rela_spec.specs.Readings.{Reading, next_is, choose, and_read, read_done, read_open}
+use Rattle.rela_spec.specs.Phrases.{Phrase, done, none, chain, bracketed, ◌>>=◌, ◌>>◌}
+use Rattle.rela_spec.specs.ReadWords.{is_word_of, read_mark}
+use Rattle.rela_spec.specs.ReadPredicates.{read_placed, read_destination, read_source, read_test, read_group, read_single, read_denial, read_conjunction, read_over, read_predicate}
+use Rattle.rela_spec.specs.Readings.{Reading, and_read, read_done}
 use Rattle.rela_spec.proofs.Exact.{Completed, Exact}
-use Rattle.rela_spec.proofs.Choose.{exact_done, exact_as, first_completes, second_completes}
-use Rattle.rela_spec.proofs.ExactPrefixes.{exact_prefix}
-use Rattle.rela_spec.proofs.ExactWords.{nothing, Apart, apart_mark, apart_word, begins_then, exact_name}
-use Rattle.rela_spec.proofs.Leading.{Leading, led_mark, led_word, led_or, or_mark, or_word, make_of, closed_by, led_open, closes_to, led_chain, chain_one}
+use Rattle.rela_spec.proofs.Choose.{exact_done, exact_as, second_completes}
+use Rattle.rela_spec.proofs.ExactPrefixes.{AreFound, exact_prefix}
+use Rattle.rela_spec.proofs.ExactWords.{nothing, apart_mark, apart_word, exact_name}
+use Rattle.rela_spec.proofs.Leading.{Leading, led_word, led_or, or_word, make_of, closed_by, led_open, closes_to, led_chain, chain_one}
 
-module _ (end : ℕ) where
+module _ (are_found : AreFound) (end : ℕ) where
   abbrev starts_placed : TokenKind → Bool
   starts_placed kind = is_word_of (codes "in") kind || is_word_of (codes "overlaps") kind
 
   led_placed : (within overlapping : Prefix → Predicate) (room level : ℕ) → Leading (λ d. placed within overlapping) starts_placed nothing 0 room level level end (read_placed end within overlapping)
   unfolding placed
   led_placed within overlapping room level =
-      or_word (codes "in") (omega arith) (make_of within (omega arith) (exact_prefix nothing 0 room level end))
-      (led_word (codes "overlaps") (omega arith) (make_of overlapping (omega arith) (exact_prefix nothing 0 room level end)))
+      or_word (codes "in") (omega arith) (make_of within (omega arith) (exact_prefix are_found nothing 0 room level end))
+      (led_word (codes "overlaps") (omega arith) (make_of overlapping (omega arith) (exact_prefix are_found nothing 0 room level end)))
       refl
 
   abbrev starts_test : TokenKind → Bool

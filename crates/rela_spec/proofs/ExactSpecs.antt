@@ -1,6 +1,6 @@
 -- Specifications of changes are read exactly.
-use Rattle.std.proofs.Common.{◌≡◌, ℕ, zero, suc, ◌+◌, ◌-◌, ◌<◌, ◌≤◌, Bool, true, false, ◌||◌, Option, None, Some, Err, List, [], ◌∷◌, ◌++◌, refl, sym, ap, ◌∙◌, subst, inl, inr, arith}
-use Rattle.std.specs.Prelude.{⊤, codes}
+use Rattle.std.proofs.Common.{◌≡◌, ℕ, zero, suc, ◌-◌, ◌≤◌, Bool, ◌||◌, Err, List, [], ◌∷◌, refl, subst, inl, arith}
+use Rattle.std.specs.Prelude.{codes}
 use Rattle.rela_lex.specs.declared.error.SpecError.TheVariants.{Memory}
 use Rattle.rela_lex.specs.declared.token.Token.{Token}
 use Rattle.rela_lex.specs.declared.token.TokenKind.{TokenKind}
@@ -11,21 +11,20 @@ use Rattle.rela_spec.specs.GrammarPaths.{path}
 use Rattle.rela_spec.specs.GrammarSpecs.{argument, replacement, change, unit, single, alternatives, body}
 use Rattle.rela_spec.specs.Keywords.{is_keyword, is_item_word, is_member_word, is_modifier_word, is_joining_word, is_predicate_word}
 use Rattle.rela_spec.specs.Phrases.{Phrase, done, none, chain, bracketed, ◌or◌, ◌>>=◌, ◌>>◌}
-use Rattle.rela_spec.specs.ReadWords.{is_word_of, is_reference_kind, read_mark, read_word, read_reference}
+use Rattle.rela_spec.specs.ReadWords.{is_word_of, is_reference_kind, read_mark, read_reference}
 use Rattle.rela_spec.specs.ReadPaths.{starts_member, starts_path, read_path}
-use Rattle.rela_spec.specs.ReadSpecs.{read_argument, read_replacement, read_change, read_unit, read_group, read_single, read_steps, read_alternatives, read_over, read_body}
-use Rattle.rela_spec.specs.Readings.{Reading, next_is, choose, and_read, read_done, read_open}
-use Rattle.rela_spec.specs.declared.tree.Modifier.{Modifier}
+use Rattle.rela_spec.specs.ReadSpecs.{read_argument, read_replacement, read_change, read_unit, read_group, read_single, read_steps, read_over, read_body}
+use Rattle.rela_spec.specs.Readings.{Reading, and_read, read_done}
 use Rattle.rela_spec.specs.declared.tree.Modifier.TheVariants as modifier
 use Rattle.rela_spec.specs.declared.tree.PathExpr.{PathExpr}
 use Rattle.rela_spec.specs.declared.tree.SpecExpr.{SpecExpr}
 use Rattle.rela_spec.specs.declared.tree.SpecExpr.TheVariants as spec
 use Rattle.rela_spec.proofs.Exact.{Completed, Exact}
-use Rattle.rela_spec.proofs.Then.{Follows, exact_then}
+use Rattle.rela_spec.proofs.Then.{exact_then}
 use Rattle.rela_spec.proofs.Choose.{exact_done, exact_as, first_completes, second_completes}
-use Rattle.rela_spec.proofs.ExactWords.{nothing, Apart, apart_mark, apart_word, begins_mark, begins_reference, begins_then, follows_nothing, follows_begins, exact_reference}
+use Rattle.rela_spec.proofs.ExactWords.{nothing, Apart, apart_mark, apart_word, begins_mark, begins_reference, begins_then, follows_begins, exact_reference}
 use Rattle.rela_spec.proofs.ExactPaths.{path_goes_on, led_path}
-use Rattle.rela_spec.proofs.Leading.{Leading, widen, behind_mark, led_mark, led_word, led_or, or_mark, or_word, make_of, led_make, led_then, closed_by, led_open, closes_to, led_chain, chain_one}
+use Rattle.rela_spec.proofs.Leading.{Leading, behind_mark, led_word, led_or, or_word, make_of, led_make, closed_by, led_open, closes_to, led_chain, chain_one}
 
 module _ (end : ℕ) where
   -- the path expression behind a bracket

@@ -1,7 +1,6 @@
 -- Single tokens are read exactly, and so is what stands behind them.
-use Rattle.std.proofs.Common.{◌≡◌, ◌⊎◌, ℕ, zero, suc, ◌+◌, ◌<◌, ◌≤◌, Bool, true, false, ◌||◌, not, if◌then◌else◌, Option, None, Some, List, [], ◌∷◌, ◌++◌, refl, sym, ap, ◌∙◌, subst, inl, inr, arith}
-use Rattle.std.specs.Prelude.{⊤, codes}
-use Rattle.std.specs.Str.{bytes_eq}
+use Rattle.std.proofs.Common.{◌≡◌, ◌⊎◌, ℕ, Bool, true, false, ◌||◌, not, Some, List, [], ◌∷◌, refl, sym, ap, ◌∙◌, subst, inl, inr}
+use Rattle.std.specs.Prelude.{codes}
 use Rattle.std.proofs.lemmas.Bool.{cases_Bool, or_cases}
 use Rattle.std.proofs.lemmas.Slice.Eq.{bytes_eq-Decides}
 use Rattle.rela_lex.specs.declared.token.Token.{Token}
@@ -10,12 +9,12 @@ use Rattle.rela_lex.specs.declared.token.TokenKind.TheVariants.{Mark, Bare, Quot
 use Rattle.rela_spec.specs.Grammar.{is_mark_of, room_after}
 use Rattle.rela_spec.specs.GrammarWords.{Named, mark, word, name, reference, number, number_of, is_number}
 use Rattle.rela_spec.specs.Keywords.{is_keyword}
-use Rattle.rela_spec.specs.Phrases.{Phrase, token, done, ◌or◌, ◌>>=◌, ◌>>◌}
+use Rattle.rela_spec.specs.Phrases.{Phrase, token, done, ◌or◌, ◌>>=◌}
 use Rattle.rela_spec.specs.ReadWords.{is_word_of, is_name_kind, is_reference_kind, if_so, mark_value, word_value, named, name_in, reference_in, number_in, read_mark, read_word, read_name, read_reference, read_number}
-use Rattle.rela_spec.specs.Readings.{Reading, next_is, choose, and_read, read_done}
-use Rattle.rela_spec.proofs.Exact.{Stops, Completed, Exact}
-use Rattle.rela_spec.proofs.Then.{Follows, exact_then}
-use Rattle.rela_spec.proofs.Choose.{Begins, Avoids, Valued, exact_done, exact_token, exact_choose, first_completes, second_completes, weaken}
+use Rattle.rela_spec.specs.Readings.{next_is}
+use Rattle.rela_spec.proofs.Exact.{Stops, Exact}
+use Rattle.rela_spec.proofs.Then.{Follows}
+use Rattle.rela_spec.proofs.Choose.{Begins, Avoids, exact_token}
 use Rattle.rela_spec.proofs.Opened.{mark_is, is_mark_itself}
 
 -- tokens that no phrase goes on with

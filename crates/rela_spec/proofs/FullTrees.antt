@@ -1,5 +1,5 @@
 -- The trees that are spelled are full: each of their lists has two parts or more.
-use Rattle.std.proofs.Common.{◌≡◌, ◌⊎◌, ℕ, zero, suc, ◌+◌, ◌≤◌, Bool, true, false, ◌&&◌, List, [], ◌∷◌, length, map, refl, sym, ap, ◌∙◌, subst, inl, inr, arith}
+use Rattle.std.proofs.Common.{◌≡◌, ℕ, zero, suc, ◌≤◌, Bool, true, ◌&&◌, List, [], ◌∷◌, length, map, refl, sym, ap, ◌∙◌, inl, inr, arith}
 use Rattle.std.specs.Prelude.{⊤, codes, nat_le}
 use Rattle.std.specs.List.{list_all}
 use Rattle.std.proofs.lemmas.Bool.Decides.{nat_tests}
@@ -15,8 +15,7 @@ use Rattle.rela_spec.specs.GrammarWords.{mark, word}
 use Rattle.rela_spec.specs.GrammarPaths.{group, atom, class, postfix, negation, expression, path}
 use Rattle.rela_spec.specs.GrammarPredicates.{placed, test, single, denial, disjunction, predicate}
 use Rattle.rela_spec.specs.GrammarSpecs.{argument, replacement, change, unit, alternatives, body, single as one_spec}
-use Rattle.rela_spec.specs.Phrases.{Phrase, done, none, many, chain, joined_parts, bracketed, ◌>>=◌, ◌>>◌, ◌or◌}
-use Rattle.rela_spec.specs.declared.tree.Item.{Item}
+use Rattle.rela_spec.specs.Phrases.{Phrase, done, none, many, chain, ◌>>=◌, ◌>>◌}
 use Rattle.rela_spec.specs.declared.tree.Member.{Member}
 use Rattle.rela_spec.specs.declared.tree.Modifier.{Modifier}
 use Rattle.rela_spec.specs.declared.tree.PathExpr.{PathExpr}

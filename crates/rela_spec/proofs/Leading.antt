@@ -1,5 +1,5 @@
 -- Exact readings of phrases with what they begin with.
-use Rattle.std.proofs.Common.{◌≡◌, ℕ, zero, suc, ◌+◌, ◌<◌, ◌≤◌, Bool, true, false, ◌||◌, Option, None, Some, List, [], ◌∷◌, ◌++◌, refl, sym, ap, ◌∙◌, subst, inl, inr, arith}
+use Rattle.std.proofs.Common.{◌≡◌, ℕ, zero, suc, ◌+◌, ◌≤◌, Bool, true, false, ◌||◌, Some, List, [], refl, ap, arith}
 use Rattle.std.specs.Prelude.{⊤}
 use Rattle.rela_lex.specs.declared.token.Token.{Token}
 use Rattle.rela_lex.specs.declared.token.TokenKind.{TokenKind}
@@ -9,9 +9,9 @@ use Rattle.rela_spec.specs.GrammarWords.{mark, word}
 use Rattle.rela_spec.specs.Phrases.{Phrase, done, bracketed, chain, ◌or◌, ◌>>=◌, ◌>>◌}
 use Rattle.rela_spec.specs.ReadWords.{is_word_of, read_mark, read_word}
 use Rattle.rela_spec.specs.Readings.{Reading, next_is, choose, and_read, read_done, read_open, read_chain}
-use Rattle.rela_spec.proofs.Exact.{Stops, Completed, Exact}
+use Rattle.rela_spec.proofs.Exact.{Completed, Exact}
 use Rattle.rela_spec.proofs.Then.{Follows, exact_then}
-use Rattle.rela_spec.proofs.Choose.{Begins, Avoids, exact_done, exact_as, exact_choose, first_completes, second_completes, weaken}
+use Rattle.rela_spec.proofs.Choose.{Begins, Avoids, exact_done, exact_choose, first_completes, weaken}
 use Rattle.rela_spec.proofs.Many.{exact_chain}
 use Rattle.rela_spec.proofs.Opened.{exact_open}
 use Rattle.rela_spec.proofs.ExactWords.{nothing, stops_nothing, Apart, apart_mark, apart_word, apart_next, begins_then, begins_or, begins_mark, begins_word, avoids_begins, follows_nothing, follows_begins, follows_done, exact_mark, exact_word, stops_first, stops_second}

@@ -17,7 +17,6 @@ pub mod OneTree
 pub mod Opened
 pub mod PathReadings
 pub mod PredicateReadings
-pub mod PrefixReadings
 pub mod SpecReadings
 pub mod Then
 pub mod Verdicts

@@ -1,12 +1,12 @@
 -- Loops that read a phrase many times.
-use Rattle.std.proofs.Common.{◌≡◌, ℕ, zero, suc, ◌+◌, ◌<◌, ◌≤◌, Bool, true, false, if◌then◌else◌, Result, Ok, Err, List, [], ◌∷◌, ◌++◌, length, refl, sym, ap, ◌∙◌, subst, arith, append_assoc, append-nil}
+use Rattle.std.proofs.Common.{◌≡◌, ℕ, zero, suc, ◌<◌, ◌≤◌, Bool, true, false, Result, Ok, Err, List, [], ◌∷◌, ◌++◌, length, refl, sym, ap, ◌∙◌, subst, arith, append_assoc, append-nil}
 use Rattle.std.proofs.lemmas.Bool.{cond-true, cond-false}
 use Rattle.rela_lex.specs.declared.error.SpecError.{SpecError}
 use Rattle.rela_lex.specs.declared.error.SpecError.TheVariants.{Memory}
 use Rattle.rela_lex.specs.declared.token.Token.{Token}
 use Rattle.rela_lex.specs.declared.token.TokenKind.{TokenKind}
 use Rattle.rela_spec.specs.Phrases.{joined_parts}
-use Rattle.rela_spec.specs.Readings.{Reading, next_is, choose, and_read, read_done, read_many, read_all, read_chain, read_onto}
+use Rattle.rela_spec.specs.Readings.{Reading, next_is, and_read, read_done, read_many, read_all, read_chain, read_onto}
 
 -- what is read of the rest, behind what was read, is what is read of all
 pub record Gathers {A : Type 0} (passes : TokenKind → Bool) (p : Reading A) (before : List A) (tokens : List Token) (so_far : List A) (rest : List Token) : Type 0 where

@@ -1,19 +1,14 @@
 -- Readings of a phrase many times, of chains, and behind an opening bracket.
-use Rattle.std.proofs.Common.{◌≡◌, ◌⊎◌, ℕ, zero, suc, ◌+◌, ◌-◌, ◌<◌, ◌≤◌, Bool, true, false, if◌then◌else◌, Option, None, Some, Result, Ok, Err, List, [], ◌∷◌, ◌++◌, length, refl, sym, ap, ◌∙◌, subst, inl, inr, arith, append_assoc}
+use Rattle.std.proofs.Common.{◌≡◌, ℕ, zero, suc, ◌≤◌, Bool, true, false, Err, List, [], ◌∷◌, length, refl, sym, ◌∙◌, subst, inl, inr, arith}
 use Rattle.std.specs.Prelude.{⊤}
-use Rattle.std.specs.Option.{option_and_then}
-use Rattle.rela_lex.specs.declared.error.SpecError.{SpecError}
-use Rattle.rela_lex.specs.declared.error.SpecError.TheVariants.{BadToken, Syntax, UnknownName, RepeatedName, TooDeep, TooLarge, BadNumber, FinerLevel, UnknownLocation, Memory}
+use Rattle.rela_lex.specs.declared.error.SpecError.TheVariants.{Memory}
 use Rattle.rela_lex.specs.declared.token.Token.{Token}
 use Rattle.rela_lex.specs.declared.token.TokenKind.{TokenKind}
-use Rattle.rela_lex.specs.declared.token.TokenKind.TheVariants.{Mark}
-use Rattle.rela_spec.specs.Grammar.{SameNext, is_mark_of, opens, room_after, room_behind}
-use Rattle.rela_spec.specs.GrammarWords.{mark}
-use Rattle.rela_spec.specs.Phrases.{Phrase, token, done, many, chain, joined_parts, bracketed, ◌or◌, ◌>>=◌, ◌>>◌}
-use Rattle.rela_spec.specs.Readings.{Reading, next_is, choose, and_read, read_done, read_open, opened, read_many, read_all, read_chain}
-use Rattle.rela_spec.proofs.Exact.{Stops, Read, Stuck, Deep, Outcome, Completed, Exact, nothing_opened}
+use Rattle.rela_spec.specs.Phrases.{Phrase, done, many, chain, joined_parts, ◌or◌, ◌>>=◌, ◌>>◌}
+use Rattle.rela_spec.specs.Readings.{Reading, next_is, and_read, read_done, read_many, read_all, read_chain}
+use Rattle.rela_spec.proofs.Exact.{Stops, Completed, Exact}
 use Rattle.rela_spec.proofs.Then.{Follows, exact_then}
-use Rattle.rela_spec.proofs.Choose.{Begins, Avoids, exact_done, exact_as, exact_choose, second_completes, weaken}
+use Rattle.rela_spec.proofs.Choose.{Begins, Avoids, exact_done, exact_as, exact_choose, weaken}
 
 not_both : (b : Bool) → b ≡ true → b ≡ false → ⊥
 not_both b yes_it no_it = let never : true ≡ false = sym yes_it ∙ no_it in absurd (let clash = never in cc)

@@ -1,18 +1,17 @@
 -- Readings behind an opening bracket.
-use Rattle.std.proofs.Common.{◌≡◌, ℕ, zero, suc, ◌+◌, ◌<◌, ◌≤◌, Bool, true, false, if◌then◌else◌, Option, None, Some, Result, Ok, Err, List, [], ◌∷◌, ◌++◌, refl, sym, ap, ◌∙◌, subst, arith, eq-eqb}
-use Rattle.std.specs.Prelude.{⊤}
+use Rattle.std.proofs.Common.{◌≡◌, ℕ, zero, suc, ◌+◌, ◌<◌, ◌≤◌, Bool, true, false, if◌then◌else◌, Some, Result, Ok, Err, List, [], ◌∷◌, ◌++◌, refl, sym, ap, ◌∙◌, subst, arith, eq-eqb}
 use Rattle.std.specs.Option.{option_and_then}
-use Rattle.std.proofs.lemmas.Bool.{cases_Bool, cond-true, cond-false, eqb-true}
+use Rattle.std.proofs.lemmas.Bool.{cond-true, eqb-true}
 use Rattle.rela_lex.specs.declared.error.SpecError.{SpecError}
-use Rattle.rela_lex.specs.declared.error.SpecError.TheVariants.{BadToken, Syntax, UnknownName, RepeatedName, TooDeep, TooLarge, BadNumber, FinerLevel, UnknownLocation, Memory}
+use Rattle.rela_lex.specs.declared.error.SpecError.TheVariants.{Syntax, TooDeep, Memory}
 use Rattle.rela_lex.specs.declared.token.Token.{Token}
 use Rattle.rela_lex.specs.declared.token.TokenKind.{TokenKind}
 use Rattle.rela_lex.specs.declared.token.TokenKind.TheVariants.{Mark, Bare, Quoted, Reference}
 use Rattle.rela_spec.specs.Grammar.{SameNext, offset, is_mark_of, opens, closes, one_less, room_after, room_behind}
 use Rattle.rela_spec.specs.GrammarWords.{mark}
-use Rattle.rela_spec.specs.Phrases.{Phrase, token, bracketed, ◌>>=◌, ◌>>◌}
+use Rattle.rela_spec.specs.Phrases.{Phrase, bracketed}
 use Rattle.rela_spec.specs.Readings.{Reading, and_read, read_open, opened}
-use Rattle.rela_spec.proofs.Exact.{Stops, Read, Stuck, Deep, Outcome, Completed, Exact, nothing_opened}
+use Rattle.rela_spec.proofs.Exact.{Stuck, Outcome, Completed, Exact, nothing_opened}
 
 pub mark_is : (byte : ℕ) (kind : TokenKind) → is_mark_of byte kind ≡ true → kind ≡ Mark byte
 mark_is byte (Mark other) e = ap Mark (eqb-true other byte e)

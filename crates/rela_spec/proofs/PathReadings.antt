@@ -1,11 +1,11 @@
 -- The readings of path expressions, one by one.
-use Rattle.std.proofs.Common.{Bool, true, false, Result, Ok, Err, [], ◌∷◌}
+use Rattle.std.proofs.Common.{true, false, Result, Ok, Err, [], ◌∷◌}
 use Rattle.rela_lex.specs.declared.error.SpecError.{SpecError}
 use Rattle.rela_spec.specs.Readings.{next_is, read_all, read_onto}
 use Rattle.rela_spec.proofs.Loops.{chain_alone, chain_first_fault, chain_more_fault, chain_joined}
 use Rattle.rela_spec.specs.declared.tree.PathExpr.{PathExpr}
 use Rattle.rela_spec.specs.ReadPaths.{more_at}
-use Rattle.std.proofs.Common.{◌≡◌, ℕ, zero, suc, ◌+◌, ◌-◌, refl, sym, ap, ◌∙◌, subst, arith, List}
+use Rattle.std.proofs.Common.{◌≡◌, ℕ, zero, suc, ◌+◌, refl, sym, ap, ◌∙◌, arith, List}
 use Rattle.rela_lex.specs.declared.token.Token.{Token}
 use Rattle.rela_spec.specs.Readings.{read_chain}
 use Rattle.rela_spec.specs.declared.parsing.paths.Joint.{Joint}

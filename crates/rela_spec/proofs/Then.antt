@@ -1,13 +1,13 @@
 -- A reading behind another is exact for the phrase behind the other's.
-use Rattle.std.proofs.Common.{◌≡◌, ℕ, zero, suc, ◌+◌, ◌<◌, ◌≤◌, Bool, true, false, Option, None, Some, Result, Ok, Err, List, [], ◌∷◌, ◌++◌, refl, sym, ap, ◌∙◌, subst, arith, append_assoc}
+use Rattle.std.proofs.Common.{◌≡◌, ℕ, suc, ◌≤◌, Bool, Result, Ok, Err, List, ◌∷◌, ◌++◌, sym, ap, ◌∙◌, subst, arith, append_assoc}
 use Rattle.rela_lex.specs.declared.error.SpecError.{SpecError}
-use Rattle.rela_lex.specs.declared.error.SpecError.TheVariants.{BadToken, Syntax, UnknownName, RepeatedName, TooDeep, TooLarge, BadNumber, FinerLevel, UnknownLocation, Memory}
+use Rattle.rela_lex.specs.declared.error.SpecError.TheVariants.{Syntax, TooDeep, Memory}
 use Rattle.rela_lex.specs.declared.token.Token.{Token}
 use Rattle.rela_lex.specs.declared.token.TokenKind.{TokenKind}
-use Rattle.rela_spec.specs.Grammar.{SameNext, room_behind}
+use Rattle.rela_spec.specs.Grammar.{SameNext}
 use Rattle.rela_spec.specs.Phrases.{Phrase, ◌>>=◌}
 use Rattle.rela_spec.specs.Readings.{Reading, and_read}
-use Rattle.rela_spec.proofs.Exact.{Stops, Read, Stuck, Deep, Outcome, Completed, Exact, same_after, room_append}
+use Rattle.rela_spec.proofs.Exact.{Stops, Read, Outcome, Exact, same_after, room_append}
 
 -- what the phrase behind begins with ends the first
 abbrev pub Follows : {A B : Type 0} → (A → ℕ → Phrase B) → (first_goes_on goes_on : TokenKind → Bool) → Type 0

@@ -1,17 +1,17 @@
 -- Tokens have one verdict: the tree that they spell, or their fault.
-use Rattle.std.proofs.Common.{◌≡◌, ◌≢◌, ◌⊎◌, ℕ, zero, suc, ◌+◌, ◌<◌, ◌≤◌, Bool, true, false, if◌then◌else◌, Option, None, Some, Result, Ok, Err, List, [], ◌∷◌, ◌++◌, refl, sym, ap, ◌∙◌, subst, inl, inr, arith, append_assoc, append-nil}
-use Rattle.std.specs.Prelude.{⊤, IsSome}
+use Rattle.std.proofs.Common.{◌≡◌, ◌≢◌, ◌⊎◌, ℕ, ◌+◌, true, if◌then◌else◌, Option, None, Some, Result, Ok, Err, List, [], ◌∷◌, ◌++◌, refl, sym, ap, ◌∙◌, subst, inl, inr, arith, append_assoc, append-nil}
+use Rattle.std.specs.Prelude.{IsSome}
 use Rattle.std.specs.Option.{option_and_then}
 use Rattle.std.proofs.lemmas.Bool.{cond-true}
 use Rattle.rela_lex.specs.declared.error.SpecError.{SpecError}
 use Rattle.rela_lex.specs.declared.error.SpecError.TheVariants.{BadToken, Syntax, UnknownName, RepeatedName, TooDeep, TooLarge, BadNumber, FinerLevel, UnknownLocation, Memory}
 use Rattle.rela_lex.specs.declared.token.Token.{Token}
-use Rattle.rela_lex.specs.declared.token.TokenKind.{TokenKind}
 use Rattle.rela_spec.specs.Grammar.{Grammar, BeginsText, Spells, IsSyntax, IsTooDeep, IsBadNumber, IsFault, IsShallow, SameNext, bad_number, closes, file, offset, one_less, opens, room_after, room_behind}
 use Rattle.rela_spec.specs.ReadFile.{read_file}
 use Rattle.rela_spec.specs.declared.tree.SpecFile.{SpecFile}
-use Rattle.rela_spec.proofs.Exact.{Outcome, Exact, room_append}
+use Rattle.rela_spec.proofs.Exact.{Outcome, room_append}
 use Rattle.rela_spec.proofs.ExactFile.{anything, exact_file}
+use Rattle.rela_spec.proofs.ExactPrefixes.{AreFound}
 
 -- the tokens spell this tree and no other
 pub record Parsed (tokens : List Token) (tree : SpecFile) : Type 0 where
@@ -23,12 +23,12 @@ some_is : (o : Option ℕ) (n : ℕ) → o ≡ Some n → IsSome o
 some_is None n e = absurd (let clash = e in cc)
 some_is (Some m) n e = refl
 
-found_at : (end : ℕ) (tokens : List Token) (found : Result (SpecFile × List Token) SpecError) → read_file end 100 tokens ≡ found → Outcome (λ d. file d) anything 100 100 100 end tokens found
-found_at end tokens found e = subst (λ (x : Result (SpecFile × List Token) SpecError). Outcome (λ d. file d) anything 100 100 100 end tokens x) e ((exact_file end 100).outcome tokens)
+found_at : AreFound → (end : ℕ) (tokens : List Token) (found : Result (SpecFile × List Token) SpecError) → read_file end 100 tokens ≡ found → Outcome (λ d. file d) anything 100 100 100 end tokens found
+found_at are_found end tokens found e = subst (λ (x : Result (SpecFile × List Token) SpecError). Outcome (λ d. file d) anything 100 100 100 end tokens x) e ((exact_file are_found end 100).outcome tokens)
 
-pub parsed_tree : (end : ℕ) (tokens : List Token) (tree : SpecFile) → read_file end 100 tokens ≡ Ok (tree, []) → Parsed tokens tree
-parsed_tree end tokens tree e =
-    let read = found_at end tokens (Ok (tree, [])) e in
+pub parsed_tree : AreFound → (end : ℕ) (tokens : List Token) (tree : SpecFile) → read_file end 100 tokens ≡ Ok (tree, []) → Parsed tokens tree
+parsed_tree are_found end tokens tree e =
+    let read = found_at are_found end tokens (Ok (tree, [])) e in
     record {
       grammar = record { nested = 100; spelled = subst (λ (x : List Token). file 100 x tree []) (sym read.joined) (read.spelled 100 (omega arith) []) };
       shallow = subst IsShallow (sym (read.joined ∙ append-nil read.before)) (some_is (room_behind 100 read.before) 100 read.level);
@@ -38,9 +38,9 @@ parsed_tree end tokens tree e =
 begins_by : (before others : List Token) (tree : SpecFile) (d : ℕ) → file d (before ++ (others ++ [])) tree [] → BeginsText before
 begins_by before others tree d h = record { others = others; tree = tree; whole = record { nested = d; spelled = subst (λ (x : List Token). file d (before ++ x) tree []) (append-nil others) h } }
 
-pub parsed_syntax : (end : ℕ) (tokens : List Token) (at : ℕ) → read_file end 100 tokens ≡ Err (Syntax at) → IsSyntax tokens end at
-parsed_syntax end tokens at e =
-    let stuck = found_at end tokens (Err (Syntax at)) e in
+pub parsed_syntax : AreFound → (end : ℕ) (tokens : List Token) (at : ℕ) → read_file end 100 tokens ≡ Err (Syntax at) → IsSyntax tokens end at
+parsed_syntax are_found end tokens at e =
+    let stuck = found_at are_found end tokens (Err (Syntax at)) e in
     record {
       before = stuck.before;
       rest = stuck.rest;
@@ -51,9 +51,9 @@ parsed_syntax end tokens at e =
       shallow = some_is (room_behind 100 stuck.before) stuck.left stuck.level;
     }
 
-pub parsed_deep : (end : ℕ) (tokens : List Token) (at : ℕ) → read_file end 100 tokens ≡ Err (TooDeep at) → IsTooDeep tokens at
-parsed_deep end tokens at e =
-    let deep = found_at end tokens (Err (TooDeep at)) e in
+pub parsed_deep : AreFound → (end : ℕ) (tokens : List Token) (at : ℕ) → read_file end 100 tokens ≡ Err (TooDeep at) → IsTooDeep tokens at
+parsed_deep are_found end tokens at e =
+    let deep = found_at are_found end tokens (Err (TooDeep at)) e in
     record {
       before = deep.before;
       bracket = deep.bracket;
@@ -68,17 +68,17 @@ parsed_deep end tokens at e =
     }
 
 -- what a fault of the reading is
-pub parsed_fault : (end : ℕ) (tokens : List Token) (e : SpecError) → read_file end 100 tokens ≡ Err e → IsFault tokens end e
-parsed_fault end tokens (Syntax at) e = parsed_syntax end tokens at e
-parsed_fault end tokens (TooDeep at) e = parsed_deep end tokens at e
-parsed_fault end tokens Memory e = tt
-parsed_fault end tokens (BadToken at) e = absurd (found_at end tokens (Err (BadToken at)) e)
-parsed_fault end tokens (UnknownName at) e = absurd (found_at end tokens (Err (UnknownName at)) e)
-parsed_fault end tokens (RepeatedName at) e = absurd (found_at end tokens (Err (RepeatedName at)) e)
-parsed_fault end tokens (TooLarge at) e = absurd (found_at end tokens (Err (TooLarge at)) e)
-parsed_fault end tokens (BadNumber at) e = absurd (found_at end tokens (Err (BadNumber at)) e)
-parsed_fault end tokens (FinerLevel at) e = absurd (found_at end tokens (Err (FinerLevel at)) e)
-parsed_fault end tokens (UnknownLocation at) e = absurd (found_at end tokens (Err (UnknownLocation at)) e)
+pub parsed_fault : AreFound → (end : ℕ) (tokens : List Token) (e : SpecError) → read_file end 100 tokens ≡ Err e → IsFault tokens end e
+parsed_fault are_found end tokens (Syntax at) e = parsed_syntax are_found end tokens at e
+parsed_fault are_found end tokens (TooDeep at) e = parsed_deep are_found end tokens at e
+parsed_fault are_found end tokens Memory e = tt
+parsed_fault are_found end tokens (BadToken at) e = absurd (found_at are_found end tokens (Err (BadToken at)) e)
+parsed_fault are_found end tokens (UnknownName at) e = absurd (found_at are_found end tokens (Err (UnknownName at)) e)
+parsed_fault are_found end tokens (RepeatedName at) e = absurd (found_at are_found end tokens (Err (RepeatedName at)) e)
+parsed_fault are_found end tokens (TooLarge at) e = absurd (found_at are_found end tokens (Err (TooLarge at)) e)
+parsed_fault are_found end tokens (BadNumber at) e = absurd (found_at are_found end tokens (Err (BadNumber at)) e)
+parsed_fault are_found end tokens (FinerLevel at) e = absurd (found_at are_found end tokens (Err (FinerLevel at)) e)
+parsed_fault are_found end tokens (UnknownLocation at) e = absurd (found_at are_found end tokens (Err (UnknownLocation at)) e)
 
 -- two ways to cut one list: at one place, or one of them later
 pub data Cuts (first rest second later : List Token) : Type 0 where
@@ -161,17 +161,17 @@ syntax_not_text tokens end a tree s g = s.stuck s.rest tree (same_next s.rest) (
     same_next (t ∷ ts) = (ts, refl)
 
 -- what the reading refuses is a fault of the tokens
-pub fault_of : (end : ℕ) (tokens : List Token) (e : SpecError) → (e ≢ Memory → read_file end 100 tokens ≡ Err e) → IsFault tokens end e
-fault_of end tokens Memory h = tt
-fault_of end tokens (Syntax at) h = parsed_fault end tokens (Syntax at) (h (λ same. absurd (let clash = same in cc)))
-fault_of end tokens (TooDeep at) h = parsed_fault end tokens (TooDeep at) (h (λ same. absurd (let clash = same in cc)))
-fault_of end tokens (BadToken at) h = parsed_fault end tokens (BadToken at) (h (λ same. absurd (let clash = same in cc)))
-fault_of end tokens (UnknownName at) h = parsed_fault end tokens (UnknownName at) (h (λ same. absurd (let clash = same in cc)))
-fault_of end tokens (RepeatedName at) h = parsed_fault end tokens (RepeatedName at) (h (λ same. absurd (let clash = same in cc)))
-fault_of end tokens (TooLarge at) h = parsed_fault end tokens (TooLarge at) (h (λ same. absurd (let clash = same in cc)))
-fault_of end tokens (BadNumber at) h = absurd (found_at end tokens (Err (BadNumber at)) (h (λ same. absurd (let clash = same in cc))))
-fault_of end tokens (FinerLevel at) h = parsed_fault end tokens (FinerLevel at) (h (λ same. absurd (let clash = same in cc)))
-fault_of end tokens (UnknownLocation at) h = parsed_fault end tokens (UnknownLocation at) (h (λ same. absurd (let clash = same in cc)))
+pub fault_of : AreFound → (end : ℕ) (tokens : List Token) (e : SpecError) → (e ≢ Memory → read_file end 100 tokens ≡ Err e) → IsFault tokens end e
+fault_of are_found end tokens Memory h = tt
+fault_of are_found end tokens (Syntax at) h = parsed_fault are_found end tokens (Syntax at) (h (λ same. absurd (let clash = same in cc)))
+fault_of are_found end tokens (TooDeep at) h = parsed_fault are_found end tokens (TooDeep at) (h (λ same. absurd (let clash = same in cc)))
+fault_of are_found end tokens (BadToken at) h = parsed_fault are_found end tokens (BadToken at) (h (λ same. absurd (let clash = same in cc)))
+fault_of are_found end tokens (UnknownName at) h = parsed_fault are_found end tokens (UnknownName at) (h (λ same. absurd (let clash = same in cc)))
+fault_of are_found end tokens (RepeatedName at) h = parsed_fault are_found end tokens (RepeatedName at) (h (λ same. absurd (let clash = same in cc)))
+fault_of are_found end tokens (TooLarge at) h = parsed_fault are_found end tokens (TooLarge at) (h (λ same. absurd (let clash = same in cc)))
+fault_of are_found end tokens (BadNumber at) h = absurd (found_at are_found end tokens (Err (BadNumber at)) (h (λ same. absurd (let clash = same in cc))))
+fault_of are_found end tokens (FinerLevel at) h = parsed_fault are_found end tokens (FinerLevel at) (h (λ same. absurd (let clash = same in cc)))
+fault_of are_found end tokens (UnknownLocation at) h = parsed_fault are_found end tokens (UnknownLocation at) (h (λ same. absurd (let clash = same in cc)))
 
 -- a text that is spelled has no fault
 pub fault_not_spelled : (tokens : List Token) (end : ℕ) (e : SpecError) → IsFault tokens end e → (tree : SpecFile) → Spells tokens tree → e ≡ Memory

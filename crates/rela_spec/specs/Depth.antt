@@ -1,10 +1,8 @@
 -- How deep the predicates of a specification are.
-use Rattle.std.specs.Prelude.{ℕ, ◌≤◌, ⊤}
-use Rattle.std.specs.List.{All}
+use Rattle.std.specs.Prelude.{◌≤◌, ⊤}
 use Rattle.rela_flows.specs.Selects.{depth}
 use Rattle.rela_spec.specs.declared.tree.Item.{Item}
 use Rattle.rela_spec.specs.declared.tree.Item.TheVariants as item
-use Rattle.rela_spec.specs.declared.tree.SpecFile.{SpecFile}
 
 -- a check is for flows that a predicate of a depth of at most 1,000 selects
 abbrev pub IsLow : Item → Type 0

@@ -1,5 +1,5 @@
 -- The grammar of specifications: which tokens spell which tree, and where a list of tokens is no text of it.
-use Rattle.std.specs.Prelude.{◌≡◌, ◌≢◌, ◌⊎◌, ℕ, zero, suc, ◌+◌, Bool, true, false, ◌||◌, ◌==◌, ◌&&◌, not, if◌then◌else◌, IsTrue, IsFalse, Option, None, Some, IsSome, List, [], ◌∷◌, ◌++◌, codes, ⊤}
+use Rattle.std.specs.Prelude.{◌≡◌, ℕ, zero, suc, ◌+◌, Bool, true, false, ◌||◌, ◌==◌, ◌&&◌, not, if◌then◌else◌, Option, None, Some, IsSome, List, [], ◌∷◌, ◌++◌, codes, ⊤}
 use Rattle.std.specs.Option.{option_and_then}
 use Rattle.rela_names.specs.declared.level.Level.{Level}
 use Rattle.rela_names.specs.declared.level.Level.TheVariants as level
@@ -7,7 +7,7 @@ use Rattle.rela_lex.specs.declared.error.SpecError.{SpecError}
 use Rattle.rela_lex.specs.declared.error.SpecError.TheVariants.{Syntax, TooDeep, BadNumber, Memory}
 use Rattle.rela_lex.specs.declared.token.Token.{Token}
 use Rattle.rela_lex.specs.declared.token.TokenKind.{TokenKind}
-use Rattle.rela_lex.specs.declared.token.TokenKind.TheVariants.{Mark, Bare, Quoted, Reference}
+use Rattle.rela_lex.specs.declared.token.TokenKind.TheVariants.{Mark, Bare}
 use Rattle.rela_flows.specs.declared.predicate.Predicate.{Predicate}
 use Rattle.rela_flows.specs.declared.predicate.Predicate.TheVariants as flows
 use Rattle.rela_spec.specs.Phrases.{Phrase, done, ◌>>=◌, ◌>>◌, ◌or◌, whether, many}

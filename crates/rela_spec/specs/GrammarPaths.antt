@@ -1,5 +1,5 @@
 -- The grammar of path expressions. A phrase with a number has at most so many brackets nested in it.
-use Rattle.std.specs.Prelude.{ℕ, zero, suc, List, [], ◌∷◌, codes, ⊤}
+use Rattle.std.specs.Prelude.{ℕ, zero, suc, codes}
 use Rattle.rela_locations.specs.declared.members.By.{By}
 use Rattle.rela_locations.specs.declared.members.By.TheVariants as by
 use Rattle.rela_spec.specs.Phrases.{Phrase, done, none, ◌>>=◌, ◌>>◌, ◌or◌, whether, many, chain, bracketed}

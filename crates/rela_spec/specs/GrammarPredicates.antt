@@ -1,5 +1,5 @@
 -- The grammar of predicates on flows. A phrase with a number has at most so many brackets nested in it.
-use Rattle.std.specs.Prelude.{ℕ, zero, suc, List, [], ◌∷◌, codes, ⊤}
+use Rattle.std.specs.Prelude.{ℕ, zero, suc, codes}
 use Rattle.rela_flows.specs.declared.prefix.Prefix.{Prefix}
 use Rattle.rela_flows.specs.declared.predicate.Predicate.{Predicate}
 use Rattle.rela_flows.specs.declared.predicate.Predicate.TheVariants as flows

@@ -1,5 +1,5 @@
 -- The grammar of specifications of changes. A phrase with a number has at most so many brackets nested in it.
-use Rattle.std.specs.Prelude.{ℕ, zero, suc, List, [], ◌∷◌, codes, ⊤}
+use Rattle.std.specs.Prelude.{ℕ, zero, suc, codes}
 use Rattle.rela_spec.specs.Phrases.{Phrase, done, none, ◌>>=◌, ◌>>◌, ◌or◌, chain, bracketed}
 use Rattle.rela_spec.specs.GrammarWords.{mark, word, reference}
 use Rattle.rela_spec.specs.GrammarPaths.{path}

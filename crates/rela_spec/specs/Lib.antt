@@ -7,7 +7,6 @@ pub mod GrammarSpecs
 pub mod GrammarWords
 pub mod Keywords
 pub mod Phrases
-pub mod PrefixDecisions
 pub mod ReadFile
 pub mod ReadPaths
 pub mod ReadPredicates

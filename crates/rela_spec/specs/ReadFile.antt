@@ -1,5 +1,5 @@
 -- Readings of items and of a whole text. A reading with a number may open so many brackets one within the other.
-use Rattle.std.specs.Prelude.{ℕ, Bool, true, false, ◌||◌, Result, Ok, Err, List, codes}
+use Rattle.std.specs.Prelude.{ℕ, true, List, codes}
 use Rattle.rela_names.specs.declared.level.Level.{Level}
 use Rattle.rela_names.specs.declared.level.Level.TheVariants as level
 use Rattle.rela_flows.specs.declared.predicate.Predicate.{Predicate}

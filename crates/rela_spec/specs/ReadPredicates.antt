@@ -1,5 +1,5 @@
 -- Readings of predicates on flows. A reading with a number may open so many brackets one within the other.
-use Rattle.std.specs.Prelude.{ℕ, zero, suc, ◌-◌, Err, List, codes}
+use Rattle.std.specs.Prelude.{ℕ, zero, suc, Err, List, codes}
 use Rattle.rela_flows.specs.declared.prefix.Prefix.{Prefix}
 use Rattle.rela_flows.specs.declared.predicate.Predicate.{Predicate}
 use Rattle.rela_flows.specs.declared.predicate.Predicate.TheVariants as flows

@@ -1,7 +1,6 @@
 -- Readings of specifications of changes. A reading with a number may open so many brackets one within the other.
 use Rattle.std.specs.Prelude.{ℕ, zero, suc, ◌-◌, Err, List, codes}
 use Rattle.rela_lex.specs.declared.error.SpecError.TheVariants.{Memory}
-use Rattle.rela_lex.specs.declared.token.TokenKind.{TokenKind}
 use Rattle.rela_spec.specs.Grammar.{is_mark_of}
 use Rattle.rela_spec.specs.ReadPaths.{read_path}
 use Rattle.rela_spec.specs.ReadWords.{is_word_of, is_reference_kind, read_mark, read_word, read_reference}

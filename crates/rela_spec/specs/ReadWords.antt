@@ -1,12 +1,11 @@
 -- Readings of single tokens.
-use Rattle.std.specs.Prelude.{◌≡◌, ℕ, Bool, true, false, ◌||◌, not, if◌then◌else◌, Option, None, Some, List, ⊤}
-use Rattle.std.specs.Option.{option_map}
+use Rattle.std.specs.Prelude.{ℕ, Bool, true, false, not, if◌then◌else◌, Option, None, Some, List, ⊤}
 use Rattle.std.specs.Str.{bytes_eq}
 use Rattle.rela_lex.specs.declared.token.Token.{Token}
 use Rattle.rela_lex.specs.declared.token.TokenKind.{TokenKind}
-use Rattle.rela_lex.specs.declared.token.TokenKind.TheVariants.{Mark, Bare, Quoted, Reference}
+use Rattle.rela_lex.specs.declared.token.TokenKind.TheVariants.{Bare, Quoted, Reference}
+use Rattle.rela_flows.specs.Written.{prefix_of}
 use Rattle.rela_flows.specs.declared.prefix.Prefix.{Prefix}
-use Rattle.rela_spec.specs.PrefixDecisions.{prefix_held}
 use Rattle.rela_spec.specs.Grammar.{is_mark_of}
 use Rattle.rela_spec.specs.GrammarWords.{Named, is_number, number_of}
 use Rattle.rela_spec.specs.Keywords.{is_keyword}
@@ -49,10 +48,6 @@ reference_in at _ = None
 abbrev pub number_in : TokenKind → Option ℕ
 number_in (Bare w) = if_so (number_of w) (is_number w)
 number_in _ = None
-
--- the prefix that a word writes
-unfoldable pub prefix_of : List ℕ → Option Prefix
-prefix_of w = (prefix_held w).found
 
 abbrev pub prefix_in : TokenKind → Option Prefix
 prefix_in (Bare w) = prefix_of w

@@ -1,10 +1,10 @@
 -- Readings of tokens: what is read at the front of a list, and what is left of it, or the first fault.
-use Rattle.std.specs.Prelude.{◌≡◌, ℕ, zero, suc, Bool, true, false, if◌then◌else◌, Option, None, Some, Result, Ok, Err, List, [], ◌∷◌, ◌++◌, length, ⊤}
+use Rattle.std.specs.Prelude.{ℕ, zero, suc, Bool, false, if◌then◌else◌, Option, None, Some, Result, Ok, Err, List, [], ◌∷◌, ◌++◌, length, ⊤}
 use Rattle.rela_lex.specs.declared.error.SpecError.{SpecError}
 use Rattle.rela_lex.specs.declared.error.SpecError.TheVariants.{Syntax, TooDeep, Memory}
 use Rattle.rela_lex.specs.declared.token.Token.{Token}
 use Rattle.rela_lex.specs.declared.token.TokenKind.{TokenKind}
-use Rattle.rela_spec.specs.Grammar.{is_mark_of, offset}
+use Rattle.rela_spec.specs.Grammar.{is_mark_of}
 use Rattle.rela_spec.specs.Phrases.{joined_parts}
 
 abbrev pub Reading : Type 0 → Type 0

@@ -24,6 +24,7 @@ use items::item;
 pub use items::level_line;
 pub use members::{is_at_picking, picked_by};
 use numbers::bad_number;
+use rela_flows::prefixes_are_read_exactly;
 use rela_lex::{SpecError, Token};
 use rela_names::List;
 use std::alloc::Global;
@@ -61,6 +62,7 @@ pub fn parse(alloc: Global, tokens: &[Token], end: u32) -> Result<SpecFile, Spec
     ensures low { IfOk result (λ file. All IsLow file.items) }
     ensures full { IfOk result (λ file. IsFull file) }
 {
+    prefixes_are_read_exactly();
     let file = file(alloc, tokens, end)?;
     refuse_bad_number(tokens)?;
     Ok(file)

@@ -1,16 +1,17 @@
 //! The tokens that are left to read. What has to come next and doesn't is `Syntax`, at the token
 //! that comes instead or at the end of the text.
 
-ghost use Rattle.std.specs.Prelude.{◌≡◌, ◌≢◌, ◌+◌, ◌-◌, ◌<◌, ◌≤◌, true, false, Ok, Err, ℕ, length, List, IfOk, IfErr, OnOk, IsOk, IsErrOf};
+ghost use Rattle.std.specs.Prelude.{◌≡◌, ◌≢◌, ◌+◌, ◌-◌, ◌<◌, ◌≤◌, true, false, Ok, Err, ℕ, length, IfOk, IfErr, OnOk, IsOk, IsErrOf};
 ghost use Rattle.std.specs.Option.{option_map, option_copied};
+ghost use Rattle.rela_flows.specs.Written.{prefix_of};
 ghost use Rattle.rela_lex.specs.declared.error.SpecError.TheVariants.{Memory, Syntax};
 ghost use Rattle.rela_spec.specs.Grammar.{is_mark_of, offset};
 ghost use Rattle.rela_spec.specs.Readings.{next_is, read_open};
-ghost use Rattle.rela_spec.specs.ReadWords.{is_word_of, is_name_kind, is_reference_kind, name_in, named, prefix_in, prefix_of, read_mark, read_word, read_name, read_number, read_prefix, read_reference, whether_mark, whether_word};
+ghost use Rattle.rela_spec.specs.ReadWords.{is_word_of, is_name_kind, is_reference_kind, name_in, named, prefix_in, read_mark, read_word, read_name, read_number, read_prefix, read_reference, whether_mark, whether_word};
 
 use crate::parsing::numbers::{is_number, number_of};
 use crate::words::is_keyword;
-use rela_flows::Prefix;
+use rela_flows::{Prefix, prefixes_are_read_exactly};
 use rela_lex::{SpecError, Token, TokenKind};
 use rela_names::Name;
 use std::alloc::Global;
@@ -377,5 +378,6 @@ fn prefix_in(kind: &TokenKind) -> Option<Prefix>
 fn prefix_of(word: &[u8]) -> Option<Prefix>
     ensures { result ≡ prefix_of word.now }
 {
+    prefixes_are_read_exactly();
     Prefix::parse(word)
 }

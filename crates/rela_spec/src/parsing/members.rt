@@ -1,6 +1,6 @@
 //! Members, and classes of members in brackets.
 
-ghost use Rattle.std.specs.Prelude.{◌≡◌, ◌≢◌, ◌<◌, ◌≤◌, ◌++◌, true, Ok, Err, length, IfOk, IfErr, OnOk};
+ghost use Rattle.std.specs.Prelude.{◌≡◌, ◌≢◌, ◌<◌, ◌≤◌, Ok, Err, length, IfOk, IfErr, OnOk};
 ghost use Rattle.rela_lex.specs.declared.error.SpecError.TheVariants.{Memory};
 ghost use Rattle.rela_spec.specs.Readings.{next_is};
 ghost use Rattle.rela_spec.specs.ReadPaths.{is_picking, read_class, read_member, read_members, read_picked, read_picked_by, starts_member};

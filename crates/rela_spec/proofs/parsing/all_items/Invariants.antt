@@ -1,4 +1,4 @@
-use Rattle.std.proofs.Common.{◌≡◌, ◌≤◌, [], length, true}
+use Rattle.std.proofs.Common.{◌≡◌, [], length, true}
 use Rattle.std.specs.List.{All}
 use Rattle.rela_spec.specs.Depth.{IsLow}
 use Rattle.rela_spec.specs.ReadFile.{read_item}

@@ -1,5 +1,6 @@
-use Rattle.std.proofs.Common.{refl}
-use Rattle.rela_flows.proofs.SamePrefix.{network_zeros, only6}
+use Rattle.std.proofs.Common.{◌-◌, ◌%◌, ◌^◌, ◌∙◌, ap, refl}
+use Rattle.rela_flows.specs.Written.{network_zeros}
+use Rattle.rela_flows.proofs.SamePrefix.{only6}
 use Rattle.rela_flows.proofs.prefix.Ipv6Prefix.new.Goals as goal
 
 pub returns-clause-exact : goal.returns-clause-exact
@@ -9,5 +10,5 @@ pub invariant_of-result : goal.invariant_of-result
 invariant_of-result c = record {
   address_fits = c.network_v6.type_inv;
   length_fits = c.if-length-gt128.false;
-  host_bits_zero = network_zeros 128 c.args.length c.args.address c.network_v6.result c.network_v6.ensures;
+  host_bits_zero = ap (λ k. k % 2 ^ (128 - c.args.length)) c.network_v6.ensures ∙ network_zeros 128 c.args.length c.args.address;
 }

@@ -3,13 +3,14 @@ use Rattle.rela_flows.specs.Fields.{separator_of, bits_of, IsField, parts_of}
 use Rattle.std.proofs.lemmas.Bool.{eqb-true, eqb-false}
 use Rattle.std.proofs.lemmas.Nat.{pow_pos}
 use Rattle.rela_flows.proofs.Exactly.{refused}
-use Rattle.rela_flows.proofs.FieldRuns.{all_parts, all_of_empty, all_of_some, run_start, cut_parts, none_past_eight, none_at_no_field, runs_on, runs_out, none_left, shifted_in, shifted_fits}
+use Rattle.rela_flows.specs.Written.{parts_in}
+use Rattle.rela_flows.proofs.FieldRuns.{all_of_empty, all_of_some, run_start, cut_parts, none_past_eight, none_at_no_field, runs_on, runs_out, none_left, shifted_in, shifted_fits}
 use Rattle.rela_flows.proofs.prefix.reading.read_fields.Goals as goal
 use Rattle.rela_flows.proofs.prefix.reading.read_fields.Goals.{then-is_empty, else-is_empty}
 
 pub loop-rest-init : goal.loop-rest-init
 loop-rest-init c =
-    let parts : parts_of (separator_of c.args.notation) (option_copied c.if-is_empty.rest) ≡ all_parts (separator_of c.args.notation) c.args.text.now =
+    let parts : parts_of (separator_of c.args.notation) (option_copied c.if-is_empty.rest) ≡ parts_in (separator_of c.args.notation) c.args.text.now =
     elim c.if-is_empty.branch [
       | then-is_empty w ↦ all_of_empty _ c.args.text.now _ (eqb-true (length c.args.text.now) 0 (sym w.if-is_empty.ensures)) w.rest-is
       | else-is_empty w ↦ all_of_some _ c.args.text.now _ c.args.text (omega (arith, eqb-false (length c.args.text.now) 0 (sym w.if-is_empty.ensures))) w.rest-is refl

@@ -1,10 +1,9 @@
-use Rattle.std.proofs.Common.{rules, arith, ◌≡◌, ◌≢◌, ℕ, Ok, Err, true, false, List, [], ◌∷◌, ◌++◌, length, refl, sym, ap, ◌∙◌, subst}
-use Rattle.rela_lex.specs.declared.error.SpecError.{SpecError}
+use Rattle.std.proofs.Common.{rules, arith, ◌≡◌, ◌≢◌, Err, true, List, [], refl, sym, ◌∙◌, subst}
 use Rattle.rela_lex.specs.declared.error.SpecError.TheVariants.{Memory}
 use Rattle.rela_spec.specs.ReadPaths.{read_member, read_members, starts_member}
 use Rattle.rela_spec.specs.Readings.{next_is}
 use Rattle.rela_spec.specs.declared.tree.Member.{Member}
-use Rattle.rela_spec.proofs.Loops.{Gathers, gathers_start, gathers_end, loop_more, loop_fault, from_none, from_none_fault}
+use Rattle.rela_spec.proofs.Loops.{Gathers, gathers_start, loop_more, loop_fault, from_none_fault}
 use Rattle.rela_spec.proofs.parsing.members.members.Goals as goal
 
 pub loop-alloc-init : goal.loop-alloc-init

@@ -1,5 +1,4 @@
-use Rattle.std.proofs.Common.{◌≡◌, ◌+◌, ◌*◌, length, take, arith}
-use Rattle.std.specs.Str.Parse.{digits_value}
+use Rattle.std.proofs.Common.{◌+◌, ◌*◌, arith}
 use Rattle.rela_spec.proofs.Numbers.{digits_more, too_great}
 use Rattle.rela_spec.proofs.parsing.numbers.good_number.Goals as goal
 

@@ -1,4 +1,4 @@
-use Rattle.std.proofs.Common.{◌≡◌, ◌+◌, ◌*◌, ◌<◌, ◌≤◌, ℕ, length}
+use Rattle.std.proofs.Common.{◌≡◌, ◌+◌, ◌*◌, ◌≤◌, ℕ, length}
 use Rattle.rela_spec.specs.ReadPaths.{goes_on, next_at}
 use Rattle.rela_spec.specs.declared.parsing.paths.Joint.{Joint}
 use Rattle.rela_spec.specs.declared.parsing.paths.Joint.TheVariants.{Alt, And, Seq}

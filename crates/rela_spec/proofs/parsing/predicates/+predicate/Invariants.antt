@@ -1,4 +1,4 @@
-use Rattle.std.proofs.Common.{◌≡◌, ◌+◌, ◌*◌, ◌<◌, ◌≤◌, ℕ, length, map}
+use Rattle.std.proofs.Common.{◌≡◌, ◌+◌, ◌*◌, ◌≤◌, ℕ, length, map}
 use Rattle.rela_flows.specs.Selects.{depth, greatest}
 use Rattle.rela_spec.specs.ReadPredicates.{between, next_at, within}
 use Rattle.rela_spec.specs.ReadWords.{is_word_of}

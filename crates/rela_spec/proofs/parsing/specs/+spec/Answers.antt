@@ -1,10 +1,10 @@
-use Rattle.std.proofs.Common.{rules, arith, ◌≡◌, ◌≢◌, ◌+◌, ◌*◌, ◌≤◌, ℕ, Ok, Err, true, false, List, [], ◌∷◌, ◌++◌, length, refl, sym, ap, ◌∙◌, subst}
+use Rattle.std.proofs.Common.{rules, arith, ◌≡◌, ◌≢◌, Err, true, List, [], ◌∷◌, ◌++◌, refl, sym, ap, ◌∙◌}
 use Rattle.rela_lex.specs.declared.error.SpecError.TheVariants.{Memory}
-use Rattle.rela_spec.specs.ReadSpecs.{between, next_at, chain_at, more_at}
+use Rattle.rela_spec.specs.ReadSpecs.{between, next_at, chain_at}
 use Rattle.rela_spec.specs.ReadWords.{is_word_of}
 use Rattle.rela_spec.specs.Readings.{next_is}
 use Rattle.rela_spec.specs.declared.tree.SpecExpr.{SpecExpr}
-use Rattle.rela_spec.proofs.Loops.{gathers_start, loop_more, loop_fault}
+use Rattle.rela_spec.proofs.Loops.{gathers_start, loop_more}
 use Rattle.rela_spec.proofs.SpecReadings.{alone_at, first_fault_at, more_fault_at, joined_at}
 use Rattle.rela_spec.proofs.parsing.specs.+spec.Goals as goal
 

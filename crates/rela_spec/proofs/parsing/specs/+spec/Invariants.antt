@@ -1,4 +1,4 @@
-use Rattle.std.proofs.Common.{◌≡◌, ◌+◌, ◌*◌, ◌<◌, ◌≤◌, ℕ, length}
+use Rattle.std.proofs.Common.{◌≡◌, ◌+◌, ◌*◌, ◌≤◌, ℕ, length}
 use Rattle.rela_spec.specs.ReadSpecs.{between, next_at}
 use Rattle.rela_spec.specs.ReadWords.{is_word_of}
 use Rattle.rela_spec.specs.declared.parsing.specs.Joint.{Joint}
