@@ -34,6 +34,7 @@ use Rattle.rela_print.proofs.ChainTexts.{reads_none, reads_one_more}
 use Rattle.rela_print.proofs.Levels as levels
 use Rattle.rela_print.proofs.PathsBack.{GoodPath, sourced_path, reads_path}
 use Rattle.rela_print.proofs.PredicatesBack as predicates
+use Rattle.rela_print.proofs.PrefixNames.{HaveTexts}
 use Rattle.rela_print.proofs.SpecsBack.{GoodSpec, SameSpec, sourced_body, reads_body}
 use Rattle.rela_print.proofs.Sources.{Each, AreNamed, Sourced, sourced_then, sourced_or, sourced_done, sourced_many, sourced_mark, sourced_word, sourced_name}
 use Rattle.rela_print.proofs.TextPieces.{Tame, tame_token, tame_none, tame_join, Reads, Free, Stops, reads_then, reads_as, reads_behind_blank}
@@ -239,12 +240,6 @@ named_tokens at (lex.Piece.Lexeme (Bare text) ∷ pieces) rest each = (each.0.0,
 named_tokens at (lex.Piece.Lexeme (Quoted text) ∷ pieces) rest each = (each.0, named_tokens (at + length (34 ∷ (text ++ 34 ∷ []))) pieces rest each.1)
 named_tokens at (lex.Piece.Lexeme (Reference text) ∷ pieces) rest each = (each.0.0, named_tokens (at + length (36 ∷ text)) pieces rest each.1)
 
-sourced_condition : (r m : ℕ) → Sourced m m (condition r) (predicates.GoodPredicate m)
-unfolding condition
-sourced_condition r m =
-    sourced_or (sourced_then (sourced_word (codes "for")) λ _ _. predicates.sourced_predicate r m)
-    (sourced_done flows.All (levels.good_from 3 predicates.level predicates.as_it_is printed_predicate predicates.lift predicates.grouped 0 m flows.All (predicates.kept_all m)))
-
 sourced_path_item : (r m : ℕ) → Sourced m m (path_item r) (GoodItem m)
 unfolding path_item
 sourced_path_item r m =
@@ -257,20 +252,6 @@ sourced_spec_item r m =
     sourced_then sourced_name λ x is. sourced_then (sourced_mark {m = m} {n = m} 61 refl) λ _ _. sourced_then (sourced_body r m) λ s good.
     sourced_then (sourced_mark {m = m} {n = m} 59 refl) λ _ _. sourced_done (item.Spec x.name x.at s) (good_spec m x.name x.at s is good)
 
-sourced_check_item : (r m : ℕ) → Sourced m m (check_item r) (GoodItem m)
-unfolding check_item
-sourced_check_item r m =
-    sourced_then (sourced_or (sourced_then (sourced_word (codes "atmost")) λ _ _. sourced_done {P = λ _. ⊤} true tt) (sourced_done {P = λ _. ⊤} false tt)) λ at_most _.
-    sourced_then sourced_name λ x is. sourced_then (sourced_condition r m) λ p flows_good. sourced_then (sourced_mark {m = m} {n = m} 58 refl) λ _ _.
-    sourced_then (sourced_body r m) λ s good. sourced_then (sourced_mark {m = m} {n = m} 59 refl) λ _ _.
-    sourced_done (item.Check at_most x.name x.at p s) (good_check m at_most x.name x.at p s (record { is = is; flows_good = flows_good; good = good }))
-
-sourced_item : (r m : ℕ) → Sourced m m (an_item r) (GoodItem m)
-unfolding an_item
-sourced_item r m =
-    sourced_or (sourced_then (sourced_word (codes "path")) λ _ _. sourced_path_item r m)
-    (sourced_or (sourced_then (sourced_word (codes "spec")) λ _ _. sourced_spec_item r m) (sourced_then (sourced_word (codes "check")) λ _ _. sourced_check_item r m))
-
 sourced_level : (m : ℕ) → Sourced m m level_line (λ _. ⊤)
 unfolding level_line level_word
 sourced_level m =
@@ -281,10 +262,6 @@ sourced_level m =
   where
     one : (w : List ℕ) (l : Level) → Sourced m m (word w >> done l) (λ _. ⊤)
     one w l = sourced_then (sourced_word w) λ _ _. sourced_done l tt
-
-sourced_file : (r m : ℕ) → Sourced m m (file r) (λ f. Each (GoodItem m) f.items)
-unfolding file
-sourced_file r m = sourced_then (sourced_level m) λ l _. sourced_then (sourced_many (sourced_item r m)) λ items good. sourced_done (record { level = l; items = items }) good
 
 -- the tokens of the canonical text, and the tree that they spell
 pub record Again (text : List ℕ) (f : SpecFile) : Type 0 where
@@ -311,9 +288,34 @@ spelled_again text f reads =
       same = one.right;
     }
 
--- a tree that a text's tokens spell is what its canonical text's tokens spell
-pub read_again : (text : List ℕ) (tokens : List Token) (f : SpecFile) → lex.Spells text tokens → Spells tokens f → Again (print.print_of f) f
-read_again text tokens f cut spelled =
-    let named : AreNamed tokens = subst AreNamed (sym cut.read) (named_tokens 0 cut.pieces [] cut.cut.stands) in
-    let told = (sourced_file spelled.grammar.nested 100).given tokens f [] spelled.grammar.spelled (record { shallow = spelled.shallow; named = named }) in
-    spelled_again (print.print_of f) f (reads_file 100 100 f (omega arith) told.1)
+module _ (texts : HaveTexts) where
+  sourced_condition : (r m : ℕ) → Sourced m m (condition r) (predicates.GoodPredicate m)
+  unfolding condition
+  sourced_condition r m =
+      sourced_or (sourced_then (sourced_word (codes "for")) λ _ _. predicates.sourced_predicate texts r m)
+      (sourced_done flows.All (levels.good_from 3 predicates.level predicates.as_it_is printed_predicate predicates.lift predicates.grouped 0 m flows.All (predicates.kept_all m)))
+
+  sourced_check_item : (r m : ℕ) → Sourced m m (check_item r) (GoodItem m)
+  unfolding check_item
+  sourced_check_item r m =
+      sourced_then (sourced_or (sourced_then (sourced_word (codes "atmost")) λ _ _. sourced_done {P = λ _. ⊤} true tt) (sourced_done {P = λ _. ⊤} false tt)) λ at_most _.
+      sourced_then sourced_name λ x is. sourced_then (sourced_condition r m) λ p flows_good. sourced_then (sourced_mark {m = m} {n = m} 58 refl) λ _ _.
+      sourced_then (sourced_body r m) λ s good. sourced_then (sourced_mark {m = m} {n = m} 59 refl) λ _ _.
+      sourced_done (item.Check at_most x.name x.at p s) (good_check m at_most x.name x.at p s (record { is = is; flows_good = flows_good; good = good }))
+
+  sourced_item : (r m : ℕ) → Sourced m m (an_item r) (GoodItem m)
+  unfolding an_item
+  sourced_item r m =
+      sourced_or (sourced_then (sourced_word (codes "path")) λ _ _. sourced_path_item r m)
+      (sourced_or (sourced_then (sourced_word (codes "spec")) λ _ _. sourced_spec_item r m) (sourced_then (sourced_word (codes "check")) λ _ _. sourced_check_item r m))
+
+  sourced_file : (r m : ℕ) → Sourced m m (file r) (λ f. Each (GoodItem m) f.items)
+  unfolding file
+  sourced_file r m = sourced_then (sourced_level m) λ l _. sourced_then (sourced_many (sourced_item r m)) λ items good. sourced_done (record { level = l; items = items }) good
+
+  -- a tree that a text's tokens spell is what its canonical text's tokens spell
+  pub read_again : (text : List ℕ) (tokens : List Token) (f : SpecFile) → lex.Spells text tokens → Spells tokens f → Again (print.print_of f) f
+  read_again text tokens f cut spelled =
+      let named : AreNamed tokens = subst AreNamed (sym cut.read) (named_tokens 0 cut.pieces [] cut.cut.stands) in
+      let told = (sourced_file spelled.grammar.nested 100).given tokens f [] spelled.grammar.spelled (record { shallow = spelled.shallow; named = named }) in
+      spelled_again (print.print_of f) f (reads_file 100 100 f (omega arith) told.1)

@@ -17,7 +17,7 @@ use Rattle.rela_print.specs.PredicateTexts.{printed_predicate}
 use Rattle.rela_print.specs.Printed.{within}
 use Rattle.rela_print.proofs.Levels as levels
 use Rattle.rela_print.proofs.MemberTexts.{closing, reads_before}
-use Rattle.rela_print.proofs.PrefixNames.{own_text}
+use Rattle.rela_print.proofs.PrefixNames.{HaveTexts, own_text}
 use Rattle.rela_print.proofs.PrintedPredicates.{predicate_all, predicate_dstin, predicate_dstoverlaps, predicate_srcin, predicate_srcoverlaps, predicate_flow, predicate_class, predicate_not, predicate_and, predicate_or}
 use Rattle.rela_print.proofs.Sources.{Parts, Sourced, sourced_token, same_room, sourced_then, sourced_or, sourced_done, sourced_weaker, sourced_bracketed, sourced_chain, sourced_as, sourced_mark, sourced_word, sourced_name}
 use Rattle.rela_print.proofs.TextPieces.{Tame, tame_token, tame_join, Reads, Free, Stops, reads_then, reads_as, reads_token, reads_behind_blank, never_bad}
@@ -120,43 +120,6 @@ no_mark [] le = absurd (omega arith)
 no_mark (a ∷ []) le = absurd (omega arith)
 no_mark (a ∷ b ∷ t) le = rw (never_bad (a == 46), never_bad (a == 58)) refl
 
-reads_prefix : {m : ℕ} (q : Prefix) → Reads Stops prefix (text_of q) (λ w. w ≡ q) (Tame m m)
-reads_prefix {m = m} q =
-    let facts = own_text q in
-    reads_token (Bare (text_of q)) (λ at. q) (λ rest c. (facts.1, no_mark (text_of q) facts.2, c)) (λ at. (text_of q, refl, facts.0)) (λ at. refl)
-    (λ at. tame_token m m (record { at = at; kind = Bare (text_of q) }) refl refl refl)
-
-reads_placed : (m : ℕ) (form : Prefix → Predicate) (q : Prefix) → Reads Stops (prefix >>= λ w. done (form w)) (text_of q) (Is (form q)) (Tame m m)
-reads_placed m form q = reads_as (λ (w : Prefix). form w) (λ w e. ap form e) (λ a w b h. (w, b, h, (refl, refl))) (reads_prefix {m = m} q)
-
-reads_in : (m : ℕ) (form other : Prefix → Predicate) (q : Prefix) → Reads Stops (placed form other) (codes "in " ++ text_of q) (Is (form q)) (Tame m m)
-unfolding placed
-reads_in m form other q = reads_as (λ (w : Predicate). w) (λ w e. e) (λ a w b h. inl h) (reads_word_then {S = prefix >>= λ w. done (form w)} (codes "in") refl refl (reads_placed m form q))
-
-reads_overlaps : (m : ℕ) (other form : Prefix → Predicate) (q : Prefix) → Reads Stops (placed other form) (codes "overlaps " ++ text_of q) (Is (form q)) (Tame m m)
-unfolding placed
-reads_overlaps m other form q = reads_as (λ (w : Predicate). w) (λ w e. e) (λ a w b h. inr h) (reads_word_then {S = prefix >>= λ w. done (form w)} (codes "overlaps") refl refl (reads_placed m form q))
-
-kept_dst_in : (m : ℕ) (q : Prefix) → KeptPredicate 0 m (V.DstIn q)
-unfolding test
-kept_dst_in m q = kept_test m (codes "dst in " ++ text_of q) (V.DstIn q) (predicate_dstin q) λ n.
-    reads_as (λ (w : Predicate). w) (λ w e. e) (λ a w b h. inr (inl h)) (reads_word_then (codes "dst") refl refl (reads_in n V.DstIn V.DstOverlaps q))
-
-kept_dst_overlaps : (m : ℕ) (q : Prefix) → KeptPredicate 0 m (V.DstOverlaps q)
-unfolding test
-kept_dst_overlaps m q = kept_test m (codes "dst overlaps " ++ text_of q) (V.DstOverlaps q) (predicate_dstoverlaps q) λ n.
-    reads_as (λ (w : Predicate). w) (λ w e. e) (λ a w b h. inr (inl h)) (reads_word_then (codes "dst") refl refl (reads_overlaps n V.DstIn V.DstOverlaps q))
-
-kept_src_in : (m : ℕ) (q : Prefix) → KeptPredicate 0 m (V.SrcIn q)
-unfolding test
-kept_src_in m q = kept_test m (codes "src in " ++ text_of q) (V.SrcIn q) (predicate_srcin q) λ n.
-    reads_as (λ (w : Predicate). w) (λ w e. e) (λ a w b h. inr (inr (inl h))) (reads_word_then (codes "src") refl refl (reads_in n V.SrcIn V.SrcOverlaps q))
-
-kept_src_overlaps : (m : ℕ) (q : Prefix) → KeptPredicate 0 m (V.SrcOverlaps q)
-unfolding test
-kept_src_overlaps m q = kept_test m (codes "src overlaps " ++ text_of q) (V.SrcOverlaps q) (predicate_srcoverlaps q) λ n.
-    reads_as (λ (w : Predicate). w) (λ w e. e) (λ a w b h. inr (inr (inl h))) (reads_word_then (codes "src") refl refl (reads_overlaps n V.SrcIn V.SrcOverlaps q))
-
 kept_not : (m : ℕ) (p : Predicate) → KeptPredicate 0 m p → KeptPredicate 1 m (V.Not p)
 unfolding denial
 kept_not m p kept = make m 1 3 (codes "not " ++ within 3 (printed_predicate p)) (V.Not p) (predicate_not p) (omega arith) (omega arith) λ n le.
@@ -189,43 +152,81 @@ sourced_placed m form other first second =
     sourced_or (sourced_then (sourced_word (codes "in")) λ _ _. sourced_then (sourced_prefix m) λ q _. sourced_done (form q) (first q))
     (sourced_then (sourced_word (codes "overlaps")) λ _ _. sourced_then (sourced_prefix m) λ q _. sourced_done (other q) (second q))
 
-sourced_test : (m : ℕ) → Sourced m m test (KeptPredicate 0 m)
-unfolding test
-sourced_test m =
-    sourced_or (sourced_then (sourced_word (codes "all")) λ _ _. sourced_done V.All (kept_all m))
-    (sourced_or (sourced_then (sourced_word (codes "dst")) λ _ _. sourced_placed m V.DstIn V.DstOverlaps (kept_dst_in m) (kept_dst_overlaps m))
-    (sourced_or (sourced_then (sourced_word (codes "src")) λ _ _. sourced_placed m V.SrcIn V.SrcOverlaps (kept_src_in m) (kept_src_overlaps m))
-    (sourced_or (sourced_then (sourced_word (codes "flow")) λ _ _. sourced_then sourced_name λ x is. sourced_done (V.Flow x.name) (kept_flow m x.name is))
-    (sourced_then (sourced_word (codes "class")) λ _ _. sourced_then sourced_name λ x is. sourced_done (V.Class x.name) (kept_class m x.name is)))))
-
-sourced_single : (r m : ℕ) → ((s k : ℕ) → r ≡ suc s → Sourced k k (predicate s) (GoodPredicate k)) → Sourced m m (single r (inside r)) (KeptPredicate 0 m)
-unfolding single
-sourced_single r m within_it = sourced_or (group r within_it) (sourced_test m)
-  where
-    group : (r : ℕ) → ((s k : ℕ) → r ≡ suc s → Sourced k k (predicate s) (GoodPredicate k)) → Sourced m m (bracketed r (mark 40) (λ _. inside r >>= λ p. mark 41 >> done p)) (KeptPredicate 0 m)
-    group zero within_it = sourced_bracketed 0 40 (λ _. inside 0 >>= λ p. mark 41 >> done p) refl λ s k none e. absurd (omega (arith, none))
-    group (suc r) within_it = sourced_bracketed (suc r) 40 (λ _. predicate r >>= λ p. mark 41 >> done p) refl λ s k _ e.
-        sourced_then (within_it r k refl) λ w good. sourced_then (sourced_mark 41 (closing k ∙ ap Some (sym e))) λ _ _. sourced_done w (inr (k, e, good))
-
-sourced_denial : (r m : ℕ) → ((s k : ℕ) → r ≡ suc s → Sourced k k (predicate s) (GoodPredicate k)) → Sourced m m (denial r (inside r)) (KeptPredicate 1 m)
-unfolding denial
-sourced_denial r m within_it =
-    sourced_or (sourced_then (sourced_word (codes "not")) λ _ _. sourced_then (sourced_single r m within_it) λ p kept. sourced_done (V.Not p) (kept_not m p kept))
-    (sourced_weaker (λ p kept. levels.kept_more 3 level as_it_is printed_predicate lift grouped 0 1 m p (omega arith) kept) (sourced_single r m within_it))
-
-sourced_disjunction : (r m : ℕ) → ((s k : ℕ) → r ≡ suc s → Sourced k k (predicate s) (GoodPredicate k)) → Sourced m m (disjunction r (inside r)) (GoodPredicate m)
-unfolding disjunction
-sourced_disjunction r m within_it =
-    sourced_weaker (λ p parts. levels.good_from 3 level as_it_is printed_predicate lift grouped 3 m p (kept_or m p parts))
-    (sourced_chain (sourced_word (codes "or")) (sourced_weaker (kept_and m) (sourced_chain (sourced_word (codes "and")) (sourced_denial r m within_it))))
-
-pub sourced_predicate : (r m : ℕ) → Sourced m m (predicate r) (GoodPredicate m)
-sourced_predicate zero m = sourced_as (predicate_is zero) (sourced_disjunction zero m (λ s k none. absurd (omega (arith, none))))
-sourced_predicate (suc r) m =
-    sourced_as (predicate_is (suc r)) (sourced_disjunction (suc r) m λ s k e.
-    let one : r ≡ s = omega (arith, e) in subst (λ (x : ℕ). Sourced k k (predicate x) (GoodPredicate k)) one (sourced_predicate r k))
-
 -- the text of a predicate that is spelled where so many brackets may be opened
 pub reads_predicate : (m n : ℕ) (p : Predicate) → m ≤ n → GoodPredicate m p → Reads Stops (predicate n) (printed_predicate p).text (λ w. w ≡ p) (Tame n n)
 reads_predicate m n p le good =
     reads_as (λ (w : Predicate). w) (λ w e. e) (is_predicate n) (levels.reads_lower 3 level as_it_is printed_predicate lift grouped good.depth 3 n (printed_predicate p).text p good.low (good.reads n le))
+
+module _ (texts : HaveTexts) where
+  reads_prefix : {m : ℕ} (q : Prefix) → Reads Stops prefix (text_of q) (λ w. w ≡ q) (Tame m m)
+  reads_prefix {m = m} q =
+      let facts = own_text texts q in
+      reads_token (Bare (text_of q)) (λ at. q) (λ rest c. (facts.1, no_mark (text_of q) facts.2, c)) (λ at. (text_of q, refl, facts.0)) (λ at. refl)
+      (λ at. tame_token m m (record { at = at; kind = Bare (text_of q) }) refl refl refl)
+
+  reads_placed : (m : ℕ) (form : Prefix → Predicate) (q : Prefix) → Reads Stops (prefix >>= λ w. done (form w)) (text_of q) (Is (form q)) (Tame m m)
+  reads_placed m form q = reads_as (λ (w : Prefix). form w) (λ w e. ap form e) (λ a w b h. (w, b, h, (refl, refl))) (reads_prefix {m = m} q)
+
+  reads_in : (m : ℕ) (form other : Prefix → Predicate) (q : Prefix) → Reads Stops (placed form other) (codes "in " ++ text_of q) (Is (form q)) (Tame m m)
+  unfolding placed
+  reads_in m form other q = reads_as (λ (w : Predicate). w) (λ w e. e) (λ a w b h. inl h) (reads_word_then {S = prefix >>= λ w. done (form w)} (codes "in") refl refl (reads_placed m form q))
+
+  reads_overlaps : (m : ℕ) (other form : Prefix → Predicate) (q : Prefix) → Reads Stops (placed other form) (codes "overlaps " ++ text_of q) (Is (form q)) (Tame m m)
+  unfolding placed
+  reads_overlaps m other form q = reads_as (λ (w : Predicate). w) (λ w e. e) (λ a w b h. inr h) (reads_word_then {S = prefix >>= λ w. done (form w)} (codes "overlaps") refl refl (reads_placed m form q))
+
+  kept_dst_in : (m : ℕ) (q : Prefix) → KeptPredicate 0 m (V.DstIn q)
+  unfolding test
+  kept_dst_in m q = kept_test m (codes "dst in " ++ text_of q) (V.DstIn q) (predicate_dstin q) λ n.
+      reads_as (λ (w : Predicate). w) (λ w e. e) (λ a w b h. inr (inl h)) (reads_word_then (codes "dst") refl refl (reads_in n V.DstIn V.DstOverlaps q))
+
+  kept_dst_overlaps : (m : ℕ) (q : Prefix) → KeptPredicate 0 m (V.DstOverlaps q)
+  unfolding test
+  kept_dst_overlaps m q = kept_test m (codes "dst overlaps " ++ text_of q) (V.DstOverlaps q) (predicate_dstoverlaps q) λ n.
+      reads_as (λ (w : Predicate). w) (λ w e. e) (λ a w b h. inr (inl h)) (reads_word_then (codes "dst") refl refl (reads_overlaps n V.DstIn V.DstOverlaps q))
+
+  kept_src_in : (m : ℕ) (q : Prefix) → KeptPredicate 0 m (V.SrcIn q)
+  unfolding test
+  kept_src_in m q = kept_test m (codes "src in " ++ text_of q) (V.SrcIn q) (predicate_srcin q) λ n.
+      reads_as (λ (w : Predicate). w) (λ w e. e) (λ a w b h. inr (inr (inl h))) (reads_word_then (codes "src") refl refl (reads_in n V.SrcIn V.SrcOverlaps q))
+
+  kept_src_overlaps : (m : ℕ) (q : Prefix) → KeptPredicate 0 m (V.SrcOverlaps q)
+  unfolding test
+  kept_src_overlaps m q = kept_test m (codes "src overlaps " ++ text_of q) (V.SrcOverlaps q) (predicate_srcoverlaps q) λ n.
+      reads_as (λ (w : Predicate). w) (λ w e. e) (λ a w b h. inr (inr (inl h))) (reads_word_then (codes "src") refl refl (reads_overlaps n V.SrcIn V.SrcOverlaps q))
+
+  sourced_test : (m : ℕ) → Sourced m m test (KeptPredicate 0 m)
+  unfolding test
+  sourced_test m =
+      sourced_or (sourced_then (sourced_word (codes "all")) λ _ _. sourced_done V.All (kept_all m))
+      (sourced_or (sourced_then (sourced_word (codes "dst")) λ _ _. sourced_placed m V.DstIn V.DstOverlaps (kept_dst_in m) (kept_dst_overlaps m))
+      (sourced_or (sourced_then (sourced_word (codes "src")) λ _ _. sourced_placed m V.SrcIn V.SrcOverlaps (kept_src_in m) (kept_src_overlaps m))
+      (sourced_or (sourced_then (sourced_word (codes "flow")) λ _ _. sourced_then sourced_name λ x is. sourced_done (V.Flow x.name) (kept_flow m x.name is))
+      (sourced_then (sourced_word (codes "class")) λ _ _. sourced_then sourced_name λ x is. sourced_done (V.Class x.name) (kept_class m x.name is)))))
+
+  sourced_single : (r m : ℕ) → ((s k : ℕ) → r ≡ suc s → Sourced k k (predicate s) (GoodPredicate k)) → Sourced m m (single r (inside r)) (KeptPredicate 0 m)
+  unfolding single
+  sourced_single r m within_it = sourced_or (group r within_it) (sourced_test m)
+    where
+      group : (r : ℕ) → ((s k : ℕ) → r ≡ suc s → Sourced k k (predicate s) (GoodPredicate k)) → Sourced m m (bracketed r (mark 40) (λ _. inside r >>= λ p. mark 41 >> done p)) (KeptPredicate 0 m)
+      group zero within_it = sourced_bracketed 0 40 (λ _. inside 0 >>= λ p. mark 41 >> done p) refl λ s k none e. absurd (omega (arith, none))
+      group (suc r) within_it = sourced_bracketed (suc r) 40 (λ _. predicate r >>= λ p. mark 41 >> done p) refl λ s k _ e.
+          sourced_then (within_it r k refl) λ w good. sourced_then (sourced_mark 41 (closing k ∙ ap Some (sym e))) λ _ _. sourced_done w (inr (k, e, good))
+
+  sourced_denial : (r m : ℕ) → ((s k : ℕ) → r ≡ suc s → Sourced k k (predicate s) (GoodPredicate k)) → Sourced m m (denial r (inside r)) (KeptPredicate 1 m)
+  unfolding denial
+  sourced_denial r m within_it =
+      sourced_or (sourced_then (sourced_word (codes "not")) λ _ _. sourced_then (sourced_single r m within_it) λ p kept. sourced_done (V.Not p) (kept_not m p kept))
+      (sourced_weaker (λ p kept. levels.kept_more 3 level as_it_is printed_predicate lift grouped 0 1 m p (omega arith) kept) (sourced_single r m within_it))
+
+  sourced_disjunction : (r m : ℕ) → ((s k : ℕ) → r ≡ suc s → Sourced k k (predicate s) (GoodPredicate k)) → Sourced m m (disjunction r (inside r)) (GoodPredicate m)
+  unfolding disjunction
+  sourced_disjunction r m within_it =
+      sourced_weaker (λ p parts. levels.good_from 3 level as_it_is printed_predicate lift grouped 3 m p (kept_or m p parts))
+      (sourced_chain (sourced_word (codes "or")) (sourced_weaker (kept_and m) (sourced_chain (sourced_word (codes "and")) (sourced_denial r m within_it))))
+
+  pub sourced_predicate : (r m : ℕ) → Sourced m m (predicate r) (GoodPredicate m)
+  sourced_predicate zero m = sourced_as (predicate_is zero) (sourced_disjunction zero m (λ s k none. absurd (omega (arith, none))))
+  sourced_predicate (suc r) m =
+      sourced_as (predicate_is (suc r)) (sourced_disjunction (suc r) m λ s k e.
+      let one : r ≡ s = omega (arith, e) in subst (λ (x : ℕ). Sourced k k (predicate x) (GoodPredicate k)) one (sourced_predicate r k))

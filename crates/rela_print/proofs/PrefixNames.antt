@@ -11,7 +11,6 @@ use Rattle.rela_names.specs.Name.{is_name_byte, IsName}
 use Rattle.rela_flows.specs.Notation.{IsOctet, IsGroup, IsFields, IsIpv4Address, IsIpv6Address, IsTextOf, text_of}
 use Rattle.rela_flows.specs.declared.prefix.Prefix.{Prefix}
 use Rattle.rela_flows.specs.declared.prefix.Prefix.TheVariants.{V4, V6}
-use Rattle.rela_flows.proofs.OwnText.{text_of_is_text}
 
 both_hold : (a b : Bool) → a ≡ true → b ≡ true → (a && b) ≡ true
 both_hold a b p q = rw (p, q) refl
@@ -137,6 +136,10 @@ names : (q : Prefix) → IsTextOf (text_of q) q → IsName (text_of q) × (2 ≤
 names (V4 p) is = let fits = p.length_fits in slashed (text_of (V4 p)) is.address_text p.length (omega (arith, fits)) (short_v4 is.address_text is.host is.written) is.joined
 names (V6 p) is = let fits = p.length_fits in slashed (text_of (V6 p)) is.address_text p.length (omega (arith, fits)) (short_v6 is.address_text is.host is.written) is.joined
 
--- the canonical text of a prefix is a text of it, a name, and no single byte
-pub own_text : (q : Prefix) → IsTextOf (text_of q) q × IsName (text_of q) × (2 ≤ length (text_of q))
-own_text q = let is = text_of_is_text q in let name = names q is in (is, name.0, name.1)
+-- the canonical text of each prefix is one of its texts
+abbrev pub HaveTexts : Type 0
+HaveTexts = (p : Prefix) → IsTextOf (text_of p) p
+
+-- it is a name too, and no single byte
+pub own_text : HaveTexts → (q : Prefix) → IsTextOf (text_of q) q × IsName (text_of q) × (2 ≤ length (text_of q))
+own_text texts q = let is = texts q in let name = names q is in (is, name.0, name.1)
