@@ -10,13 +10,13 @@ use Rattle.std.proofs.lemmas.Option.{none-some, same_Some}
 use Rattle.rela_labels.specs.Letters.{has}
 use Rattle.rela_nfa.specs.Automaton.{Automaton, IsAutomaton, IsMove as IsEdge, Move as Edge, moves_of as edges_of}
 use Rattle.rela_nfa.specs.Runs.{Step as Taken, HasStep as HasEdge, Follow as Along, spelled, Accepts}
-use Rattle.rela_nfa.proofs.Moves.{Contains-map, Contains-map_back}
 use Rattle.rela_trans.specs.Machine.{Machine, Kind, IsMachine, IsMove, IsSized, machine_states, moves_of}
 use Rattle.rela_trans.specs.Runs.{Does, Step, HasStep, Follow, inputs, outputs, Relates}
 use Rattle.rela_trans.specs.declared.moves.Move.{Move}
 use Rattle.rela_trans.specs.declared.moves.MoveKind.TheVariants.{Silent, In, Out, Same}
 use Rattle.rela_restriction.specs.Acts.{Act, Reads, Writes, Keeps, symbol_of, act_letter, act_letters, AreOfLetters, input_of, output_of}
 use Rattle.rela_restriction.specs.Automata.{act_count, moved, act_label, act_edge, act_edges, act_automaton}
+use Rattle.rela_restriction.proofs.MappedMembers.{Contains-map, Contains-map_back}
 use Rattle.rela_restriction.proofs.MovedSets.{moved_length, moved_on, moved_back}
 
 -- ---- the automaton is one

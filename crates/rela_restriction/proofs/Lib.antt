@@ -2,3 +2,4 @@ pub mod MovedSets
 pub mod ActWords
 pub mod Covering
 pub mod Searching
+pub mod MappedMembers

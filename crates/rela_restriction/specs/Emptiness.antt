@@ -13,7 +13,7 @@ IsOpen over label = ForSome label (λ set. (k : ℕ) × (has over k ≡ true) ×
 abbrev pub OpensTo : List Bool → List Move → ℕ → Type 0
 OpensTo over moves q = (move : Move) × Contains moves move × IsOpen over move.label × (move.to ≡ q)
 
--- the states of P are flagged too; each that was not before waits now, beside those that waited
+-- the states of P are flagged too; those of them that were not before wait now, beside the states that waited
 pub record Finds (P : ℕ → Type 0) (old : List Bool) (waited : List ℕ) (new : List Bool)
     (waiting : List ℕ) : Type 0 where
   pub count : length new ≡ length old
@@ -21,4 +21,5 @@ pub record Finds (P : ℕ → Type 0) (old : List Bool) (waited : List ℕ) (new
   pub still : (q : ℕ) → Contains waited q → Contains waiting q
   pub fresh : (q : ℕ) → HasFlag new q → HasFlag old q ⊎ Contains waiting q
   pub all : (q : ℕ) → P q → HasFlag new q
+  pub only : (q : ℕ) → Contains waiting q → Contains waited q ⊎ P q
   pub room : length waiting + count_by not new ≡ length waited + count_by not old

@@ -1,5 +1,5 @@
 //! The letters of the acts that read some letters alone.
-ghost use Rattle.std.specs.Prelude.{◌≡◌, ℕ, ◌+◌, ◌<◌, ◌≤◌, ◌^◌, true, Contains, IfOk, length};
+ghost use Rattle.std.specs.Prelude.{◌≡◌, ℕ, ◌+◌, ◌<◌, ◌^◌, true, Contains, IfOk, length};
 ghost use Rattle.std.specs.List.{All};
 ghost use Rattle.rela_labels.specs.Letters.{has};
 ghost use Rattle.rela_restriction.specs.Automata.{act_count};

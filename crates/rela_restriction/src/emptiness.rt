@@ -22,8 +22,8 @@ pub(crate) fn accepts_none<L: LabelSet>(
     over: &L,
 ) -> Result<bool, AllocError>
     requires { length (L.letters over.now) ≡ nfa.now.letters }
-    ensures { IfOk result (λ none. IsTrue none → (w : List ℕ) →
-        IsOver (L.letters over.now) w → ¬ Accepts nfa.now w) }
+    ensures { IfOk result (λ none. IsTrue none ↔ ((w : List ℕ) →
+        IsOver (L.letters over.now) w → ¬ Accepts nfa.now w)) }
 {
     let mut found = vec![in alloc; false; nfa.states()]?;
     let mut waiting = Vec::new(alloc);

@@ -87,9 +87,10 @@ impl<L: LabelSet> Excess<L> {
     }
 
     /// Whether no pair is among these whose first word has letters of `inputs` alone. Where it is so,
-    /// the second transducer relates each such pair that the first does. Time: linear in the number
-    /// of letters, the inputs and the states, with a set operation for each edge out of the states
-    /// that acts on these lead to.
+    /// the second transducer relates each such pair that the first does. Where it isn't, nothing is
+    /// told: both may relate such a pair by other acts. Time: linear in the number of letters, the
+    /// inputs and the states, with a set operation for each edge out of the states that acts on these
+    /// lead to.
     pub fn is_empty_on(&self, alloc: Global, inputs: &[u32]) -> Result<bool, AllocError>
         requires { All (λ k. k < self.now.letters) inputs.now }
         ensures { IfOk result (λ empty. IsTrue empty → (read : ℕ → ℕ) (u v : List ℕ) →

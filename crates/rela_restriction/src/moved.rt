@@ -1,5 +1,5 @@
 //! Sets of letters that are moved on.
-ghost use Rattle.std.specs.Prelude.{◌≡◌, ◌+◌, ◌≤◌, ◌<◌, ◌^◌, IfOk, length};
+ghost use Rattle.std.specs.Prelude.{◌≡◌, ◌+◌, ◌≤◌, ◌<◌, IfOk, length};
 ghost use Rattle.rela_restriction.specs.Automata.{moved};
 
 use rela_labels::LabelSet;

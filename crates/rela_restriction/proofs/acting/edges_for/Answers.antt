@@ -3,7 +3,7 @@ use Rattle.std.proofs.lemmas.List.{map_push, take_all}
 use Rattle.rela_nfa.specs.Automaton.{Move as Taken}
 use Rattle.rela_nfa.specs.Stored.{move_of as edge_of}
 use Rattle.rela_trans.specs.Stored.{move_of}
-use Rattle.rela_trans.proofs.OneMore.{twice_more}
+use Rattle.rela_restriction.proofs.MappedMembers.{twice_more}
 use Rattle.rela_restriction.specs.Automata.{act_edge}
 use Rattle.rela_restriction.proofs.acting.edges_for.Goals as goal
 
