@@ -13,6 +13,7 @@ mod joint;
 mod laws;
 mod leading;
 mod moves;
+mod moving;
 mod operations;
 mod pruned;
 mod reading_finer;

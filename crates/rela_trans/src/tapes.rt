@@ -148,6 +148,6 @@ impl<L: LabelSet> Transducer<L> {
     {
         let reading = on_tape(alloc, a, Tape::Input)?;
         let writing = on_tape(alloc, b, Tape::Output)?;
-        reading.concat(alloc, &writing)
+        reading.into_concat(alloc, writing)
     }
 }
