@@ -16,6 +16,7 @@ pub mod Reached
 pub mod Searching
 pub mod SetsFound
 pub mod SetsSpread
+pub mod Silents
 pub mod SortingOut
 pub mod Splitting
 pub mod Standing

@@ -3,6 +3,7 @@ pub mod Expansion
 pub mod Outgoing
 pub mod Searching
 pub mod Sets
+pub mod Silent
 pub mod Splitting
 pub mod Stored
 pub mod Subsets

@@ -13,6 +13,7 @@ use crate::bundle::Bundle;
 use crate::dfa::Dfa;
 use crate::expansion::expand;
 use crate::outgoing::Outgoing;
+use crate::silent::silent_part;
 use crate::state_sets::StateSets;
 use rela_labels::LabelSet;
 use rela_nfa::{BuildError, Edge, Nfa, StateSet};
@@ -123,7 +124,8 @@ fn explore<L: LabelSet>(
         ReachSets a.now (L.letters over.now) (limit + 1)) }
     ensures bounded { IfErr result (λ e. e ≡ BuildError.Limit → limit < 2 ^ 63) }
 {
-    let mut outgoing = Outgoing::new(alloc, a);
+    let silent = silent_part(alloc, a)?;
+    let mut outgoing = Outgoing::new(alloc, a, &silent);
     let mut bundle = Bundle::new(alloc);
     let mut edges = Vec::new(alloc);
     while edges.len() < sets.len() {

@@ -13,6 +13,7 @@ mod letter_edge;
 mod opposite;
 mod outgoing;
 mod search;
+mod silent;
 mod spreading;
 mod state_sets;
 mod wanted;

@@ -7,6 +7,7 @@ ghost use Rattle.rela_nfa.specs.StateSet.{Adds, Lists};
 ghost use Rattle.rela_nfa.specs.Stored.{move_of};
 ghost use Rattle.rela_subset.specs.Outgoing.{AreSortedOut, HasEnd, moves_from};
 ghost use Rattle.rela_subset.specs.Sets.{NextFrom};
+ghost use Rattle.rela_subset.specs.Silent.{IsSilentAs};
 
 use crate::blocks::Blocks;
 use crate::letter_edge::{LetterEdge, edges_by, only_letter, sorted_by_letter};
@@ -24,6 +25,8 @@ use std::mem::replace;
 pub(crate) struct Outgoing<'a, L: LabelSet> {
     /// The automaton.
     a: &'a Nfa<L>,
+    /// Its silent edges alone.
+    silent: &'a Nfa<L>,
     /// The edges by one letter, in ascending order of it.
     singles: Vec<LetterEdge>,
     /// The edges whose labels have more letters than one, or none at all.
@@ -34,6 +37,7 @@ impl<'a, L: LabelSet> Model for Outgoing<'a, L> {
     ghost use Rattle.std.specs.Prelude.{map};
     ghost use Rattle.rela_nfa.specs.Stored.{move_of};
     ghost use Rattle.rela_subset.specs.Outgoing.{AreHeld, Sorted};
+    ghost use Rattle.rela_subset.specs.Silent.{IsSilentAs};
 
     ghost Value = { Sorted };
 
@@ -44,17 +48,19 @@ impl<'a, L: LabelSet> Model for Outgoing<'a, L> {
     } };
 
     ghost invariant = { λ out. AreHeld out.a.now out.singles.items (map (λ edge.
-        move_of L.letters edge.now) out.others.items) };
+        move_of L.letters edge.now) out.others.items) × IsSilentAs out.a.now out.silent.now };
 }
 
 impl<'a, L: LabelSet> Outgoing<'a, L> {
-    /// No edges of the automaton.
-    pub(crate) fn new(alloc: Global, a: &'a Nfa<L>) -> Outgoing<'a, L>
-        requires { IsAutomaton a.now }
+    /// No edges of the automaton, whose silent ones alone the other has.
+    pub(crate) fn new(alloc: Global, a: &'a Nfa<L>, silent: &'a Nfa<L>) -> Outgoing<'a, L>
+        requires automaton { IsAutomaton a.now }
+        requires silent { IsSilentAs a.now silent.now }
         ensures { result.automaton ≡ a.now }
     {
         Outgoing {
             a,
+            silent,
             singles: Vec::new(alloc),
             others: Vec::new(alloc),
         }
@@ -70,7 +76,7 @@ impl<'a, L: LabelSet> Outgoing<'a, L> {
     {
         let singles = replace(&mut self.singles, Vec::new(alloc));
         let others = replace(&mut self.others, Vec::new(alloc));
-        *self = Outgoing::within(alloc, self.a, set, singles, others)?;
+        *self = Outgoing::within(alloc, self.a, self.silent, set, singles, others)?;
         Ok(())
     }
 
@@ -78,11 +84,13 @@ impl<'a, L: LabelSet> Outgoing<'a, L> {
     fn within(
         alloc: Global,
         a: &'a Nfa<L>,
+        silent: &'a Nfa<L>,
         set: &[usize],
         singles: Vec<LetterEdge>,
         others: Vec<&'a Edge<L>>,
     ) -> Result<Outgoing<'a, L>, AllocError>
         requires automaton { IsAutomaton a.now }
+        requires silent { IsSilentAs a.now silent.now }
         requires states { All (λ q. q < states a.now) set.now }
         ensures automaton { IfOk result (λ out. out.automaton ≡ a.now) }
         ensures sorted { IfOk result (λ out.
@@ -96,7 +104,12 @@ impl<'a, L: LabelSet> Outgoing<'a, L> {
             sort_out(alloc, a.edges(*q), &mut singles, &mut others)?;
         }
         let singles = sorted_by_letter(singles);
-        Ok(Outgoing { a, singles, others })
+        Ok(Outgoing {
+            a,
+            silent,
+            singles,
+            others,
+        })
     }
 
     /// The letters of the set in blocks, by each of which the same of these edges may be taken.
@@ -115,8 +128,8 @@ impl<'a, L: LabelSet> Outgoing<'a, L> {
 
     /// Visits the states that follow by the letter, with those that silent edges then lead to, and
     /// puts them in ascending order. Time: two binary searches, a look at each edge by this letter
-    /// alone, at each by more than one and at each edge out of the states that follow, and a sort of
-    /// these.
+    /// alone, at each by more than one and at each silent one out of the states that follow, and a
+    /// sort of these.
     pub(crate) fn following(&self, letter: u32, visited: &mut StateSet) -> Result<(), AllocError>
         requires count { visited.old.count ≡ states self.now.automaton }
         ensures following { IfOk result (λ _. (set : List ℕ) →
@@ -127,8 +140,8 @@ impl<'a, L: LabelSet> Outgoing<'a, L> {
         visited.clear();
         insert_singles(visited, edges_by(&self.singles, letter))?;
         insert_others(visited, &self.others, letter)?;
-        prove!(visited.states().len() <= self.a.states());
-        self.a.close(visited)?;
+        prove!(visited.states().len() <= self.silent.states());
+        self.silent.close(visited)?;
         visited.sort();
         Ok(())
     }

@@ -9,6 +9,7 @@ ghost use Rattle.rela_subset.specs.Subsets.{IsUnwantedWord, IsWantedWord, ReachS
 
 use crate::arrival::Arrival;
 use crate::outgoing::Outgoing;
+use crate::silent::silent_part;
 use crate::spreading::spread;
 use crate::state_sets::StateSets;
 use crate::wanted::Wanted;
@@ -124,7 +125,8 @@ fn search<L: LabelSet, W: Wanted>(
     if let Some(found) = first_wanted(wanted, sets, 0) {
         return Ok(Some(found));
     }
-    let mut outgoing = Outgoing::new(alloc, a);
+    let silent = silent_part(alloc, a)?;
+    let mut outgoing = Outgoing::new(alloc, a, &silent);
     let mut number = 0;
     while number < sets.len() {
         let known = sets.len();

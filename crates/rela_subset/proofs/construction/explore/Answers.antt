@@ -26,7 +26,7 @@ pub returns-in_err-out-clause-limit : goal.returns-in_err-out-clause-limit
 returns-in_err-out-clause-limit g c =
     let letters = g.L.LabelSet.letters in
     let edges = c.loop-alloc.edges.items in
-    let p = err_from_is_err_and c.from_residual.result c.from_residual.ensures.1 in
+    let p = err_from_is_err_and c.from_residual-in_err-out.result c.from_residual-in_err-out.ensures.1 in
     rw (p.1, p.2) (λ e.
     let (count, (next, words, distinct, grown)) = c.in_err-out.ensures.limit e in
     let new = c.expand.new.sets ++ next ∷ [] in

@@ -17,11 +17,13 @@ loop-q-preserved g c =
 pub invariant_of-result : goal.invariant_of-result
 invariant_of-result g c =
     let others = map (λ edge. move_of g.L.LabelSet.letters edge.now) c.loop-q.others.items in
-    let singles = c.sorted_by_letter-singles.result.items in
-    held c.args.a.now c.requires.automaton c.args.set.now c.requires.states singles others
-    (sorted_permuted (moves_from c.args.a.now c.args.set.now) c.loop-q.singles.items singles others c.sorted_by_letter-singles.ensures.same
-    (sorted_all c.args.a.now c.args.set.now c.loop-q.q-index c.loop-q.singles.items others c.loop-q-test.false c.loop-q.invariant))
-    c.sorted_by_letter-singles.ensures.rising
+    let singles = c.sorted_by_letter-singles.result.items in (
+      held c.args.a.now c.requires.automaton c.args.set.now c.requires.states singles others
+          (sorted_permuted (moves_from c.args.a.now c.args.set.now) c.loop-q.singles.items singles others c.sorted_by_letter-singles.ensures.same
+          (sorted_all c.args.a.now c.args.set.now c.loop-q.q-index c.loop-q.singles.items others c.loop-q-test.false c.loop-q.invariant))
+          c.sorted_by_letter-singles.ensures.rising,
+      c.requires.silent,
+    )
 
 pub returns-clause-sorted : goal.returns-clause-sorted
 returns-clause-sorted g c =
