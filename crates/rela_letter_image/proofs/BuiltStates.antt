@@ -13,6 +13,7 @@ use Rattle.rela_pairs.specs.declared.pair.Pair.{Pair}
 use Rattle.rela_trans.specs.Machine.{Machine, IsMachine, machine_states, IsFinal as IsFinalMachine}
 use Rattle.rela_letter_image.specs.Coarse.{coarse_of}
 use Rattle.rela_letter_image.specs.Growth.{AddsState, Growth, HasEnd, Stand, with_parts}
+use Rattle.rela_letter_image.specs.Needs.{Told}
 use Rattle.rela_letter_image.specs.Product.{IsProduct}
 use Rattle.rela_letter_image.specs.Steps.{step_to, steps_from}
 use Rattle.rela_letter_image.proofs.GrownSteps.{stand_longer, still_at}
@@ -26,9 +27,9 @@ was_at pairs more q y below at =
 
 module _ (coarse : List ℕ) (a : LetterAutomaton) (t : Machine) where
   -- a state stands for its pair: it is final where both states are, and has the steps from the pair
-  pub record StandsFor (pairs : List Pair) (x : Pair) (final : Bool) (silents : List ℕ) (edges : List LetterEdge) : Type 0 where
+  pub record StandsFor (told : Told) (pairs : List Pair) (x : Pair) (final : Bool) (silents : List ℕ) (edges : List LetterEdge) : Type 0 where
     pub is_final : IsTrue final ↔ (IsFinal a x.left × IsFinalMachine t x.right)
-    pub stand : Stand pairs (steps_from coarse a t x) silents edges
+    pub stand : Stand told pairs (steps_from coarse a t x) silents edges
 
   -- the states that were built stand for the first pairs
   pub record AreBuilt (g : Growth) : Type 0 where
@@ -41,7 +42,7 @@ module _ (coarse : List ℕ) (a : LetterAutomaton) (t : Machine) where
     pub each_edges : length g.parts.edges ≡ length g.parts.finals
     pub count : length g.parts.finals ≤ length g.pairs
     pub built : (p : ℕ) (x : Pair) → p < length g.parts.finals → slice_get g.pairs p ≡ Some x
-        → StandsFor g.pairs x (get_or g.parts.finals p false) (get_or g.parts.silents p []) (get_or g.parts.edges p [])
+        → StandsFor g.told g.pairs x (get_or g.parts.finals p false) (get_or g.parts.silents p []) (get_or g.parts.edges p [])
 
   module _ (g h : Growth) (x : Pair) (so_far : AreBuilt g) (at : slice_get g.pairs (length g.parts.finals) ≡ Some x) (adds : AddsState coarse a t x g h) where
     abbrev mid : Growth
@@ -57,25 +58,29 @@ module _ (coarse : List ℕ) (a : LetterAutomaton) (t : Machine) where
     number_below = slice_get_within g.pairs (length g.parts.finals) x at
 
     -- the state that was added
-    added : StandsFor mid.pairs x adds.is_final mid.parts.next_silents mid.parts.next_edges
+    added : StandsFor g.told mid.pairs x adds.is_final mid.parts.next_silents mid.parts.next_edges
     added = record {
       is_final = adds.final;
       stand =
-          subst (λ l. Stand mid.pairs (steps_from coarse a t x) mid.parts.next_silents l) (sym (adds.grows.added.3 ∙ ap (λ l. l ++ adds.grows.added.1) so_far.no_edges))
-          (subst (λ l. Stand mid.pairs (steps_from coarse a t x) l adds.grows.added.1) (sym (adds.grows.added.2 ∙ ap (λ l. l ++ adds.grows.added.0) so_far.no_silents)) adds.grows.added.4);
+          subst (λ l. Stand g.told mid.pairs (steps_from coarse a t x) mid.parts.next_silents l) (sym (adds.grows.added.3 ∙ ap (λ l. l ++ adds.grows.added.1) so_far.no_edges))
+          (subst (λ l. Stand g.told mid.pairs (steps_from coarse a t x) l adds.grows.added.1) (sym (adds.grows.added.2 ∙ ap (λ l. l ++ adds.grows.added.0) so_far.no_silents)) adds.grows.added.4);
     }
 
     -- a state from before
     earlier : (p : ℕ) (y : Pair) → p < length g.parts.finals → slice_get mid.pairs p ≡ Some y
-        → StandsFor mid.pairs y (get_or g.parts.finals p false) (get_or g.parts.silents p []) (get_or g.parts.edges p [])
+        → StandsFor g.told mid.pairs y (get_or g.parts.finals p false) (get_or g.parts.silents p []) (get_or g.parts.edges p [])
     earlier p y below there =
         let before = so_far.built p y below (was_at g.pairs more p y (omega (arith, number_below)) (ap (λ (l : List Pair). slice_get l p) (sym longer) ∙ there)) in
         record {
           is_final = before.is_final;
           stand =
-              subst (λ l. Stand l (steps_from coarse a t y) (get_or g.parts.silents p []) (get_or g.parts.edges p [])) (sym longer)
-              (stand_longer g.pairs more (steps_from coarse a t y) (get_or g.parts.silents p []) (get_or g.parts.edges p []) before.stand);
+              subst (λ l. Stand g.told l (steps_from coarse a t y) (get_or g.parts.silents p []) (get_or g.parts.edges p [])) (sym longer)
+              (stand_longer g.told g.pairs more (steps_from coarse a t y) (get_or g.parts.silents p []) (get_or g.parts.edges p []) before.stand);
         }
+
+    -- what is told of letters stays
+    pub told_kept : h.told ≡ g.told
+    told_kept = ap (λ (v : Growth). v.told) adds.ended ∙ adds.grows.told
 
     -- what stands at a place of a list with one more
     before_push : {A : Type 0} (xs old : List A) (z d : A) (p n : ℕ) → xs ≡ old → length old ≡ n → p < n → get_or (xs ++ z ∷ []) p d ≡ get_or old p d
@@ -84,17 +89,17 @@ module _ (coarse : List ℕ) (a : LetterAutomaton) (t : Machine) where
     at_push : {A : Type 0} (xs old : List A) (z d : A) (p n : ℕ) → xs ≡ old → length old ≡ n → p ≡ n → get_or (xs ++ z ∷ []) p d ≡ z
     at_push xs old z d p n same size here = get_or_push xs z d p (ap (λ l. length l) same ∙ size ∙ sym here)
 
-    stands_as : {final other : Bool} {silents ends : List ℕ} {edges arcs : List LetterEdge} (y : Pair) → other ≡ final → ends ≡ silents → arcs ≡ edges → StandsFor mid.pairs y final silents edges
-        → StandsFor mid.pairs y other ends arcs
+    stands_as : {final other : Bool} {silents ends : List ℕ} {edges arcs : List LetterEdge} (y : Pair) → other ≡ final → ends ≡ silents → arcs ≡ edges → StandsFor g.told mid.pairs y final silents edges
+        → StandsFor g.told mid.pairs y other ends arcs
     stands_as {final} {other} {silents} {ends} {edges} {arcs} y one two three stands =
-        subst (λ l. StandsFor mid.pairs y other ends l) (sym three)
-        (subst (λ l. StandsFor mid.pairs y other l edges) (sym two) (subst (λ b. StandsFor mid.pairs y b silents edges) (sym one) stands))
+        subst (λ l. StandsFor g.told mid.pairs y other ends l) (sym three)
+        (subst (λ l. StandsFor g.told mid.pairs y other l edges) (sym two) (subst (λ b. StandsFor g.told mid.pairs y b silents edges) (sym one) stands))
 
     abbrev ended : Growth
     ended = with_parts mid (with_state mid.parts adds.is_final)
 
     each : (p : ℕ) (y : Pair) → p < length ended.parts.finals → slice_get ended.pairs p ≡ Some y
-        → StandsFor ended.pairs y (get_or ended.parts.finals p false) (get_or ended.parts.silents p []) (get_or ended.parts.edges p [])
+        → StandsFor g.told ended.pairs y (get_or ended.parts.finals p false) (get_or ended.parts.silents p []) (get_or ended.parts.edges p [])
     each p y below there = elim (cases_lt p (length g.parts.finals)) [
       | inl less ↦
           stands_as y (before_push mid.parts.finals g.parts.finals adds.is_final false p (length g.parts.finals) adds.grows.finals refl less)
@@ -109,7 +114,7 @@ module _ (coarse : List ℕ) (a : LetterAutomaton) (t : Machine) where
           stands_as y (at_push mid.parts.finals g.parts.finals adds.is_final false p (length g.parts.finals) adds.grows.finals refl here)
           (at_push mid.parts.silents g.parts.silents mid.parts.next_silents [] p (length g.parts.finals) adds.grows.silents so_far.each_silents here)
           (at_push mid.parts.edges g.parts.edges mid.parts.next_edges [] p (length g.parts.finals) adds.grows.edges so_far.each_edges here)
-          (subst (λ z. StandsFor mid.pairs z adds.is_final mid.parts.next_silents mid.parts.next_edges) is added)
+          (subst (λ z. StandsFor g.told mid.pairs z adds.is_final mid.parts.next_silents mid.parts.next_edges) is added)
     ]
 
     pushed : {A B : Type 0} (xs old : List A) (z : A) (ys was : List B) (w : B) → xs ≡ old → ys ≡ was → length old ≡ length was → length (xs ++ z ∷ []) ≡ length (ys ++ w ∷ [])
@@ -127,7 +132,7 @@ module _ (coarse : List ℕ) (a : LetterAutomaton) (t : Machine) where
       each_silents = pushed mid.parts.silents g.parts.silents mid.parts.next_silents mid.parts.finals g.parts.finals adds.is_final adds.grows.silents adds.grows.finals so_far.each_silents;
       each_edges = pushed mid.parts.edges g.parts.edges mid.parts.next_edges mid.parts.finals g.parts.finals adds.is_final adds.grows.edges adds.grows.finals so_far.each_edges;
       count = count;
-      built = each;
+      built = λ p y below there. subst (λ d. StandsFor d ended.pairs y (get_or ended.parts.finals p false) (get_or ended.parts.silents p []) (get_or ended.parts.edges p [])) (sym adds.grows.told) (each p y below there);
     })
       where
         count : length ended.parts.finals ≤ length mid.pairs
@@ -154,18 +159,18 @@ module _ (coarse : List ℕ) (a : LetterAutomaton) (t : Machine) where
     end_step p q None end = end
     end_step p q (Some k) end = end
 
-    stands : (p : ℕ) (x : Pair) → slice_get g.pairs p ≡ Some x → StandsFor g.pairs x (get_or g.parts.finals p false) (silents_of image p) (edges_of image p)
+    stands : (p : ℕ) (x : Pair) → slice_get g.pairs p ≡ Some x → StandsFor g.told g.pairs x (get_or g.parts.finals p false) (silents_of image p) (edges_of image p)
     stands p x at = all.built p x (omega (arith, slice_get_within g.pairs p x at)) at
 
-    pub all_product : IsMachine t → IsProduct (coarse_of t.letters coarse) a t g.pairs image
+    pub all_product : IsMachine t → IsProduct (coarse_of t.letters coarse) a t g.told g.pairs image
     all_product ok = record {
       starts = all.first;
       final = λ p x at. (stands p x at).is_final;
       only = λ p q x letter at step.
           let found = (stands p x at).stand.only letter q (step_end p q letter step) in
           (found.0, found.1, steps_go coarse a t ok x (step_to letter found.0) found.2);
-      all = λ p x y letter at goes.
-          let found = (stands p x at).stand.all letter y (goes_listed coarse a t ok x letter y goes) in
+      all = λ p x y letter at goes live.
+          let found = (stands p x at).stand.all letter y (goes_listed coarse a t ok x letter y goes) live in
           (found.0, found.1, end_step p found.0 letter found.2);
     }
 

@@ -13,6 +13,7 @@ use Rattle.rela_trans.specs.Machine.{Machine, moves_of}
 use Rattle.rela_trans.specs.declared.moves.Move.{Move}
 use Rattle.rela_letter_nfa.specs.Counted.{edge_to}
 use Rattle.rela_letter_image.specs.Growth.{Growth, HasEnd, Stand, Grows, IsFoundIn, with_parts}
+use Rattle.rela_letter_image.specs.Needs.{IsLive, Told}
 use Rattle.rela_letter_nfa.specs.declared.edge.LetterEdge.{LetterEdge}
 use Rattle.rela_letter_image.specs.Steps.{JointStep, alone_steps, edge_steps, silent_steps, step_if, step_to, steps_from}
 use Rattle.rela_letter_image.proofs.StepsGo.{Contains-nil, Contains-cons_cases, first_in}
@@ -51,45 +52,53 @@ no_end (Some k) q end = Contains-nil _ end
 
 -- ---- targets and edges that are steps
 
-pub stand_none : (pairs : List Pair) → Stand pairs [] [] []
-stand_none pairs = record { only = λ letter q end. absurd (no_end letter q end); all = λ letter y among. absurd (Contains-nil _ among) }
+pub stand_none : (told : Told) (pairs : List Pair) → Stand told pairs [] [] []
+stand_none told pairs = record { only = λ letter q end. absurd (no_end letter q end); all = λ letter y among live. absurd (Contains-nil _ among) }
 
-pub stand_longer : (pairs more : List Pair) (steps : List JointStep) (silents : List ℕ) (edges : List LetterEdge) → Stand pairs steps silents edges → Stand (pairs ++ more) steps silents edges
-stand_longer pairs more steps silents edges stand = record {
+pub stand_longer : (told : Told) (pairs more : List Pair) (steps : List JointStep) (silents : List ℕ) (edges : List LetterEdge) → Stand told pairs steps silents edges
+    → Stand told (pairs ++ more) steps silents edges
+stand_longer told pairs more steps silents edges stand = record {
   only = λ letter q end. let found = stand.only letter q end in (found.0, still_at pairs more q found.0 found.1, found.2);
-  all = λ letter y among. let found = stand.all letter y among in (found.0, still_at pairs more found.0 y found.1, found.2);
+  all = λ letter y among live. let found = stand.all letter y among live in (found.0, still_at pairs more found.0 y found.1, found.2);
 }
 
-pub stand_both : (pairs : List Pair) (steps later : List JointStep) (silents others : List ℕ) (edges more : List LetterEdge) → Stand pairs steps silents edges → Stand pairs later others more
-    → Stand pairs (steps ++ later) (silents ++ others) (edges ++ more)
-stand_both pairs steps later silents others edges more one two = record {
+pub stand_both : (told : Told) (pairs : List Pair) (steps later : List JointStep) (silents others : List ℕ) (edges more : List LetterEdge) → Stand told pairs steps silents edges
+    → Stand told pairs later others more → Stand told pairs (steps ++ later) (silents ++ others) (edges ++ more)
+stand_both told pairs steps later silents others edges more one two = record {
   only = λ letter q end. elim (end_cases silents others edges more letter q end) [
     | inl left ↦ let found = one.only letter q left in (found.0, found.1, Contains-append_left steps later _ found.2)
     | inr right ↦ let found = two.only letter q right in (found.0, found.1, Contains-append_right steps later _ found.2)
   ];
-  all = λ letter y among. elim (Contains-append_cases steps later _ among) [
-    | inl left ↦ let found = one.all letter y left in (found.0, found.1, end_left silents others edges more letter found.0 found.2)
-    | inr right ↦ let found = two.all letter y right in (found.0, found.1, end_right silents others edges more letter found.0 found.2)
+  all = λ letter y among live. elim (Contains-append_cases steps later _ among) [
+    | inl left ↦ let found = one.all letter y left live in (found.0, found.1, end_left silents others edges more letter found.0 found.2)
+    | inr right ↦ let found = two.all letter y right live in (found.0, found.1, end_right silents others edges more letter found.0 found.2)
   ];
 }
 
 pub only_one : {X : Type 0} (x y : X) → Contains (x ∷ []) y → x ≡ y
 only_one x y among = elim (Contains-cons_cases x [] y among) [ inl here ↦ here | inr none ↦ absurd (Contains-nil y none) ]
 
-pub stand_silent : (pairs : List Pair) (q : ℕ) (y : Pair) → slice_get pairs q ≡ Some y → Stand pairs (step_to None y ∷ []) (q ∷ []) []
-stand_silent pairs q y at = record { only = only; all = all }
+-- a step to a pair that isn't live may be left out
+pub stand_dead : (told : Told) (pairs : List Pair) (letter : Option ℕ) (y : Pair) → ¬ IsLive told y → Stand told pairs (step_to letter y ∷ []) [] []
+stand_dead told pairs letter y dead = record {
+  only = λ k q end. absurd (no_end k q end);
+  all = λ k z among live. absurd (dead (subst (λ (s : JointStep). IsLive told s.to) (sym (only_one (step_to letter y) (step_to k z) among)) live));
+}
+
+pub stand_silent : (told : Told) (pairs : List Pair) (q : ℕ) (y : Pair) → slice_get pairs q ≡ Some y → Stand told pairs (step_to None y ∷ []) (q ∷ []) []
+stand_silent told pairs q y at = record { only = only; all = all }
   where
     only : (letter : Option ℕ) (p : ℕ) → HasEnd (q ∷ []) [] letter p → (z : Pair) × (slice_get pairs p ≡ Some z) × Contains (step_to None y ∷ []) (step_to letter z)
     only None p end = (y, ap (slice_get pairs) (sym (only_one q p end)) ∙ at, first_in (step_to None y) [])
     only (Some k) p end = absurd (Contains-nil _ end)
 
-    all : (letter : Option ℕ) (z : Pair) → Contains (step_to None y ∷ []) (step_to letter z) → (p : ℕ) × (slice_get pairs p ≡ Some z) × HasEnd (q ∷ []) [] letter p
-    all letter z among =
+    all : (letter : Option ℕ) (z : Pair) → Contains (step_to None y ∷ []) (step_to letter z) → IsLive told z → (p : ℕ) × (slice_get pairs p ≡ Some z) × HasEnd (q ∷ []) [] letter p
+    all letter z among live =
         let same = only_one (step_to None y) (step_to letter z) among in
         (q, at ∙ ap (λ (s : JointStep). Some s.to) same, subst (λ (s : JointStep). HasEnd (q ∷ []) [] s.letter q) same (first_in q []))
 
-pub stand_edge : (pairs : List Pair) (k q : ℕ) (y : Pair) → slice_get pairs q ≡ Some y → Stand pairs (step_to (Some k) y ∷ []) [] (edge_to k q ∷ [])
-stand_edge pairs k q y at = record { only = only; all = all }
+pub stand_edge : (told : Told) (pairs : List Pair) (k q : ℕ) (y : Pair) → slice_get pairs q ≡ Some y → Stand told pairs (step_to (Some k) y ∷ []) [] (edge_to k q ∷ [])
+stand_edge told pairs k q y at = record { only = only; all = all }
   where
     only : (letter : Option ℕ) (p : ℕ) → HasEnd [] (edge_to k q ∷ []) letter p → (z : Pair) × (slice_get pairs p ≡ Some z) × Contains (step_to (Some k) y ∷ []) (step_to letter z)
     only None p end = absurd (Contains-nil _ end)
@@ -97,8 +106,8 @@ stand_edge pairs k q y at = record { only = only; all = all }
         let same : edge_to k q ≡ edge_to j p = only_one (edge_to k q) (edge_to j p) end in
         (y, ap (λ (e : LetterEdge). slice_get pairs e.to) (sym same) ∙ at, subst (λ (e : LetterEdge). Contains (step_to (Some k) y ∷ []) (step_to (Some e.letter) y)) same (first_in (step_to (Some k) y) []))
 
-    all : (letter : Option ℕ) (z : Pair) → Contains (step_to (Some k) y ∷ []) (step_to letter z) → (p : ℕ) × (slice_get pairs p ≡ Some z) × HasEnd [] (edge_to k q ∷ []) letter p
-    all letter z among =
+    all : (letter : Option ℕ) (z : Pair) → Contains (step_to (Some k) y ∷ []) (step_to letter z) → IsLive told z → (p : ℕ) × (slice_get pairs p ≡ Some z) × HasEnd [] (edge_to k q ∷ []) letter p
+    all letter z among live =
         let same = only_one (step_to (Some k) y) (step_to letter z) among in
         (q, at ∙ ap (λ (s : JointStep). Some s.to) same, subst (λ (s : JointStep). HasEnd [] (edge_to k q ∷ []) s.letter q) same (first_in (edge_to k q) []))
 
@@ -107,17 +116,31 @@ stand_edge pairs k q y at = record { only = only; all = all }
 pub grows_none : (g : Growth) → Grows [] g g
 grows_none g = record {
   shape = refl;
+  told = refl;
   finals = refl;
   silents = refl;
   edges = refl;
   found = ([], sym (append-nil g.pairs));
-  added = ([], [], sym (append-nil g.parts.next_silents), sym (append-nil g.parts.next_edges), stand_none g.pairs);
+  added = ([], [], sym (append-nil g.parts.next_silents), sym (append-nil g.parts.next_edges), stand_none g.told g.pairs);
+}
+
+-- no growth by a step to a pair that isn't live
+pub grows_dead : (g : Growth) (letter : Option ℕ) (y : Pair) → ¬ IsLive g.told y → Grows (step_to letter y ∷ []) g g
+grows_dead g letter y dead = record {
+  shape = refl;
+  told = refl;
+  finals = refl;
+  silents = refl;
+  edges = refl;
+  found = ([], sym (append-nil g.pairs));
+  added = ([], [], sym (append-nil g.parts.next_silents), sym (append-nil g.parts.next_edges), stand_dead g.told g.pairs letter y dead);
 }
 
 -- growth by some steps and then by others
 pub grows_both : (steps later : List JointStep) (g h i : Growth) → Grows steps g h → Grows later h i → Grows (steps ++ later) g i
 grows_both steps later g h i one two = record {
   shape = two.shape ∙ one.shape;
+  told = two.told ∙ one.told;
   finals = two.finals ∙ one.finals;
   silents = two.silents ∙ one.silents;
   edges = two.edges ∙ one.edges;
@@ -130,15 +153,17 @@ grows_both steps later g h i one two = record {
     one.added.1 ++ two.added.1,
     two.added.2 ∙ ap (λ l. l ++ two.added.0) one.added.2 ∙ append_assoc g.parts.next_silents one.added.0 two.added.0,
     two.added.3 ∙ ap (λ l. l ++ two.added.1) one.added.3 ∙ append_assoc g.parts.next_edges one.added.1 two.added.1,
-    stand_both i.pairs steps later one.added.0 two.added.0 one.added.1 two.added.1
-        (subst (λ l. Stand l steps one.added.0 one.added.1) (sym two.found.1) (stand_longer h.pairs two.found.0 steps one.added.0 one.added.1 one.added.4)) two.added.4,
+    stand_both g.told i.pairs steps later one.added.0 two.added.0 one.added.1 two.added.1
+        (subst (λ l. Stand g.told l steps one.added.0 one.added.1) (sym two.found.1) (stand_longer g.told h.pairs two.found.0 steps one.added.0 one.added.1 one.added.4))
+        (subst (λ d. Stand d i.pairs later two.added.0 two.added.1) one.told two.added.4),
   );
 }
 
 -- growth by more pairs alone
-pub grows_found : (g h : Growth) (x : Pair) → h.shape ≡ g.shape → h.parts ≡ g.parts → IsFoundIn g.pairs h.pairs x → Grows [] g h
-grows_found g h x shape parts finds = record {
+pub grows_found : (g h : Growth) (x : Pair) → h.shape ≡ g.shape → h.told ≡ g.told → h.parts ≡ g.parts → IsFoundIn g.pairs h.pairs x → Grows [] g h
+grows_found g h x shape told parts finds = record {
   shape = shape;
+  told = told;
   finals = ap (λ (p : LetterParts). p.finals) parts;
   silents = ap (λ (p : LetterParts). p.silents) parts;
   edges = ap (λ (p : LetterParts). p.edges) parts;
@@ -148,28 +173,30 @@ grows_found g h x shape parts finds = record {
     [],
     ap (λ (p : LetterParts). p.next_silents) parts ∙ sym (append-nil g.parts.next_silents),
     ap (λ (p : LetterParts). p.next_edges) parts ∙ sym (append-nil g.parts.next_edges),
-    stand_none h.pairs,
+    stand_none g.told h.pairs,
   );
 }
 
 pub grows_silent : (g : Growth) (q : ℕ) (y : Pair) → slice_get g.pairs q ≡ Some y → Grows (step_to None y ∷ []) g (with_parts g (with_silent g.parts q))
 grows_silent g q y at = record {
   shape = refl;
+  told = refl;
   finals = refl;
   silents = refl;
   edges = refl;
   found = ([], sym (append-nil g.pairs));
-  added = (q ∷ [], [], refl, sym (append-nil g.parts.next_edges), stand_silent g.pairs q y at);
+  added = (q ∷ [], [], refl, sym (append-nil g.parts.next_edges), stand_silent g.told g.pairs q y at);
 }
 
 pub grows_edge : (g : Growth) (k q : ℕ) (y : Pair) → slice_get g.pairs q ≡ Some y → Grows (step_to (Some k) y ∷ []) g (with_parts g (with_edge g.parts (edge_to k q)))
 grows_edge g k q y at = record {
   shape = refl;
+  told = refl;
   finals = refl;
   silents = refl;
   edges = refl;
   found = ([], sym (append-nil g.pairs));
-  added = ([], edge_to k q ∷ [], sym (append-nil g.parts.next_silents), refl, stand_edge g.pairs k q y at);
+  added = ([], edge_to k q ∷ [], sym (append-nil g.parts.next_silents), refl, stand_edge g.told g.pairs k q y at);
 }
 
 -- ---- loops

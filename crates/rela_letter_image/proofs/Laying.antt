@@ -47,7 +47,7 @@ copied_all set copy n all copied = ext_get_or false copy set copied.size (λ k b
 
 -- ---- one more move
 
-three_cases : (xs ys zs : List (Move (List Bool))) (m : Move (List Bool)) → Contains (xs ++ ys ++ zs) m → Contains xs m ⊎ (Contains ys m ⊎ Contains zs m)
+pub three_cases : (xs ys zs : List (Move (List Bool))) (m : Move (List Bool)) → Contains (xs ++ ys ++ zs) m → Contains xs m ⊎ (Contains ys m ⊎ Contains zs m)
 three_cases xs ys zs m among = elim (Contains-append_cases (xs ++ ys) zs m among) [
   | inl left ↦ elim (Contains-append_cases xs ys m left) [ inl one ↦ inl one | inr two ↦ inr (inl two) ]
   | inr three ↦ inr (inr three)

@@ -7,4 +7,5 @@ mod Spelling
 mod StepsGo
 mod LaidOut
 mod Laying
+mod Needing
 mod Passing

@@ -7,6 +7,7 @@ use Rattle.rela_letter_nfa.specs.LetterAutomaton.{LetterAutomaton, IsFinal}
 use Rattle.rela_letter_nfa.specs.Runs.{HasStep}
 use Rattle.rela_trans.specs.Machine.{Machine, IsFinal as IsFinalMachine}
 use Rattle.rela_trans.specs.Runs.{HasStep as HasMove}
+use Rattle.rela_letter_image.specs.Needs.{Told, IsLive}
 
 -- the automaton goes silently while the transducer stays
 abbrev pub GoesSilently : LetterAutomaton → Pair → Pair → Type 0
@@ -26,13 +27,14 @@ abbrev pub Goes : (ℕ → ℕ) → LetterAutomaton → Machine → Pair → Opt
 Goes read a t x letter y = ((letter ≡ None) × GoesSilently a x y)
     ⊎ (GoesAlone read t x letter y ⊎ GoTogether read a t x letter y)
 
--- the states of r are these pairs, from each of which it goes as the two do, and writes what they write
-pub record IsProduct (read : ℕ → ℕ) (a : LetterAutomaton) (t : Machine) (pairs : List Pair)
-    (r : LetterAutomaton) : Type 0 where
+-- the states of r are these pairs, from each of which it goes as the two do to live pairs, and writes what they write
+pub record IsProduct (read : ℕ → ℕ) (a : LetterAutomaton) (t : Machine) (told : Told)
+    (pairs : List Pair) (r : LetterAutomaton) : Type 0 where
   pub starts : slice_get pairs r.start ≡ Some (pair_of a.start t.start)
   pub final : (p : ℕ) (x : Pair) → slice_get pairs p ≡ Some x →
       IsFinal r p ↔ (IsFinal a x.left × IsFinalMachine t x.right)
   pub only : (p q : ℕ) (x : Pair) (letter : Option ℕ) → slice_get pairs p ≡ Some x →
       HasStep r p letter q → (y : Pair) × (slice_get pairs q ≡ Some y) × Goes read a t x letter y
   pub all : (p : ℕ) (x y : Pair) (letter : Option ℕ) → slice_get pairs p ≡ Some x →
-      Goes read a t x letter y → (q : ℕ) × (slice_get pairs q ≡ Some y) × HasStep r p letter q
+      Goes read a t x letter y → IsLive told y →
+      (q : ℕ) × (slice_get pairs q ≡ Some y) × HasStep r p letter q

@@ -3,10 +3,12 @@ ghost use Rattle.std.specs.Prelude.{◌≡◌, ℕ, ◌<◌, ◌↔◌, List, Is
 ghost use Rattle.rela_trans.specs.Machine.{IsFinal, IsMachine, machine_states, moves_of};
 ghost use Rattle.rela_trans.specs.Runs.{Relates};
 ghost use Rattle.rela_letter_image.specs.LetterMoves.{AreLettersOf, LeadBelow, all_moves};
+ghost use Rattle.rela_letter_image.specs.Needs.{AreNeeds};
 
 use crate::branches::branch_ends;
 use crate::laying_out::{finals_of, states_of};
 use crate::letter_moves::StateMoves;
+use crate::needs::needs_of;
 use rela_labels::LabelSet;
 use rela_trans::Transducer;
 use std::alloc::{AllocError, Global};
@@ -26,6 +28,8 @@ pub struct LetterRelation {
     finals: Vec<bool>,
     /// The moves that leave each state.
     states: Vec<StateMoves>,
+    /// For each state a word of letters that it needs, as by `needs_of`.
+    needs: Vec<u64>,
 }
 
 impl Model for LetterRelation {
@@ -33,6 +37,7 @@ impl Model for LetterRelation {
     ghost use Rattle.std.specs.List.{All};
     ghost use Rattle.rela_trans.specs.Machine.{Machine, IsMachine};
     ghost use Rattle.rela_letter_image.specs.LetterMoves.{AreLettersOf, all_moves};
+    ghost use Rattle.rela_letter_image.specs.Needs.{AreNeeds};
 
     ghost Value = { Machine };
 
@@ -48,7 +53,12 @@ impl Model for LetterRelation {
       start = relation.start;
       finals = relation.finals.items;
       moves = map (all_moves relation.letters) relation.states.items;
-    }) × All (AreLettersOf relation.letters) relation.states.items };
+    }) × All (AreLettersOf relation.letters) relation.states.items × AreNeeds (record {
+      letters = relation.letters;
+      start = relation.start;
+      finals = relation.finals.items;
+      moves = map (all_moves relation.letters) relation.states.items;
+    }) relation.needs.items };
 }
 
 impl LetterRelation {
@@ -70,11 +80,13 @@ impl LetterRelation {
         let finals = finals_of(alloc, relation)?;
         let kept = branch_ends(alloc, relation)?;
         let states = states_of(alloc, relation, &kept)?;
+        let needs = needs_of(alloc, &states, &finals)?;
         Ok(LetterRelation {
             letters,
             start,
             finals,
             states,
+            needs,
         })
     }
 
@@ -119,5 +131,13 @@ impl LetterRelation {
         ensures machine { IsMachine self.now }
     {
         &self.states[q]
+    }
+
+    /// For each state a word of letters that it needs.
+    pub(crate) fn needs(&self) -> &[u64]
+        ensures needs { AreNeeds self.now result.now }
+        ensures machine { IsMachine self.now }
+    {
+        &self.needs
     }
 }

@@ -2,6 +2,7 @@
 //! one letter on each edge. A want of memory is told as `AllocError` or as `BuildError::Memory`.
 #![tactic(auto)]
 
+mod ahead;
 mod branches;
 mod found;
 mod growing;
@@ -10,6 +11,7 @@ mod laying_out;
 mod letter_by_letter;
 mod letter_moves;
 mod letter_relation;
+mod needs;
 mod product;
 
 pub use imaging::letter_image;

@@ -10,9 +10,11 @@ ghost use Rattle.rela_trans.specs.Machine.{machine_states, IsFinal as IsFinalMac
 ghost use Rattle.rela_letter_image.specs.Coarse.{coarse_of, fine_letters};
 ghost use Rattle.rela_letter_image.specs.Growth.{AddsState, Grows, with_parts};
 ghost use Rattle.rela_letter_image.specs.LetterMoves.{AreLettersOf, LeadBelow, all_moves, alone_move, reading, set_move, writing};
+ghost use Rattle.rela_letter_image.specs.Needs.{TellsLive, Told};
 ghost use Rattle.rela_letter_image.specs.Product.{IsProduct};
 ghost use Rattle.rela_letter_image.specs.Steps.{step_to, step_if, silent_steps, alone_by, alone_steps, read_by, read_steps, letter_steps, laid_out_steps, written_by, edge_steps, steps_from};
 
+use crate::ahead::ahead_of;
 use crate::growing::Growing;
 use crate::letter_moves::{AloneMove, LetterMove, SetMove, StateMoves};
 use crate::letter_relation::LetterRelation;
@@ -22,7 +24,7 @@ use rela_pairs::{BuildError, Pair, Shape};
 use std::alloc::Global;
 
 /// The coarse letter of a fine one; that of a letter past the list is `letters`, their number.
-fn coarse_letter(coarse: &[u32], letters: u32, letter: u32) -> u32
+pub(crate) fn coarse_letter(coarse: &[u32], letters: u32, letter: u32) -> u32
     ensures { result ≡ coarse_of letters coarse.now letter }
 {
     match coarse.get(letter as usize) {
@@ -359,30 +361,34 @@ fn add_state(
 }
 
 /// The automaton of what the two do together: its states are the pairs of states that are found
-/// from the two starts on, its final ones those of two final states, and it goes by what the
-/// transducer writes. Time: that of [`add_steps`] for each pair; space: linear in the result.
+/// from the two starts on, but for some that aren't live, by what is told of letters. Its final ones
+/// are those of two final states, and it goes by what the transducer writes. Time: that of
+/// [`add_steps`] for each pair; space: linear in the result.
 ///
 /// # Errors
 ///
 /// - `Limit` where it would have more than `most` states or more than `most` edges and silent
 ///   steps.
 /// - `Memory` where there isn't memory for it.
-pub(crate) fn product(
+fn product_told(
     alloc: Global,
     paths: &LetterNfa,
     relation: &LetterRelation,
     coarse: &[u32],
+    needs: &[u64],
+    ahead: &[u64],
     most: usize,
 ) -> Result<LetterNfa, BuildError>
     requires { length coarse.now ≤ 2 ^ 32 }
     ensures { IfOk result (λ image. (pairs : List Pair)
-        × IsProduct (coarse_of relation.now.letters coarse.now) paths.now relation.now pairs image) }
+        × IsProduct (coarse_of relation.now.letters coarse.now) paths.now relation.now
+        (record { needs = needs.now; ahead = ahead.now }) pairs image) }
 {
     let shape = Shape {
         lefts: paths.states(),
         rights: relation.states(),
     };
-    let mut growing = Growing::new(alloc, shape, most)?;
+    let mut growing = Growing::new(alloc, shape, needs, ahead, most)?;
     growing.number(Pair {
         left: paths.start() as usize,
         right: relation.start(),
@@ -393,4 +399,30 @@ pub(crate) fn product(
         add_state(&mut growing, paths, relation, coarse, pair)?;
     }
     Ok(growing.finish())
+}
+
+/// The automaton of what the two do together, as by [`product_told`] and with its errors. A pair is
+/// left out where the transducer needs a letter that no longer lies ahead, as far as letters below 64
+/// tell that.
+pub(crate) fn product(
+    alloc: Global,
+    paths: &LetterNfa,
+    relation: &LetterRelation,
+    coarse: &[u32],
+    most: usize,
+) -> Result<LetterNfa, BuildError>
+    requires { length coarse.now ≤ 2 ^ 32 }
+    ensures { IfOk result (λ image. (told : Told) × (pairs : List Pair)
+        × TellsLive (coarse_of relation.now.letters coarse.now) paths.now relation.now told
+        × IsProduct (coarse_of relation.now.letters coarse.now) paths.now relation.now told pairs
+        image) }
+{
+    let found = ahead_of(alloc, paths, relation.letters(), coarse)?;
+    match found {
+        Some(ahead) => {
+            let needs = relation.needs();
+            product_told(alloc, paths, relation, coarse, needs, &ahead, most)
+        }
+        None => product_told(alloc, paths, relation, coarse, &[], &[], most),
+    }
 }

@@ -16,5 +16,5 @@ returns-in-Ok c =
     record {
       language = λ image same.
           subst (λ (r : LetterAutomaton). (v : List ℕ) → AcceptsLetters r v ↔ ((u : List ℕ) × AcceptsLetters a u × Relates read t u v)) (same_Some c.in-Ok.image image same)
-          (product_words read a t is.0 c.in-Ok.image is.1);
+          (product_words read a t is.0 is.2 is.1 c.in-Ok.image is.3);
     }

@@ -5,7 +5,7 @@ use Rattle.rela_letter_image.proofs.product.add_written.Goals as goal
 pub loop-letter-init : goal.loop-letter-init
 loop-letter-init c = record {
   at = c.in_ok-number.ensures.numbered;
-  grows = grows_found c.args.growing.now c.number.new.self c.args.to c.number.ensures.shape c.number.ensures.parts c.number.ensures.found;
+  grows = grows_found c.args.growing.now c.number.new.self c.args.to c.number.ensures.shape c.number.ensures.told c.number.ensures.parts c.number.ensures.found;
 }
 
 pub loop-letter-preserved : goal.loop-letter-preserved

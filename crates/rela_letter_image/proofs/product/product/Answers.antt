@@ -1,40 +1,21 @@
-use Rattle.std.proofs.Common.{◌≡◌, ℕ, ◌<◌, ◌≤◌, List, Some, length, get_or, sym, ap, ◌∙◌, subst, arith}
-use Rattle.std.specs.List.{slice_get}
-use Rattle.std.proofs.lemmas.Option.{slice_get-get_or}
-use Rattle.rela_nfa.specs.Meeting.{pair_of}
-use Rattle.rela_pairs.specs.declared.pair.Pair.{Pair}
+use Rattle.std.proofs.Common.{List, [], subst, sym}
+use Rattle.std.proofs.lemmas.Result.{IfOk-weaker}
 use Rattle.rela_letter_image.specs.Coarse.{coarse_of}
-use Rattle.rela_letter_image.specs.Product.{IsProduct}
-use Rattle.rela_letter_image.proofs.BuiltStates.{all_ok, all_product, built_more}
+use Rattle.rela_letter_image.specs.Needs.{AreAhead}
+use Rattle.rela_letter_image.proofs.Needing.{all_live, tells_live}
 use Rattle.rela_letter_image.proofs.product.product.Goals as goal
 
--- the pair that was read from a list of them
-pair_read : (pairs read : List Pair) (n m : ℕ) (none : Pair) → read ≡ pairs → m ≡ n → n < length pairs → slice_get pairs n ≡ Some (get_or read m none)
-pair_read pairs read n m none same is below = slice_get-get_or pairs n none below ∙ (λ i. Some (get_or (sym same i) (sym is i) none))
-
-pub queue-preserved : goal.queue-preserved
-queue-preserved c =
-    let grown = c.queue.growing in
-    let n = length grown.parts.finals in
-    let none : Pair = pair_of 0 0 in
-    let x : Pair = get_or c.pairs-in-queue.result.now c.states-in-queue-2.result none in
-    let below : n < length grown.pairs = omega (arith, c.states-in-queue.ensures, c.queue-test.true, ap (λ (l : List Pair). length l) c.pairs.ensures.pairs) in
-    let at = pair_read grown.pairs c.pairs-in-queue.result.now n c.states-in-queue-2.result none c.pairs-in-queue.ensures.pairs c.states-in-queue-2.ensures below in
-    built_more c.args.coarse.now c.args.paths.now c.args.relation.now grown c.add_state.new.growing x c.queue.invariant at c.in_ok-add_state.ensures
-
-pub finish-requires-clause-automaton : goal.finish-requires-clause-automaton
-finish-requires-clause-automaton c =
-    let grown = c.queue.growing in
-    let done : length grown.pairs ≤ length grown.parts.finals =
-    omega (arith, c.states-in-queue.ensures, c.queue-test.false, ap (λ (l : List Pair). length l) c.pairs.ensures.pairs) in
-    all_ok c.args.coarse.now c.args.paths.now c.args.relation.now grown c.queue.invariant done
-
-pub returns : goal.returns
-returns c =
-    let grown = c.queue.growing in
-    let coarse = c.args.coarse.now in
-    let a = c.args.paths.now in
+pub returns-in-Some : goal.returns-in-Some
+returns-in-Some c =
     let t = c.args.relation.now in
-    let done : length grown.pairs ≤ length grown.parts.finals =
-    omega (arith, c.states-in-queue.ensures, c.queue-test.false, ap (λ (l : List Pair). length l) c.pairs.ensures.pairs) in
-    (grown.pairs, subst (λ r. IsProduct (coarse_of t.letters coarse) a t grown.pairs r) (sym c.finish.ensures) (all_product coarse a t grown c.queue.invariant done c.start-2.ensures.machine))
+    let read = coarse_of t.letters c.args.coarse.now in
+    let needs = c.needs-needs.result.now in
+    let ahead = c.deref.result.now in
+    let are = subst (λ (l : List _). AreAhead read c.args.paths.now l) (sym c.deref.ensures.value) (subst (λ n. AreAhead (coarse_of n c.args.coarse.now) c.args.paths.now c.in-Some.ahead.items) c.letters.ensures.letters (c.in_ok-found.ensures c.in-Some.ahead c.in-Some.is)) in
+    IfOk-weaker c.product_told.result _ _ (λ image (pairs, is). (record { needs = needs; ahead = ahead }, pairs, tells_live read c.args.paths.now t needs ahead c.needs-needs.ensures.needs are, is)) c.product_told.ensures
+
+pub returns-in-None : goal.returns-in-None
+returns-in-None c =
+    let t = c.args.relation.now in
+    let read = coarse_of t.letters c.args.coarse.now in
+    IfOk-weaker c.product_told-in-None.result _ _ (λ image (pairs, is). (record { needs = []; ahead = [] }, pairs, all_live read c.args.paths.now t [], is)) c.product_told-in-None.ensures

@@ -1,5 +1,8 @@
-use Rattle.std.proofs.Common.{subst, sym}
+use Rattle.std.proofs.Common.{Bool, List, ap, length, map, subst, sym, ◌∙◌}
 use Rattle.rela_letter_image.specs.Branches.{AreEnds, ends_of, passing}
+use Rattle.rela_letter_image.specs.LetterMoves.{all_moves}
+use Rattle.rela_letter_image.specs.Needs.{AreNeeds}
+use Rattle.rela_letter_image.specs.declared.letter_moves.StateMoves.{StateMoves}
 use Rattle.rela_letter_image.proofs.Laying.{letters_ok, made_ok, made_relates}
 use Rattle.rela_letter_image.proofs.Passing.{passing_ok, passing_relates}
 use Rattle.rela_letter_image.proofs.letter_relation.LetterRelation.new.Goals as goal
@@ -16,7 +19,14 @@ invariant_of-result g c =
     let states = c.in_ok-states.states.items in (
       made_ok t ok letters start finals states c.letters-letters.ensures.letters c.start-start.ensures.start c.in_ok-finals.ensures c.in_ok-states.ensures,
       letters_ok t ok letters start finals states c.letters-letters.ensures.letters c.start-start.ensures.start c.in_ok-finals.ensures c.in_ok-states.ensures,
+      subst (λ l. AreNeeds (record { letters = letters; start = start; finals = l; moves = map (all_moves letters) states }) c.in_ok-needs.needs.items) c.deref-3.ensures.value
+          (subst (λ l. AreNeeds (record { letters = letters; start = start; finals = c.deref-3.result.now; moves = map (all_moves letters) l }) c.in_ok-needs.needs.items) c.deref-2.ensures.value
+          (c.in_ok-needs.ensures letters start)),
     )
+
+pub needs_of-requires : goal.needs_of-requires
+needs_of-requires g c =
+    ap (λ (l : List Bool). length l) (c.deref-3.ensures.value ∙ c.in_ok-finals.ensures) ∙ sym (ap (λ (l : List StateMoves). length l) c.deref-2.ensures.value ∙ c.in_ok-states.ensures.each)
 
 pub returns-clause-relation : goal.returns-clause-relation
 returns-clause-relation g c =

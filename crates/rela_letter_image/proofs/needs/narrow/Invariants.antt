@@ -1,0 +1,8 @@
+use Rattle.std.proofs.Common.{◌≡◌, ◌≤◌, length}
+use Rattle.rela_letter_image.proofs.needs.narrow.Given as goal
+
+abbrev pub invariant-loop-q : goal.invariant-loop-q
+invariant-loop-q l = record { within : l.q ≤ length l.states; words : length l.needs ≡ length l.states }
+
+abbrev pub decreases-loop-q : goal.decreases-loop-q
+decreases-loop-q l = l.q
