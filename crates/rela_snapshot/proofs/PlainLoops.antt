@@ -27,10 +27,6 @@ use Rattle.rela_snapshot.proofs.PlainLaws.{entries_are}
 
 -- ---- the flows
 
-all_more : (k : ℕ) (old mid new : List Token) (ds : List Data) (d : Data) → HoldsAll k old ds mid → Holds k mid d new → HoldsAll k old (ds ++ d ∷ []) new
-all_more k old mid new [] d h one = (new, subst (λ (ts : List Token). Holds k ts d new) (sym h) one, refl)
-all_more k old mid new (e ∷ ds) d h one = (h.0, h.1, all_more k h.0 mid new ds d h.2 one)
-
 -- `old` begins with the entries of these flows, `new` follows them, and whatever entries come next, they leave those to be read
 pub record SoFar (network : Network) (old : List Token) (flows : List Flow) (new : List Token) : Type 0 where
   pub entries : List Data
@@ -40,14 +36,15 @@ pub record SoFar (network : Network) (old : List Token) (flows : List Flow) (new
 pub no_flow : (network : Network) (old : List Token) (flows : List Flow) → flows ≡ [] → SoFar network old flows old
 no_flow network old flows none = rw none (record { entries = []; held = refl; read = λ rest. read_none network One rest })
 
-pub next_flow : (network : Network) (old mid place new : List Token) (names : List (List ℕ)) (flows more : List Flow) (flow : Flow) → place ≡ mid → names ≡ names_of flows → more ≡ flows ++ flow ∷ []
+pub next_flow : (network : Network) (old mid place new : List Token) (names : List (List ℕ)) (flows more : List Flow) (flow : Flow)
+    → ((k : ℕ) (old mid new : List Token) (ds : List Data) (d : Data) → HoldsAll k old ds mid → Holds k mid d new → HoldsAll k old (ds ++ d ∷ []) new) → place ≡ mid → names ≡ names_of flows → more ≡ flows ++ flow ∷ []
     → SoFar network old flows mid → IsPlainFlow network names place flow new → SoFar network old more new
-next_flow network old mid place new names flows more flow here known is so_far one =
+next_flow network old mid place new names flows more flow one_more here known is so_far one =
     let d : Data = one.entry in
     let held : Holds 3 mid d new = subst (λ (ts : List Token). Holds 3 ts d new) here one.held in
     record {
       entries = so_far.entries ++ d ∷ [];
-      held = all_more 3 old mid new so_far.entries d so_far.held held;
+      held = one_more 3 old mid new so_far.entries d so_far.held held;
       read = λ rest. subst (λ (all : List Data). AreRead network One all rest more) (sym (append_assoc so_far.entries (d ∷ []) rest))
           (read_more network One (so_far.entries ++ d ∷ rest) (d ∷ rest) rest d names flows more flow refl known is (one.listed, one.answer, one.same) (so_far.read (d ∷ rest)));
     }
@@ -73,9 +70,6 @@ contents_are : (ds : List Data) → contents_of (object_of (file_members ds)) �
 unfolding contents_of part_of whole_number_of entries_of
 contents_are ds = ap (λ (es : List Data). Ok (One, es)) (entries_are ds)
 
-deeper : (k l : ℕ) (old new : List Token) (d : Data) → k ≤ l → Holds k old d new → Holds l old d new
-deeper k l old new d le h = record { reads = λ n far. h.reads n (omega arith); shorter = h.shorter }
-
 reading_is : (bytes : List ℕ) (d : Data) → IsUtf8 bytes → read bytes ≡ Some d → reading bytes ≡ Some d
 unfolding reading
 reading_is bytes d text is = ap (λ (b : Bool). cond b (read bytes) None) (is_utf8-from_IsUtf8 bytes text) ∙ is
@@ -83,9 +77,10 @@ reading_is bytes d text is = ap (λ (b : Bool). cond b (read bytes) None) (is_ut
 pub file_read : (network : Network) (bytes s : List ℕ) (start opened last : List Token) (flows : List Flow)
     → ((k : ℕ) (old mid new : List Token) (ms : List (List ℕ × Data)) → HoldsMembers k old ms mid → read_key mid ≡ Some (None, new) → Holds (k + 1) (begin_object ∷ old) (object_of ms) new)
     → ((k : ℕ) (bytes : List ℕ) (d : Data) → k ≤ 127 → Holds k (tokens bytes) d [] → read bytes ≡ Some d)
+    → ((k l : ℕ) (old new : List Token) (d : Data) → k ≤ l → Holds k old d new → Holds l old d new)
     → (s ≡ bytes) × IsUtf8 bytes → start ≡ tokens s → Opens start opened → ArePlainFlows network (begin_array ∷ opened) flows last → read_key last ≡ Some (None, [])
     → (listed : List ListedFlow) × IsAnswer (Load network bytes) (Ok listed) × AreFlowsOf listed flows
-file_read network bytes s start opened last flows object text utf8 begins opens plain closed =
+file_read network bytes s start opened last flows object text deeper utf8 begins opens plain closed =
     let ds : List Data = plain.entries in
     let members : HoldsMembers 4 (key (codes "version") ∷ opens.first) (file_members ds) last =
     (opens.first, opens.second, refl, deeper 0 4 opens.first opens.second (whole 1) (omega arith) opens.version, (begin_array ∷ opened, last, opens.flows, plain.held, refl)) in

@@ -4,12 +4,10 @@
 //! `flows`, in this order, and flows whose members are pieces. What is read here is what the file
 //! stands for; what is not read is left to a reader that tells faults apart.
 
-ghost use Rattle.std.specs.Prelude.{◌≡◌, ◌<◌, ◌≤◌, [], ◌∷◌, ◌++◌, List, Ok, None, Some, IfOk, OnOk, codes, length, map, vec_len};
-ghost use Rattle.json.specs.Json.{read_key};
-ghost use Rattle.json.specs.Token.{begin_array, key as key_token};
-ghost use Rattle.rela_json.specs.Reading.{reading};
+ghost use Rattle.std.specs.Prelude.{◌≡◌, ◌<◌, ◌≤◌, [], ◌∷◌, ◌++◌, List, Ok, IfOk, OnOk, length, map, vec_len};
+ghost use Rattle.json.specs.Token.{begin_array};
 ghost use Rattle.rela_snapshot.specs.FlowEntry.{ListedFlow};
-ghost use Rattle.rela_snapshot.specs.Flows.{AreFlowsOf, IsFlowOf};
+ghost use Rattle.rela_snapshot.specs.Flows.{AreFlowsOf};
 ghost use Rattle.rela_snapshot.specs.Load.{Load};
 ghost use Rattle.rela_snapshot.specs.Located.{AreLocatedIn, IsLocatedIn};
 ghost use Rattle.rela_snapshot.specs.Names.{AreDistinct};
@@ -19,9 +17,11 @@ ghost use Rattle.rela_snapshot.specs.Steps.{IsAnswer};
 use crate::name_table::NameTable;
 use crate::plain_flow::flow_of;
 use crate::snapshot::{Flow, MAX_FLOWS};
-use json::{Reader, Scratch, Token};
+use json::{Reader, Scratch};
 use rela_locations::Locations;
-use rela_tokens::{Unread, read_members, read_number, what_holds};
+use rela_tokens::{
+    Unread, close_text, open_array, open_object, read_members, read_number, take_key, what_holds,
+};
 use std::alloc::Global;
 
 /// The flows of a plain file, in order. Time: linear in the file, and what the graphs take; space:
@@ -50,7 +50,7 @@ pub(crate) fn read_plain(
     let mut reader = Reader::new(text, &mut scratch)?;
     open_flows(&mut reader)?;
     let flows = read_flows(alloc, locations, &mut reader)?;
-    close_file(&mut reader)?;
+    close_text(&mut reader)?;
     Ok(flows)
 }
 
@@ -58,41 +58,12 @@ pub(crate) fn read_plain(
 fn open_flows(reader: &mut Reader<'_>) -> Result<(), Unread>
     ensures { OnOk result (Opens reader.old reader.new) }
 {
-    let Some(Token::BeginObject) = reader.next() else {
-        return Err(Unread);
-    };
+    open_object(reader)?;
     take_key(reader, "version")?;
     if read_number(reader)? != 1 {
         return Err(Unread);
     }
-    take_key(reader, "flows")?;
-    let Some(Token::BeginArray) = reader.next() else {
-        return Err(Unread);
-    };
-    Ok(())
-}
-
-/// Takes the key of this name.
-fn take_key(reader: &mut Reader<'_>, name: &str) -> Result<(), Unread>
-    ensures { OnOk result (reader.old ≡ key_token name.now ∷ reader.new) }
-{
-    match reader.next() {
-        Some(Token::Key(key)) => { if key == name { Ok(()) } else { Err(Unread) } }
-        _ => Err(Unread),
-    }
-}
-
-/// Takes the end of a file, which is the brace that closes an object.
-fn close_file(reader: &mut Reader<'_>) -> Result<(), Unread>
-    ensures { OnOk result (read_key reader.old ≡ Some (None, [])) }
-{
-    if reader.next_key()?.is_some() {
-        return Err(Unread);
-    }
-    if reader.next().is_some() {
-        return Err(Unread);
-    }
-    Ok(())
+    open_array(reader, "flows")
 }
 
 /// Takes the rest of the array of the flows, behind its opening bracket.

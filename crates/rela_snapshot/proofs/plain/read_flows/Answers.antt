@@ -24,7 +24,7 @@ flows-preserved c =
     let same : c.take_end_array.new.self ≡ l.reader = grind arith in
     let known : length l.reader ≤ length c.args.reader.now = l.invariant.shorter in
     record {
-      read = next_flow _ _ _ _ _ _ _ _ _ same l.invariant.names c.in_ok-push.ensures.items l.invariant.read c.in_ok-flow.ensures.flow;
+      read = next_flow _ _ _ _ _ _ _ _ _ c.what_holds.ensures.one_more same l.invariant.names c.in_ok-push.ensures.items l.invariant.read c.in_ok-flow.ensures.flow;
       shorter = grind (arith, known);
       names = names_more _ _ _ _ _ l.invariant.names c.in_ok-flow.ensures.names c.in_ok-push.ensures.items;
       few = few_more _ _ _ c.in_ok-flow.ensures.few c.in_ok-flow.ensures.names;
