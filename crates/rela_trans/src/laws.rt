@@ -1,7 +1,8 @@
-//! The laws by which symbols and their letters are related alike. Each is a function that does nothing,
-//! and its contract is the law.
+//! The laws by which symbols and their letters are related alike, and which letters are related. Each
+//! is a function that does nothing, and its contract is the law.
 
-ghost use Rattle.std.specs.Prelude.{◌≡◌, ℕ, List, map};
+ghost use Rattle.std.specs.Prelude.{◌≡◌, ℕ, ◌<◌, List, map};
+ghost use Rattle.std.specs.List.{All};
 ghost use Rattle.rela_trans.specs.Composition.{Covers};
 ghost use Rattle.rela_trans.specs.Machine.{Machine, IsMachine};
 ghost use Rattle.rela_trans.specs.Runs.{ReachR, Relates};
@@ -26,4 +27,12 @@ pub fn letters_give_symbols()
         (letters v : List ℕ)
         → Relates (λ k. k) t letters (map read v) → ((u : List ℕ) × (map read u ≡ letters)
         × Relates read t u v) }
+{}
+
+/// Words of letters that are related have letters of the transducer alone.
+pub fn related_words_have_letters()
+    ensures read { (t : Machine) → IsMachine t → (u v : List ℕ) → Relates (λ k. k) t u v →
+        All (λ k. k < t.letters) u }
+    ensures written { (t : Machine) → IsMachine t → (u v : List ℕ) → Relates (λ k. k) t u v →
+        All (λ k. k < t.letters) v }
 {}

@@ -24,7 +24,7 @@ mod tapes;
 mod transducer;
 
 pub use imaging::{are_letters, image};
-pub use laws::{letters_give_symbols, symbols_give_letters};
+pub use laws::{letters_give_symbols, related_words_have_letters, symbols_give_letters};
 pub use moves::{Move, MoveKind};
 pub use rela_pairs::BuildError;
 pub use transducer::Transducer;

@@ -1,9 +1,8 @@
 //! The pairs of states to which an automaton and a transducer over coarser letters may go together.
-ghost use Rattle.std.specs.Prelude.{◌≡◌, ◌<◌, ◌++◌, IfOk, OnOk, map, length, slice_index};
+ghost use Rattle.std.specs.Prelude.{◌≡◌, ◌<◌, ◌++◌, IfOk, OnOk, map, length};
 ghost use Rattle.std.specs.List.{All};
 ghost use Rattle.std.specs.Option.{ForSome};
 ghost use Rattle.rela_nfa.specs.Automaton.{states};
-ghost use Rattle.rela_nfa.specs.Meeting.{pair_of};
 ghost use Rattle.rela_nfa.specs.Stored.{move_of as edge_of};
 ghost use Rattle.rela_trans.specs.Machine.{machine_states};
 ghost use Rattle.rela_trans.specs.Reached.{only_letter, only_parent, may_have, may_read, reads_nothing, pair_if, alone_pairs, letter_pairs, edge_pairs, reading_pairs};
