@@ -8,3 +8,4 @@ pub mod Leading
 pub mod Searching
 pub mod Spelling
 pub mod Firsts
+pub mod OneWord

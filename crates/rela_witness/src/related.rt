@@ -9,7 +9,7 @@ use rela_labels::LabelSet;
 use rela_names::Word;
 use rela_nfa::Nfa;
 use rela_pairs::BuildError;
-use rela_trans::{Transducer, are_letters, image};
+use rela_trans::{Transducer, are_letters, image, related_words_have_letters};
 use std::alloc::{AllocError, Global};
 
 /// The first word in shortlex order that the automaton accepts and for which the transducer writes
@@ -48,6 +48,7 @@ fn sources_of<L: LabelSet>(
 {
     let letters = transducer.letters();
     if !are_letters(v, letters) {
+        related_words_have_letters();
         return Nfa::none(alloc, letters);
     }
     let word = Nfa::word(alloc, letters, v)?;
