@@ -11,11 +11,11 @@ use crate::combined::Two;
 use crate::complements::Complements;
 use crate::letters::Letters;
 use crate::path_sets::PathSets;
-use crate::stop::Stop;
+use crate::stop::{Stop, refusal_of};
 use crate::well_formed::as_automaton;
 use rela_labels::WideSet;
 use rela_names::Symbol;
-use rela_nfa::{BuildError, Nfa};
+use rela_nfa::Nfa;
 use rela_rir::{PathTerm, RelTerm};
 use rela_trans::Transducer;
 use std::alloc::{AllocError, Global};
@@ -245,8 +245,7 @@ impl<'a, C: Complements, P: PathSets> Builder<'a, C, P> {
                 notes.push(answer.note)?;
                 Ok(answer.nfa)
             }
-            Err(BuildError::Limit) => Err(Stop::Refused(number)),
-            Err(BuildError::Memory) => Err(Stop::Memory),
+            Err(error) => Err(refusal_of(number, error)),
         }
     }
 }

@@ -1,5 +1,5 @@
 //! Sets of letters: the blocks in which symbols lie.
-ghost use Rattle.std.specs.Prelude.{◌≡◌, ◌≢◌, ℕ, ◌<◌, ◌≤◌, ◌⊎◌, ◌↔◌, true, IfOk, All, Contains, length};
+ghost use Rattle.std.specs.Prelude.{◌≡◌, ℕ, ◌<◌, ◌≤◌, ◌↔◌, true, IfOk, All, Contains, length};
 ghost use Rattle.rela_labels.specs.Letters.{has};
 ghost use Rattle.rela_labels.specs.Partition.{block_count, block_of};
 

@@ -1,7 +1,7 @@
 //! Why a term isn't built.
 
 ghost use Rattle.std.specs.Prelude.{◌≡◌};
-ghost use Rattle.rela_build.specs.Stops.{stop_of};
+ghost use Rattle.rela_build.specs.Stops.{refusal_of, stop_of};
 ghost use Rattle.rela_build.specs.declared.stop.Stop.{Stop};
 
 use rela_nfa::BuildError;
@@ -47,5 +47,15 @@ impl From<BuildError> for Stop {
             BuildError::Limit => Stop::Limit,
             BuildError::Memory => Stop::Memory,
         }
+    }
+}
+
+/// Why a term isn't built whose complement with this number wasn't made. It asks for no memory.
+pub(crate) fn refusal_of(number: usize, error: BuildError) -> Stop
+    ensures { result ≡ refusal_of number error }
+{
+    match error {
+        BuildError::Limit => Stop::Refused(number),
+        BuildError::Memory => Stop::Memory,
     }
 }
