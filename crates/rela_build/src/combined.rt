@@ -148,7 +148,8 @@ impl<'a, C: Complements, P: PathSets> Builder<'a, C, P> {
             (P.paths self.now.paths.now)
             relations.Union parts.first parts.second) }
     {
-        let union = parts.first.union(alloc, &parts.second)?;
+        let Two { first, second } = parts;
+        let union = first.into_union(alloc, second)?;
         Ok(as_transducer(union))
     }
 
@@ -163,7 +164,8 @@ impl<'a, C: Complements, P: PathSets> Builder<'a, C, P> {
             (P.paths self.now.paths.now)
             relations.Concat parts.first parts.second) }
     {
-        let concat = parts.first.concat(alloc, &parts.second)?;
+        let Two { first, second } = parts;
+        let concat = first.into_concat(alloc, second)?;
         Ok(as_transducer(concat))
     }
 
@@ -177,7 +179,7 @@ impl<'a, C: Complements, P: PathSets> Builder<'a, C, P> {
             (P.paths self.now.paths.now)
             relations.Star pairs) }
     {
-        let star = pairs.star(alloc)?;
+        let star = pairs.into_star(alloc)?;
         Ok(as_transducer(star))
     }
 
