@@ -4,6 +4,7 @@ pub mod Labelling
 pub mod Lists
 pub mod Lowering
 pub mod Numbering
+pub mod PastDetours
 pub mod Reduced
 pub mod Rows
 pub mod Saturating
