@@ -29,6 +29,18 @@ sets_of_told a over n told =
       apart v w (z, within, inl (accepted, refused)) = let found = told_by_end a v w z accepted refused in (found.0, inl found.1)
       apart v w (z, within, inr (accepted, refused)) = let found = told_by_end a w v z accepted refused in (found.0, inr found.1)
 
+-- what holds of one automaton and a second, and of the second and a third
+pub language_through : (a b c : Automaton) → ((w : List ℕ) → Accepts b w ↔ Accepts a w) → ((w : List ℕ) → Accepts c w ↔ Accepts b w) → (w : List ℕ) → Accepts c w ↔ Accepts a w
+language_through a b c first second w = (λ accepts. (first w).0 ((second w).0 accepts), λ accepts. (second w).1 ((first w).1 accepts))
+
+pub same_through : (a b c : Automaton) → ((v w : List ℕ) → ReachSame a v w → ReachSame b v w) → ((v w : List ℕ) → ReachSame b v w → ReachSame c v w)
+    → (v w : List ℕ) → ReachSame a v w → ReachSame c v w
+same_through a b c first second v w same = second v w (first v w same)
+
+pub apart_through : (a b c : Automaton) → ((v w : List ℕ) → AreApart b v w → AreApart a v w) → ((v w : List ℕ) → AreApart c v w → AreApart b v w)
+    → (v w : List ℕ) → AreApart c v w → AreApart a v w
+apart_through a b c first second v w apart = first v w (second v w apart)
+
 module _ (over : List Bool) (a small : Automaton) (language : (w : List ℕ) → Accepts small w ↔ Accepts a w)
     (same : (v w : List ℕ) → ReachSame a v w → ReachSame small v w) (apart : (v w : List ℕ) → AreApart small v w → AreApart a v w) where
   -- as many sets of states are reached of the part

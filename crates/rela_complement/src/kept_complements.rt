@@ -4,7 +4,6 @@ ghost use Rattle.rela_build.specs.Complement.{IsComplement};
 ghost use Rattle.rela_complement.specs.Telling.{TellsWords};
 
 use crate::copied::copied;
-use crate::fingerprint::fingerprint;
 use crate::same_automaton::{same_automaton, same_letters};
 use rela_labels::{LabelSet, WideSet};
 use rela_nfa::Nfa;
@@ -113,11 +112,13 @@ impl KeptComplements {
         }
     }
 
-    /// A copy of the complement of the part over these letters, where it is kept and was made under
-    /// this limit. Time: linear in the part and the complement. The only error is want of memory.
+    /// A copy of the complement of the part over these letters, whose fingerprint this is, where it is
+    /// kept and was made under this limit. Time: constant in expectation where none has that
+    /// fingerprint, and else linear in the part and the complement. The only error is want of memory.
     pub(crate) fn copy_of(
         &self,
         alloc: Global,
+        print: u64,
         part: &Nfa<WideSet>,
         over: &WideSet,
         limit: usize,
@@ -127,7 +128,7 @@ impl KeptComplements {
         ensures within { IfOk result (λ found. IfSome found (λ _.
             ¬ TellsWords part.now over.now (limit + 1))) }
     {
-        match self.by_fingerprint.get(&fingerprint(part, over)) {
+        match self.by_fingerprint.get(&print) {
             Some(kept) if kept.is_of(part, over, limit) => {
                 let copy = copied(alloc, &kept.complement)?;
                 Ok(Some(copy))
@@ -136,11 +137,13 @@ impl KeptComplements {
         }
     }
 
-    /// Keeps the complement of the part over these letters, made under this limit, where there is
-    /// room for it. Time and space: linear in both automata. The only error is want of memory.
+    /// Keeps the complement of the part over these letters, whose fingerprint this is, made under this
+    /// limit, where there is room for it. Time and space: linear in both automata. The only error is
+    /// want of memory.
     pub(crate) fn keep(
         &mut self,
         alloc: Global,
+        print: u64,
         part: &Nfa<WideSet>,
         over: &WideSet,
         complement: &Nfa<WideSet>,
@@ -152,7 +155,7 @@ impl KeptComplements {
         let states = part.states().saturating_add(complement.states());
         if states <= self.room {
             let kept = KeptComplement::new(alloc, part, over, complement, limit)?;
-            self.by_fingerprint.insert(fingerprint(part, over), kept)?;
+            self.by_fingerprint.insert(print, kept)?;
             self.room -= states;
         }
         Ok(())

@@ -10,7 +10,7 @@ ghost use Rattle.rela_complement.specs.Telling.{TellsWords};
 use rela_labels::WideSet;
 use rela_minimise::merge_equivalent;
 use rela_nfa::{BuildError, Nfa};
-use rela_reduce::reduce;
+use rela_reduce::{past_detours, reduce};
 use rela_subset::{Dfa, determinise};
 use std::alloc::Global;
 
@@ -51,7 +51,7 @@ pub fn least_over(
     }
 }
 
-/// The minimal automaton of these words, by way of one that reaches fewer sets of states.
+/// The minimal automaton of these words, by way of one that reaches fewer and smaller sets of states.
 fn least_by_fewer_sets(
     alloc: Global,
     a: &Nfa<WideSet>,
@@ -68,7 +68,8 @@ fn least_by_fewer_sets(
     ensures within { IfOk result (λ _. ¬ TellsWords a.now over.now (limit + 1)) }
     ensures past { IfErr result (λ e. e ≡ BuildError.Limit → ReachSets a.now over.now (limit + 1)) }
 {
-    let small = reduce(alloc, a)?;
+    let direct = past_detours(alloc, a)?;
+    let small = reduce(alloc, &direct)?;
     least_by_sets(alloc, &small, over, limit)
 }
 

@@ -7,6 +7,7 @@ ghost use Rattle.rela_complement.specs.Merging.{IsMerged};
 ghost use Rattle.rela_complement.specs.Telling.{TellsWords};
 
 use crate::complement::complement_of;
+use crate::fingerprint::fingerprint;
 use crate::kept_complements::KeptComplements;
 use crate::merging::{Merged, merge};
 use crate::relabelled::relabelled;
@@ -143,19 +144,21 @@ impl LimitedComplements {
         ensures past { IfErr result (λ e. e ≡ BuildError.Limit →
             ReachSets part.now over.now (self.now + 1)) }
     {
-        if let Some(nfa) = self.kept_for(alloc, part, over)? {
+        let print = fingerprint(part, over);
+        if let Some(nfa) = self.kept_for(alloc, print, part, over)? {
             return Ok(nfa);
         }
         let nfa = complement_of(alloc, part, over, self.limit())?;
-        self.keep(alloc, part, over, &nfa)?;
+        self.keep(alloc, print, part, over, &nfa)?;
         Ok(nfa)
     }
 
-    /// A copy of the complement of the part over these letters, where it was made before and kept.
-    /// The only error is want of memory.
+    /// A copy of the complement of the part over these letters, whose fingerprint this is, where it
+    /// was made before and kept. The only error is want of memory.
     fn kept_for(
         &self,
         alloc: Global,
+        print: u64,
         part: &Nfa<WideSet>,
         over: &WideSet,
     ) -> Result<Option<Nfa<WideSet>>, AllocError>
@@ -165,15 +168,17 @@ impl LimitedComplements {
             ¬ TellsWords part.now over.now (self.now + 1))) }
     {
         match self.kept.try_borrow() {
-            Ok(kept) => kept.copy_of(alloc, part, over, self.states),
+            Ok(kept) => kept.copy_of(alloc, print, part, over, self.states),
             Err(_) => Ok(None),
         }
     }
 
-    /// Keeps the complement of the part over these letters. The only error is want of memory.
+    /// Keeps the complement of the part over these letters, whose fingerprint this is. The only error
+    /// is want of memory.
     fn keep(
         &self,
         alloc: Global,
+        print: u64,
         part: &Nfa<WideSet>,
         over: &WideSet,
         complement: &Nfa<WideSet>,
@@ -182,7 +187,7 @@ impl LimitedComplements {
         requires within { ¬ TellsWords part.now over.now (self.now + 1) }
     {
         match self.kept.try_borrow_mut() {
-            Ok(mut kept) => kept.keep(alloc, part, over, complement, self.states),
+            Ok(mut kept) => kept.keep(alloc, print, part, over, complement, self.states),
             Err(_) => Ok(()),
         }
     }
