@@ -16,10 +16,10 @@ use std::alloc::{AllocError, Global};
 /// letter the coarse one by which the relation knows it. `None` where the image would have more than
 /// `most` states, or more than `most` edges and silent steps.
 ///
-/// No set of letters is made. Time: for each pair of states that is found, a constant for each edge
-/// with each move that reads, where a move that reads one letter costs no more than that two numbers
-/// are compared; for each move that reads nothing a constant, and if it writes a step for each fine
-/// letter. Space: linear in the image, and in the states of the paths.
+/// No set of several letters is made. Time: linear in the paths, and for each pair of states that is
+/// found, a constant for each edge with each move that reads, where a move that reads one letter costs
+/// no more than that two numbers are compared; for each move that reads nothing a constant, and if it
+/// writes a step for each fine letter. Space: linear in the image, and in the states of the paths.
 pub fn letter_image(
     alloc: Global,
     paths: &LetterNfa,

@@ -42,7 +42,7 @@ fn wide_copy<M: LabelSet>(alloc: Global, letters: u32, set: &M) -> Result<WideSe
 }
 
 /// The letter of the set, if it has one and no other.
-fn letter_alone<M: LabelSet>(alloc: Global, set: &M) -> Result<Option<u32>, AllocError>
+pub(crate) fn letter_alone<M: LabelSet>(alloc: Global, set: &M) -> Result<Option<u32>, AllocError>
     ensures below { IfOk result (λ found. ForSome found (λ letter.
         letter < length (M.letters set.now))) }
     ensures alone { IfOk result (λ found. ForSome found (λ letter.

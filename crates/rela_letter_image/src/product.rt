@@ -9,13 +9,14 @@ ghost use Rattle.rela_pairs.specs.declared.pair.Pair.{Pair};
 ghost use Rattle.rela_trans.specs.Machine.{machine_states, IsFinal as IsFinalMachine};
 ghost use Rattle.rela_letter_image.specs.Coarse.{coarse_of, fine_letters};
 ghost use Rattle.rela_letter_image.specs.Growth.{AddsState, Grows, with_parts};
-ghost use Rattle.rela_letter_image.specs.LetterMoves.{AreLettersOf, LeadBelow, all_moves, alone_move, reading, set_move, writing};
+ghost use Rattle.rela_letter_image.specs.LetterMoves.{AreLettersOf, LeadBelow, all_moves, alone_move, only_letter, reading, set_move, writing};
 ghost use Rattle.rela_letter_image.specs.Needs.{TellsLive, Told};
 ghost use Rattle.rela_letter_image.specs.Product.{IsProduct};
 ghost use Rattle.rela_letter_image.specs.Steps.{step_to, step_if, silent_steps, alone_by, alone_steps, read_by, read_steps, letter_steps, laid_out_steps, written_by, edge_steps, steps_from};
 
 use crate::ahead::ahead_of;
 use crate::growing::Growing;
+use crate::laying_out::letter_alone;
 use crate::letter_moves::{AloneMove, LetterMove, SetMove, StateMoves};
 use crate::letter_relation::LetterRelation;
 use rela_labels::{LabelSet, WideSet};
@@ -83,9 +84,31 @@ fn add_read_if(
     Ok(())
 }
 
-/// Adds an edge to the pair by each fine letter whose coarse letter is in the set. Time: a step for
-/// each fine letter.
-fn add_written(
+/// Adds an edge to the pair by each fine letter whose coarse letter is this one. Time: a comparison
+/// for each fine letter.
+fn add_letter_written(
+    growing: &mut Growing,
+    only: u32,
+    letters: u32,
+    coarse: &[u32],
+    to: Pair,
+) -> Result<(), BuildError>
+    requires few { length coarse.now ≤ 2 ^ 32 }
+    requires fits { Fits growing.old.shape to }
+    requires only { only < letters }
+    ensures { OnOk result (Grows (map (λ k. step_to (Some k) to)
+        (fine_letters coarse.now (only_letter letters only))) growing.old growing.new) }
+{
+    let number = growing.number(to)?;
+    for (letter, coarse_letter) in coarse.iter().enumerate() {
+        add_edge_if(growing, only == *coarse_letter, letter as u32, number)?;
+    }
+    Ok(())
+}
+
+/// Adds an edge to the pair by each fine letter whose coarse letter is in the set. Time: a look into
+/// the set for each fine letter.
+fn add_set_written(
     growing: &mut Growing,
     set: &WideSet,
     coarse: &[u32],
@@ -103,8 +126,30 @@ fn add_written(
     Ok(())
 }
 
+/// Adds an edge to the pair by each fine letter whose coarse letter is in the set, which mostly has
+/// one letter. Time: a step for each fine letter.
+fn add_written(
+    alloc: Global,
+    growing: &mut Growing,
+    set: &WideSet,
+    coarse: &[u32],
+    to: Pair,
+) -> Result<(), BuildError>
+    requires few { length coarse.now ≤ 2 ^ 32 }
+    requires fits { Fits growing.old.shape to }
+    ensures { OnOk result (Grows (map (λ k. step_to (Some k) to)
+        (fine_letters coarse.now set.now)) growing.old growing.new) }
+{
+    let found = letter_alone(alloc, set)?;
+    match found {
+        Some(only) => add_letter_written(growing, only, set.size(), coarse, to),
+        None => add_set_written(growing, set, coarse, to),
+    }
+}
+
 /// Adds what the transducer does alone by the move.
 fn add_alone(
+    alloc: Global,
     growing: &mut Growing,
     step: &AloneMove,
     left: usize,
@@ -121,12 +166,13 @@ fn add_alone(
     };
     match &step.written {
         None => growing.add_silent(to),
-        Some(set) => add_written(growing, set, coarse, to),
+        Some(set) => add_written(alloc, growing, set, coarse, to),
     }
 }
 
 /// Adds what the transducer does alone by the moves.
 fn add_moves(
+    alloc: Global,
     growing: &mut Growing,
     moves: &[AloneMove],
     left: usize,
@@ -139,7 +185,7 @@ fn add_moves(
         growing.old growing.new) }
 {
     for step in moves {
-        add_alone(growing, step, left, coarse)?;
+        add_alone(alloc, growing, step, left, coarse)?;
     }
     Ok(())
 }
@@ -298,6 +344,7 @@ fn add_silents(growing: &mut Growing, ends: &[u32], right: usize) -> Result<(), 
 /// Adds what the two do from the pair. Time: the product of the numbers of edges and of moves that
 /// read, and a step for each fine letter for each move that writes alone.
 fn add_steps(
+    alloc: Global,
     growing: &mut Growing,
     paths: &LetterNfa,
     relation: &LetterRelation,
@@ -316,7 +363,7 @@ fn add_steps(
     let left = pair.left as u32;
     let moves = relation.moves(pair.right);
     add_silents(growing, paths.silent(left), pair.right)?;
-    add_moves(growing, &moves.alone, pair.left, coarse)?;
+    add_moves(alloc, growing, &moves.alone, pair.left, coarse)?;
     add_reads(
         growing,
         paths.edges(left),
@@ -339,6 +386,7 @@ fn is_final_pair(paths: &LetterNfa, relation: &LetterRelation, pair: Pair) -> bo
 
 /// Builds the state of the pair: what the two do from it, and whether it is final.
 fn add_state(
+    alloc: Global,
     growing: &mut Growing,
     paths: &LetterNfa,
     relation: &LetterRelation,
@@ -354,7 +402,7 @@ fn add_state(
     ensures { OnOk result (AddsState coarse.now paths.now relation.now pair
         growing.old growing.new) }
 {
-    add_steps(growing, paths, relation, coarse, pair)?;
+    add_steps(alloc, growing, paths, relation, coarse, pair)?;
     let is_final = is_final_pair(paths, relation, pair);
     growing.end_state(is_final)?;
     Ok(())
@@ -396,7 +444,7 @@ fn product_told(
     // The pairs that were found stand in a queue: those whose states were built come first.
     'queue: while growing.states() < growing.pairs().len() {
         let pair = growing.pairs()[growing.states()];
-        add_state(&mut growing, paths, relation, coarse, pair)?;
+        add_state(alloc, &mut growing, paths, relation, coarse, pair)?;
     }
     Ok(growing.finish())
 }

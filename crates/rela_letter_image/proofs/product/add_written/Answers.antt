@@ -1,22 +1,18 @@
-use Rattle.rela_letter_image.specs.Coarse.{in_coarse}
-use Rattle.rela_letter_image.proofs.GrownSteps.{grows_found, grows_letter, same_pairs}
+use Rattle.std.proofs.Common.{◌<◌, Bool, List, Some, map, subst, sym}
+use Rattle.std.specs.Result.{OnOk}
+use Rattle.rela_letter_image.specs.Coarse.{fine_letters}
+use Rattle.rela_letter_image.specs.Growth.{Grows}
+use Rattle.rela_letter_image.specs.LetterMoves.{only_letter}
+use Rattle.rela_letter_image.specs.Steps.{step_to}
 use Rattle.rela_letter_image.proofs.product.add_written.Goals as goal
 
-pub loop-letter-init : goal.loop-letter-init
-loop-letter-init c = record {
-  at = c.in_ok-number.ensures.numbered;
-  grows = grows_found c.args.growing.now c.number.new.self c.args.to c.number.ensures.shape c.number.ensures.told c.number.ensures.parts c.number.ensures.found;
-}
+pub returns-in-Some : goal.returns-in-Some
+returns-in-Some c =
+    let only = c.in-Some.only in
+    subst (λ (l : List Bool). OnOk c.add_letter_written.result (Grows (map (λ k. step_to (Some k) c.args.to) (fine_letters c.args.coarse.now l)) c.args.growing.now c.add_letter_written.new.growing))
+    (c.in_ok-found.ensures.alone only c.in-Some.is)
+    (subst (λ n. OnOk c.add_letter_written.result (Grows (map (λ k. step_to (Some k) c.args.to) (fine_letters c.args.coarse.now (only_letter n only))) c.args.growing.now c.add_letter_written.new.growing)) c.size.ensures.size
+    c.add_letter_written.ensures)
 
-pub loop-letter-preserved : goal.loop-letter-preserved
-loop-letter-preserved c =
-    let to = c.args.to in
-    let test = in_coarse c.args.coarse.now c.args.set.now in
-    let n = c.loop-letter.letter in
-    let q = c.in_ok-number.number in
-    let here = c.loop-letter.invariant in
-    let new = c.in_ok-add_edge_if.ensures in
-    record {
-      at = same_pairs test to n q c.contains.result c.loop-letter.growing c.add_edge_if.new.growing new here.at;
-      grows = grows_letter test to n q c.contains.result c.args.growing.now c.loop-letter.growing c.add_edge_if.new.growing c.contains.ensures.has here.at new here.grows;
-    }
+pub add_letter_written-requires-clause-only : goal.add_letter_written-requires-clause-only
+add_letter_written-requires-clause-only c = subst (λ n. c.in-Some.only < n) (sym c.size.ensures.size) (c.in_ok-found.ensures.below c.in-Some.only c.in-Some.is)

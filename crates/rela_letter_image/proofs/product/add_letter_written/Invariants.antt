@@ -2,11 +2,12 @@ use Rattle.std.proofs.Common.{◌≡◌, Some}
 use Rattle.std.specs.List.{slice_get}
 use Rattle.rela_letter_image.specs.Coarse.{in_coarse}
 use Rattle.rela_letter_image.specs.Growth.{Grows}
+use Rattle.rela_letter_image.specs.LetterMoves.{only_letter}
 use Rattle.rela_letter_image.proofs.GrownSteps.{edges_below}
-use Rattle.rela_letter_image.proofs.product.add_written.Given as goal
+use Rattle.rela_letter_image.proofs.product.add_letter_written.Given as goal
 
 abbrev pub invariant-loop-letter : goal.invariant-loop-letter
 invariant-loop-letter l = record {
   at : slice_get l.growing.pairs l.number ≡ Some l.fn.to;
-  grows : Grows (edges_below (in_coarse l.coarse l.set) l.fn.to l.letter) l.fn.growing l.growing;
+  grows : Grows (edges_below (in_coarse l.coarse (only_letter l.letters l.only)) l.fn.to l.letter) l.fn.growing l.growing;
 }

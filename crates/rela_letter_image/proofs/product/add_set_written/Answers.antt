@@ -1,0 +1,22 @@
+use Rattle.rela_letter_image.specs.Coarse.{in_coarse}
+use Rattle.rela_letter_image.proofs.GrownSteps.{grows_found, grows_letter, same_pairs}
+use Rattle.rela_letter_image.proofs.product.add_set_written.Goals as goal
+
+pub loop-letter-init : goal.loop-letter-init
+loop-letter-init c = record {
+  at = c.in_ok-number.ensures.numbered;
+  grows = grows_found c.args.growing.now c.number.new.self c.args.to c.number.ensures.shape c.number.ensures.told c.number.ensures.parts c.number.ensures.found;
+}
+
+pub loop-letter-preserved : goal.loop-letter-preserved
+loop-letter-preserved c =
+    let to = c.args.to in
+    let test = in_coarse c.args.coarse.now c.args.set.now in
+    let n = c.loop-letter.letter in
+    let q = c.in_ok-number.number in
+    let here = c.loop-letter.invariant in
+    let new = c.in_ok-add_edge_if.ensures in
+    record {
+      at = same_pairs test to n q c.contains.result c.loop-letter.growing c.add_edge_if.new.growing new here.at;
+      grows = grows_letter test to n q c.contains.result c.args.growing.now c.loop-letter.growing c.add_edge_if.new.growing c.contains.ensures.has here.at new here.grows;
+    }
