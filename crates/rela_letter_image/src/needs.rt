@@ -10,6 +10,9 @@ use std::alloc::{AllocError, Global};
 /// How often the words of all states are narrowed down at most.
 const ROUNDS: usize = 8;
 
+/// A relation of more states is mostly asked for few images, and what its states need isn't looked for.
+const MOST_STATES: usize = 1 << 10;
+
 /// The word at the place, and 0 past the last.
 pub(crate) fn word_at(words: &[u64], place: usize) -> u64
     ensures { result ≡ slice_index words.now place }
@@ -169,8 +172,14 @@ fn narrow(states: &[StateMoves], finals: &[bool], needs: &mut [u64])
     }
 }
 
-/// For each state a word of the letters below 64 that it is found to need; no word where that takes
-/// more than `ROUNDS` rounds. Time: linear in the states and the moves, for each round.
+/// Whether nothing is needed.
+fn is_nothing(needs: &[u64]) -> bool {
+    needs.iter().all(|need| *need == 0)
+}
+
+/// For each state a word of the letters below 64 that it is found to need; no word at all where none
+/// needs a letter, where there are more than `MOST_STATES` states, or where it takes more than
+/// `ROUNDS` rounds. Time: linear in the states and the moves, for each round.
 pub(crate) fn needs_of(
     alloc: Global,
     states: &[StateMoves],
@@ -184,9 +193,15 @@ pub(crate) fn needs_of(
       moves = map (all_moves letters) states.now;
     }) needs.items) }
 {
+    if states.len() > MOST_STATES {
+        return Ok(Vec::new(alloc));
+    }
     let mut needs = vec![in alloc; u64::MAX; states.len()]?;
     for _ in 0..ROUNDS {
         narrow(states, finals, &mut needs);
+        if is_nothing(&needs) {
+            return Ok(Vec::new(alloc));
+        }
         if are_needs(states, finals, &needs) {
             return Ok(needs);
         }

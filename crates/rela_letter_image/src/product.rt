@@ -1,6 +1,7 @@
 //! What an automaton and a transducer that reads its words do together, as one automaton.
 ghost use Rattle.std.specs.Prelude.{◌≡◌, ◌<◌, ◌≤◌, ◌↔◌, ◌^◌, [], ◌∷◌, List, None, Some, IsTrue, IfOk, OnOk, length, map, nat_eq, if◌then◌else◌};
 ghost use Rattle.std.specs.List.{All};
+ghost use Rattle.std.specs.Option.{ForSome};
 ghost use Rattle.rela_letter_nfa.specs.Counted.{edge_to};
 ghost use Rattle.rela_letter_nfa.specs.LetterAutomaton.{IsFinal, states, with_edge};
 ghost use Rattle.rela_nfa.specs.Meeting.{pair_of};
@@ -10,7 +11,7 @@ ghost use Rattle.rela_trans.specs.Machine.{machine_states, IsFinal as IsFinalMac
 ghost use Rattle.rela_letter_image.specs.Coarse.{coarse_of, fine_letters};
 ghost use Rattle.rela_letter_image.specs.Growth.{AddsState, Grows, with_parts};
 ghost use Rattle.rela_letter_image.specs.LetterMoves.{AreLettersOf, LeadBelow, all_moves, alone_move, only_letter, reading, set_move, writing};
-ghost use Rattle.rela_letter_image.specs.Needs.{TellsLive, Told};
+ghost use Rattle.rela_letter_image.specs.Needs.{AreAhead, TellsLive, Told};
 ghost use Rattle.rela_letter_image.specs.Product.{IsProduct};
 ghost use Rattle.rela_letter_image.specs.Steps.{step_to, step_if, silent_steps, alone_by, alone_steps, read_by, read_steps, letter_steps, laid_out_steps, written_by, edge_steps, steps_from};
 
@@ -22,7 +23,7 @@ use crate::letter_relation::LetterRelation;
 use rela_labels::{LabelSet, WideSet};
 use rela_letter_nfa::{LetterEdge, LetterNfa};
 use rela_pairs::{BuildError, Pair, Shape};
-use std::alloc::Global;
+use std::alloc::{AllocError, Global};
 
 /// The coarse letter of a fine one; that of a letter past the list is `letters`, their number.
 pub(crate) fn coarse_letter(coarse: &[u32], letters: u32, letter: u32) -> u32
@@ -449,6 +450,22 @@ fn product_told(
     Ok(growing.finish())
 }
 
+/// What is ahead on the paths, as by [`ahead_of`]; `None` too where the relation needs no letter.
+fn ahead_where_needed(
+    alloc: Global,
+    paths: &LetterNfa,
+    relation: &LetterRelation,
+    coarse: &[u32],
+) -> Result<Option<Vec<u64>>, AllocError>
+    ensures { IfOk result (λ found. ForSome found (λ ahead.
+        AreAhead (coarse_of relation.now.letters coarse.now) paths.now ahead.items)) }
+{
+    if relation.needs().is_empty() {
+        return Ok(None);
+    }
+    ahead_of(alloc, paths, relation.letters(), coarse)
+}
+
 /// The automaton of what the two do together, as by [`product_told`] and with its errors. A pair is
 /// left out where the transducer needs a letter that no longer lies ahead, as far as letters below 64
 /// tell that.
@@ -465,7 +482,7 @@ pub(crate) fn product(
         × IsProduct (coarse_of relation.now.letters coarse.now) paths.now relation.now told pairs
         image) }
 {
-    let found = ahead_of(alloc, paths, relation.letters(), coarse)?;
+    let found = ahead_where_needed(alloc, paths, relation, coarse)?;
     match found {
         Some(ahead) => {
             let needs = relation.needs();

@@ -11,7 +11,7 @@ returns-in-Some c =
     let read = coarse_of t.letters c.args.coarse.now in
     let needs = c.needs-needs.result.now in
     let ahead = c.deref.result.now in
-    let are = subst (λ (l : List _). AreAhead read c.args.paths.now l) (sym c.deref.ensures.value) (subst (λ n. AreAhead (coarse_of n c.args.coarse.now) c.args.paths.now c.in-Some.ahead.items) c.letters.ensures.letters (c.in_ok-found.ensures c.in-Some.ahead c.in-Some.is)) in
+    let are = subst (λ (l : List _). AreAhead read c.args.paths.now l) (sym c.deref.ensures.value) (c.in_ok-found.ensures c.in-Some.ahead c.in-Some.is) in
     IfOk-weaker c.product_told.result _ _ (λ image (pairs, is). (record { needs = needs; ahead = ahead }, pairs, tells_live read c.args.paths.now t needs ahead c.needs-needs.ensures.needs are, is)) c.product_told.ensures
 
 pub returns-in-None : goal.returns-in-None
