@@ -11,5 +11,6 @@ pub mod PartnerLaws
 pub mod Places
 pub mod PlainLaws
 pub mod PlainLoops
+mod Refusing
 pub mod SameClass
 pub mod StepLaws

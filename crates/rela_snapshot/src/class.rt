@@ -1,6 +1,6 @@
 //! What is said of a flow besides its graph: its name, its prefixes and its class.
 
-ghost use Rattle.std.specs.Prelude.{◌≡◌, ◌≢◌, ◌<◌, [], ◌∷◌, ◌++◌, Ok, Err, IfOk, IfErr, OnOk, IsErrOf, length, option_map};
+ghost use Rattle.std.specs.Prelude.{◌≡◌, ◌≢◌, ◌<◌, [], ◌∷◌, ◌++◌, Ok, Err, IfOk, IfErr, OnOk, IsErrOf, IsOk, length, option_map};
 ghost use Rattle.serde_json.specs.View.{view};
 ghost use Rattle.rela_names.specs.Name.{IsName};
 ghost use Rattle.rela_snapshot.specs.Class as spec;
@@ -13,7 +13,7 @@ use crate::snapshot::MAX_FLOWS;
 use crate::version::{FlowRules, Version, flow_rules};
 use rela_flows::Prefix;
 use rela_json::{LoadError, Value, part, string};
-use rela_names::{Name, NameError};
+use rela_names::{Name, NameError, is_name};
 use std::alloc::Global;
 
 /// The name of the class of a flow whose file leaves it out.
@@ -52,6 +52,8 @@ pub(crate) fn read_name<'a>(
         ≡ Ok name) }
     ensures fault { IfErr result (λ e. e ≢ LoadError.Memory →
         spec.new_name_of rules names.old row (view value.now) ≡ Err e) }
+    ensures memory { IsErrOf result LoadError.Memory →
+        IsOk (spec.new_name_of rules names.old row (view value.now)) }
     ensures names { IfOk result (λ name. names.new ≡ names.old ++ name ∷ []) }
     ensures distinct { OnOk result (AreDistinct names.new) }
 {
@@ -64,8 +66,8 @@ pub(crate) fn read_name<'a>(
 /// # Errors
 ///
 /// `BadName` where they are not 1 to 64 name bytes; else `RepeatedEntry` where an earlier flow has
-/// the name; `Memory` where memory runs out, and so only for a name.
-#[tactic(auto, unfolding(crate::specs::Class::unused_name_of))]
+/// the name; else `Memory` where memory runs out.
+#[tactic(auto, unfolding(crate::specs::Class::unused_name_of, crate::specs::Class::name_of))]
 pub(crate) fn add_name<'a>(
     alloc: Global,
     names: &mut NameTable<'a>,
@@ -76,14 +78,19 @@ pub(crate) fn add_name<'a>(
     ensures name { IfOk result (λ name. spec.unused_name_of names.old row bytes.now ≡ Ok name) }
     ensures fault { IfErr result (λ e. e ≢ LoadError.Memory →
         spec.unused_name_of names.old row bytes.now ≡ Err e) }
-    ensures memory { IsErrOf result LoadError.Memory → IsName bytes.now }
+    ensures memory { IsErrOf result LoadError.Memory →
+        IsOk (spec.unused_name_of names.old row bytes.now) }
     ensures names { IfOk result (λ name. names.new ≡ names.old ++ name ∷ []) }
     ensures distinct { OnOk result (AreDistinct names.new) }
 {
-    let name = name_of(alloc, bytes, row)?;
-    if !names.add(bytes)? {
+    if !is_name(bytes) {
+        return Err(LoadError::BadName { row });
+    }
+    if names.has(bytes) {
         return Err(LoadError::RepeatedEntry { row });
     }
+    let name = name_of(alloc, bytes, row)?;
+    names.add(bytes)?;
     Ok(name)
 }
 

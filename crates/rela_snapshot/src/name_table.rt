@@ -51,6 +51,13 @@ impl<'a> NameTable<'a> {
         Ok(is_new)
     }
 
+    /// Whether a name is there. Time: expected constant.
+    pub(crate) fn has(&self, name: &[u8]) -> bool
+        ensures { result ≡ has_name self.now name.now }
+    {
+        self.names.contains(name)
+    }
+
     /// How many names there are.
     pub(crate) fn len(&self) -> usize
         ensures len { result ≡ length self.now }

@@ -1,6 +1,6 @@
 //! The graph of a flow of version 2, whose nodes are named by ids of their own.
 
-ghost use Rattle.std.specs.Prelude.{◌≡◌, ◌≢◌, ◌<◌, ◌≤◌, [], ◌∷◌, ◌++◌, Ok, Err, IfOk, IfErr, OnOk, IsOkAnd, ◌+◌, length, map, option_map, vec_len};
+ghost use Rattle.std.specs.Prelude.{◌≡◌, ◌≢◌, ◌<◌, ◌≤◌, [], ◌∷◌, ◌++◌, Ok, Err, IfOk, IfErr, OnOk, IsErrOf, IsOk, IsOkAnd, ◌+◌, length, map, option_map, vec_len};
 ghost use Rattle.std.specs.List.{All};
 ghost use Rattle.rela_graph.specs.Topology.{JoinsNodes};
 ghost use Rattle.rela_snapshot.specs.Located.{StandsIn};
@@ -155,7 +155,7 @@ fn add_node<'a>(
 /// # Errors
 ///
 /// `WrongShape` where the entry is no object or its `id` no string; else `BadName` where it is not
-/// 1 to 64 name bytes; else `RepeatedEntry` where an earlier node has it; `Memory`.
+/// 1 to 64 name bytes; else `RepeatedEntry` where an earlier node has it; else `Memory`.
 #[tactic(auto, unfolding(crate::specs::Named::id_of, crate::specs::Class::name_of))]
 fn add_id<'a>(ids: &mut NameTable<'a>, value: &'a Value, row: u32) -> Result<(), LoadError>
     requires few { length ids.old < MAX_NODES }
@@ -163,14 +163,17 @@ fn add_id<'a>(ids: &mut NameTable<'a>, value: &'a Value, row: u32) -> Result<(),
         ≡ ids.old ++ id ∷ [])) }
     ensures fault { IfErr result (λ e. e ≢ LoadError.Memory →
         spec.id_of ids.old row (view value.now) ≡ Err e) }
+    ensures memory { IsErrOf result LoadError.Memory →
+        IsOk (spec.id_of ids.old row (view value.now)) }
 {
     let id = string(part(value, "id", 47, row)?, 48, row)?;
     if !is_name(id) {
         return Err(LoadError::BadName { row });
     }
-    if !ids.add(id)? {
+    if ids.has(id) {
         return Err(LoadError::RepeatedEntry { row });
     }
+    ids.add(id)?;
     Ok(())
 }
 

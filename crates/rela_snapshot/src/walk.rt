@@ -1,6 +1,6 @@
 //! The walk of the file: its version, and then its flows in order. The first fault is the answer.
 
-ghost use Rattle.std.specs.Prelude.{◌≡◌, ◌≢◌, ◌<◌, ◌≤◌, [], ◌∷◌, ◌++◌, List, Ok, Err, IfOk, IfErr, OnOk, length, map, vec_len};
+ghost use Rattle.std.specs.Prelude.{◌≡◌, ◌≢◌, ◌<◌, ◌≤◌, [], ◌∷◌, ◌++◌, List, Ok, Err, IfOk, IfErr, OnOk, IsErrOf, IsOk, length, map, vec_len};
 ghost use Rattle.std.specs.List.{All};
 ghost use Rattle.serde_json.specs.View.{view};
 ghost use Rattle.rela_snapshot.specs.Contents.{contents_of};
@@ -129,6 +129,8 @@ fn read_next_name<'a>(
     ensures name { IfOk result (λ name. next_name_of version names.old (view value.now) ≡ Ok name) }
     ensures fault { IfErr result (λ e. e ≢ LoadError.Memory →
         next_name_of version names.old (view value.now) ≡ Err e) }
+    ensures memory { IsErrOf result LoadError.Memory →
+        IsOk (next_name_of version names.old (view value.now)) }
     ensures names { IfOk result (λ name. names.new ≡ names.old ++ name ∷ []) }
     ensures distinct { OnOk result (AreDistinct names.new) }
     ensures few { OnOk result (length names.old < MAX_FLOWS) }
