@@ -17,7 +17,6 @@ use Rattle.rela_names.specs.Name.{is_name}
 use Rattle.rela_flows.specs.Notation.{IsTextOf, text_of}
 use Rattle.rela_flows.specs.declared.prefix.Ipv4Prefix.{Ipv4Prefix}
 use Rattle.rela_flows.specs.declared.prefix.Prefix.TheVariants.{V4}
-use Rattle.rela_flows.proofs.OwnText.{text_of_is_text}
 use Rattle.rela_locations.specs.Network.{Network, name_of as location_name}
 use Rattle.rela_snapshot.specs.Class.{IsPrefixOf, class_name_of, class_of, dst_text_of, flow_name_of, name_of, new_name_of, src_text_of}
 use Rattle.rela_snapshot.specs.Contents.{contents_of}
@@ -33,6 +32,7 @@ use Rattle.rela_snapshot.specs.Version.{flow_rules, version_of}
 use Rattle.rela_fib.specs.Graph.{Graph}
 use Rattle.rela_fib.specs.Loading.{everywhere, link_of, listed_graph}
 use Rattle.rela_fib.specs.Text.{edge_data, list_data, names_of, number_data, numbers_data}
+use Rattle.rela_fib.proofs.Laws.{AreLaws}
 use Rattle.rela_fib.proofs.Numbered.{AreBelow, IsBelow, Joins}
 use Rattle.rela_fib.proofs.ReadBack.{flow_object, snapshot_object}
 
@@ -161,9 +161,9 @@ everywhere_text : text_of (V4 everywhere) ≡ codes "0.0.0.0/0"
 unfolding digits
 everywhere_text = refl
 
-src_read : (row : ℕ) (a b c d e f g : Data) (p : Ipv4Prefix) → IsSrc (value_in (version_of 1) tt) row (V4 p) (flow_object a b c d e f g) (Ok (V4 everywhere))
+src_read : AreLaws → (row : ℕ) (a b c d e f g : Data) (p : Ipv4Prefix) → IsSrc (value_in (version_of 1) tt) row (V4 p) (flow_object a b c d e f g) (Ok (V4 everywhere))
 unfolding IsSrc IsPrefixOf src_text_of part_of
-src_read row a b c d e f g p = (Ok (codes "0.0.0.0/0"), refl, (subst (λ (s : List ℕ). IsTextOf s (V4 everywhere)) everywhere_text (text_of_is_text (V4 everywhere)), refl))
+src_read laws row a b c d e f g p = (Ok (codes "0.0.0.0/0"), refl, (subst (λ (s : List ℕ). IsTextOf s (V4 everywhere)) everywhere_text (laws.texts (V4 everywhere)), refl))
 
 default_class : (row : ℕ) (a b c d e f g : Data) → class_of (flow_rules (value_in (version_of 1) tt)) row (flow_object a b c d e f g) ≡ Ok (codes "default")
 unfolding class_of class_name_of name_of part_of
@@ -174,10 +174,10 @@ listed_as name p graph = record { class = record { name = name; dst = V4 p; src 
 
 -- ---- the flow
 
-pub flow_read : (network : Network) (earlier : List (List ℕ)) (nodes starts : List ℕ) (graph : Graph) (s : List ℕ) (p : Ipv4Prefix) → length earlier < 10000 → is_name s ≡ true → has_name earlier s ≡ false → IsTextOf s (V4 p)
+pub flow_read : AreLaws → (network : Network) (earlier : List (List ℕ)) (nodes starts : List ℕ) (graph : Graph) (s : List ℕ) (p : Ipv4Prefix) → length earlier < 10000 → is_name s ≡ true → has_name earlier s ≡ false → IsTextOf s (V4 p)
     → IsReadable network (length (map (node_in network) nodes)) nodes starts graph → IsFlow network (value_in (version_of 1) tt) earlier (graph_object network nodes starts graph (string s) (string s)) (Ok (listed_as s p (listed_graph network nodes starts graph)))
 unfolding IsFlow IsFlowNamed flow_of graph_of
-flow_read network earlier nodes starts graph s p room named new text is =
+flow_read laws network earlier nodes starts graph s p room named new text is =
     let row : ℕ = length earlier in
     let ds : Data = numbers_data graph.delivered in
     let ps : Data = numbers_data graph.dropped in
@@ -188,7 +188,7 @@ flow_read network earlier nodes starts graph s p room named new text is =
     rw (default_class row ds ps (string s) es (string s) ns ss, graph_read network row nodes starts graph (string s) (string s) is) refl in (
       Ok s,
       sym (name_read earlier ds ps (string s) es ns ss s room named new),
-      (Ok (V4 p), dst_read row ds ps es (string s) ns ss s p text, (Ok (V4 everywhere), src_read row ds ps (string s) es (string s) ns ss p, sym parts)),
+      (Ok (V4 p), dst_read row ds ps es (string s) ns ss s p text, (Ok (V4 everywhere), src_read laws row ds ps (string s) es (string s) ns ss p, sym parts)),
     )
 
 -- ---- the file

@@ -14,7 +14,6 @@ use Rattle.rela_flows.specs.declared.prefix.Ipv4Prefix.{Ipv4Prefix}
 use Rattle.rela_flows.specs.declared.prefix.Prefix.TheVariants.{V4}
 use Rattle.rela_locations.specs.Network.{Network}
 use Rattle.rela_prefixes.specs.Classes.{AreClasses}
-use Rattle.rela_prefixes.proofs.Cells.{holds_own}
 use Rattle.rela_tables.specs.Forwarding.{Forwarding}
 use Rattle.rela_fib.specs.Choices.{IsUniform}
 use Rattle.rela_fib.specs.Graph.{AreNodes, ArePlacesOf, IsGraphAt}
@@ -27,6 +26,7 @@ use Rattle.rela_fib.specs.declared.devices.Devices.{Devices}
 use Rattle.rela_fib.proofs.Arrays.{commas_more, list_is}
 use Rattle.rela_fib.proofs.Plain.{prefix_escape}
 use Rattle.rela_fib.proofs.Steps.{graph_known, graph_uniform}
+use Rattle.rela_fib.proofs.Laws.{AreLaws, holds_own}
 use Rattle.rela_fib.proofs.Unique.{not_long, not_many}
 
 -- ---- the text
@@ -215,14 +215,14 @@ many_edges network f other nodes starts classes d end plan is = record {
   many = is.many.many;
 }
 
-pub not_many_by : (network : Network) (f other : Forwarding) (nodes starts : List ℕ) (classes : List Ipv4Prefix) (d : Devices) (end : List ℕ) (flows : List Flow) → IsPlanned network f other nodes starts classes d end → AreFlowsOf d classes flows → ¬ IsTooMany network f other
-not_many_by network f other nodes starts classes d end flows plan are =
-    let draws = drawn_by network f other nodes starts classes d end flows plan are in not_many network f other (record { nodes = nodes; starts = starts; flows = flows }) plan.devices_are.tables draws.0 draws.1
+pub not_many_by : AreLaws → (network : Network) (f other : Forwarding) (nodes starts : List ℕ) (classes : List Ipv4Prefix) (d : Devices) (end : List ℕ) (flows : List Flow) → IsPlanned network f other nodes starts classes d end → AreFlowsOf d classes flows → ¬ IsTooMany network f other
+not_many_by laws network f other nodes starts classes d end flows plan are =
+    let draws = drawn_by network f other nodes starts classes d end flows plan are in not_many laws network f other (record { nodes = nodes; starts = starts; flows = flows }) plan.devices_are.tables draws.0 draws.1
 
-pub not_long_by : (network : Network) (f other : Forwarding) (nodes starts : List ℕ) (classes : List Ipv4Prefix) (d : Devices) (end text : List ℕ) → IsPlanned network f other nodes starts classes d end → IsWhole d end classes text → ¬ IsTooLong network f other
-not_long_by network f other nodes starts classes d end text plan is =
+pub not_long_by : AreLaws → (network : Network) (f other : Forwarding) (nodes starts : List ℕ) (classes : List Ipv4Prefix) (d : Devices) (end text : List ℕ) → IsPlanned network f other nodes starts classes d end → IsWhole d end classes text → ¬ IsTooLong network f other
+not_long_by laws network f other nodes starts classes d end text plan is =
     let draws = drawn_by network f other nodes starts classes d end is.flows plan is.flows_are in
-    not_long network f other (record { nodes = nodes; starts = starts; flows = is.flows }) plan.devices_are.tables draws.0
+    not_long laws network f other (record { nodes = nodes; starts = starts; flows = is.flows }) plan.devices_are.tables draws.0
     (subst (λ (t : List ℕ). length t ≤ 33554432) (is.text_is ∙ bytes_are network nodes starts end is.flows plan.end_is) is.short)
 
 pub planned : (network : Network) (f other : Forwarding) (nodes nodes1 nodes2 nodes3 starts starts' given : List ℕ) (classes classes' : List Ipv4Prefix) (d : Devices) (end end' : List ℕ) → nodes1 ≡ nodes → nodes2 ≡ nodes → nodes3 ≡ nodes → given ≡ f.starts → starts' ≡ starts → classes' ≡ classes → end' ≡ end

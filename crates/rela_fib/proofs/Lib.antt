@@ -1,3 +1,4 @@
+pub mod Laws
 pub mod Uniform
 pub mod Indexing
 pub mod Found

@@ -1,15 +1,12 @@
 -- All addresses of a class choose alike.
-use Rattle.std.proofs.Common.{◌≡◌, ◌∙◌, ap, ℕ, ◌*◌, ◌^◌, ◌<◌, ◌≤◌, Bool, true, false, cond, List, [], ◌∷◌, ◌++◌, length, get_or, Option, Some, None, ⊎_elim, arith}
+use Rattle.std.proofs.Common.{◌≡◌, ◌∙◌, ap, ℕ, ◌*◌, ◌^◌, ◌<◌, ◌≤◌, Bool, true, false, cond, List, [], ◌∷◌, ◌++◌, length, Option, Some, None, arith}
 use Rattle.std.specs.Prelude.{find, ◌==◌}
 use Rattle.std.specs.Option.{option_map_or}
 use Rattle.std.specs.List.{All}
-use Rattle.std.proofs.lemmas.Bool.{cases_lt}
 use Rattle.std.proofs.lemmas.List.{length-append, length-map}
 use Rattle.std.proofs.lemmas.List.Elements.{All-nil, All-cons, All-head, All-tail, All-contains, All-weaker}
 use Rattle.rela_flows.specs.declared.prefix.Ipv4Prefix.{Ipv4Prefix}
-use Rattle.rela_prefixes.specs.Classes.{AreClasses, IsClass}
-use Rattle.rela_prefixes.specs.Holding.{Holds, IsStrictlyWithin}
-use Rattle.rela_prefixes.proofs.Nesting.{all_held, first_held, within_from_first}
+use Rattle.rela_prefixes.specs.Holding.{Holds, HoldsAllOrNone}
 use Rattle.rela_tables.specs.Chosen.{ChosenOf}
 use Rattle.rela_tables.specs.Distinct.{AreTables, IsTable}
 use Rattle.rela_tables.specs.Forwarding.{Forwarding, routes_of}
@@ -52,33 +49,28 @@ of_found P device (t ∷ ts) each = by (device == t.device) (of_routes P t.route
     by true own others = own
     by false own others = others
 
--- ---- a prefix that isn't a proper part of a class holds all of it or nothing of it
+-- ---- routes whose prefixes hold all addresses of a class or none
 
-all_or_none : (p c : Ipv4Prefix) (a b : ℕ) → ¬ IsStrictlyWithin p c → Holds c a → Holds c b → Holds p a → Holds p b
-all_or_none p c a b uncut in_a in_b holds = ⊎_elim
-    (λ longer. absurd (uncut (within_from_first p c longer (first_held p c a (omega (arith, longer)) holds in_a))))
-    (λ short. all_held c p short (first_held c p a short in_a holds) b in_b)
-    (cases_lt c.length p.length)
-
-chosen_same : (routes : List Route) (c : Ipv4Prefix) (a b : ℕ) (choice : Option Route) → All (λ r. ¬ IsStrictlyWithin r.prefix c) routes → Holds c a → Holds c b → ChosenOf routes a choice → ChosenOf routes b choice
+chosen_same : (routes : List Route) (c : Ipv4Prefix) (a b : ℕ) (choice : Option Route) → All (λ r. HoldsAllOrNone r.prefix c) routes → Holds c a → Holds c b → ChosenOf routes a choice → ChosenOf routes b choice
 unfolding ChosenOf
-chosen_same routes c a b None uncut in_a in_b h = λ k d lt holds. h k d lt (all_or_none (get_or routes k d).prefix c b a (uncut k d lt) in_b in_a holds)
-chosen_same routes c a b (Some route) uncut in_a in_b h = record {
+chosen_same routes c a b None whole in_a in_b h = λ k d lt holds. h k d lt (whole k d lt b a in_b in_a holds)
+chosen_same routes c a b (Some route) whole in_a in_b h = record {
   listed = h.listed;
-  holds = all_or_none route.prefix c a b (All-contains (λ (r : Route). ¬ IsStrictlyWithin r.prefix c) routes route uncut h.listed) in_a in_b h.holds;
-  longest = λ k d lt holds. h.longest k d lt (all_or_none (get_or routes k d).prefix c b a (uncut k d lt) in_b in_a holds);
+  holds = All-contains (λ (r : Route). HoldsAllOrNone r.prefix c) routes route whole h.listed a b in_a in_b h.holds;
+  longest = λ k d lt holds. h.longest k d lt (whole k d lt b a in_b in_a holds);
 }
 
-uniform_by : (f : Forwarding) (c : Ipv4Prefix) → All (λ p. ¬ IsStrictlyWithin p c) (prefixes_in f.tables) → IsUniform f c
-uniform_by f c uncut a b device choice in_a in_b h = chosen_same (routes_of f device) c a b choice (of_found (λ p. ¬ IsStrictlyWithin p c) device f.tables uncut) in_a in_b h
+uniform_by : (f : Forwarding) (c : Ipv4Prefix) → All (λ p. HoldsAllOrNone p c) (prefixes_in f.tables) → IsUniform f c
+uniform_by f c whole a b device choice in_a in_b h = chosen_same (routes_of f device) c a b choice (of_found (λ p. HoldsAllOrNone p c) device f.tables whole) in_a in_b h
 
-pub uniform_first : (f other : Forwarding) (classes : List Ipv4Prefix) → AreClasses (prefixes_in_both f other) classes → All (IsUniform f) classes
-uniform_first f other classes are = All-weaker (IsClass (prefixes_in_both f other)) (IsUniform f)
-    (λ c class. uniform_by f c (front_all (λ p. ¬ IsStrictlyWithin p c) (prefixes_in f.tables) (prefixes_in other.tables) class.uncut)) classes are.each
+abbrev AllWhole : Forwarding → Forwarding → Ipv4Prefix → Type 0
+AllWhole f other c = All (λ p. HoldsAllOrNone p c) (prefixes_in_both f other)
 
-pub uniform_second : (f other : Forwarding) (classes : List Ipv4Prefix) → AreClasses (prefixes_in_both f other) classes → All (IsUniform other) classes
-uniform_second f other classes are = All-weaker (IsClass (prefixes_in_both f other)) (IsUniform other)
-    (λ c class. uniform_by other c (back_all (λ p. ¬ IsStrictlyWithin p c) (prefixes_in f.tables) (prefixes_in other.tables) class.uncut)) classes are.each
+pub uniform_first : (f other : Forwarding) (classes : List Ipv4Prefix) → All (AllWhole f other) classes → All (IsUniform f) classes
+uniform_first f other classes whole = All-weaker (AllWhole f other) (IsUniform f) (λ c each. uniform_by f c (front_all (λ p. HoldsAllOrNone p c) (prefixes_in f.tables) (prefixes_in other.tables) each)) classes whole
+
+pub uniform_second : (f other : Forwarding) (classes : List Ipv4Prefix) → All (AllWhole f other) classes → All (IsUniform other) classes
+uniform_second f other classes whole = All-weaker (AllWhole f other) (IsUniform other) (λ c each. uniform_by other c (back_all (λ p. HoldsAllOrNone p c) (prefixes_in f.tables) (prefixes_in other.tables) each)) classes whole
 
 -- ---- the prefixes of two files
 

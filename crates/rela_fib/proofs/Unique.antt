@@ -1,5 +1,5 @@
 -- Two files give one snapshot: there is one list of nodes, one of classes, and one graph for each address.
-use Rattle.std.proofs.Common.{◌≡◌, ◌∙◌, refl, sym, ap, subst, ℕ, zero, suc, ◌+◌, ◌-◌, ◌^◌, ◌<◌, ◌≤◌, ◌⊎◌, inl, inr, ⊎_elim, Bool, true, false, cond, ◌==◌, List, [], ◌∷◌, length, get_or, Option, Some, None, arith}
+use Rattle.std.proofs.Common.{◌≡◌, ◌∙◌, refl, sym, ap, subst, ℕ, zero, suc, ◌+◌, ◌<◌, ◌≤◌, ◌⊎◌, inl, inr, ⊎_elim, Bool, true, false, cond, ◌==◌, List, [], ◌∷◌, length, get_or, Option, Some, None, arith}
 use Rattle.std.specs.Prelude.{find}
 use Rattle.std.specs.Option.{option_map_or}
 use Rattle.std.specs.List.{All, AllByRecursion, AllZip, Contains, IsDistinct}
@@ -8,14 +8,11 @@ use Rattle.std.proofs.lemmas.Bool.{eq-eqb, and_from}
 use Rattle.std.proofs.lemmas.List.{get_or_default, length-map}
 use Rattle.std.proofs.lemmas.List.Elements.{All-contains, All-head, All-tail}
 use Rattle.std.proofs.lemmas.Map.Keys.{sorted_from_strictly_increasing, below_from_sorted}
+use Rattle.rela_flows.specs.Address.Address.{Ipv4}
 use Rattle.rela_flows.specs.declared.prefix.Ipv4Prefix.{Ipv4Prefix}
 use Rattle.rela_names.specs.declared.level.Level.TheVariants as level
 use Rattle.rela_locations.specs.Network.{Network, location_of}
-use Rattle.rela_prefixes.specs.Classes.{Adjoin, AreClasses, IsClass}
 use Rattle.rela_prefixes.specs.Holding.{Holds}
-use Rattle.rela_prefixes.proofs.Cells.{holds_own}
-use Rattle.rela_prefixes.proofs.Nesting.{same_prefix}
-use Rattle.rela_prefixes.proofs.Order.{same_class}
 use Rattle.rela_tables.specs.Chosen.{Chosen, ChosenOf}
 use Rattle.rela_tables.specs.Distinct.{AreTables, IsTable, is_same_key, key_of, keys_of}
 use Rattle.rela_tables.specs.Forwarding.{Forwarding, routes_of}
@@ -26,6 +23,7 @@ use Rattle.rela_fib.specs.Prefixes.{prefixes_in_both}
 use Rattle.rela_fib.specs.Snapshot.{HasManyEdges, IsDrawn, IsFew, IsGraphOf, IsTooLong, IsTooMany, classes_of}
 use Rattle.rela_fib.specs.Text.{Drawn, Flow, snapshot_bytes}
 use Rattle.rela_fib.proofs.Found.{no_member}
+use Rattle.rela_fib.proofs.Laws.{AreLaws, holds_own}
 
 -- ---- ascending numbers
 
@@ -92,16 +90,6 @@ route_unique (x ∷ routes) r s distinct at_r at_s same = ⊎_elim
     (contains_cases x routes s at_s))
     (contains_cases x routes r at_r)
 
-chosen_unique : (routes : List Route) (a : ℕ) (c d : Option Route) → IsDistinct is_same_key (keys_of routes) → ChosenOf routes a c → ChosenOf routes a d → c ≡ d
-unfolding ChosenOf
-chosen_unique routes a None None distinct h k = refl
-chosen_unique routes a None (Some s) distinct h k = absurd (All-contains (λ (route : Route). ¬ Holds route.prefix a) routes s h k.listed k.holds)
-chosen_unique routes a (Some r) None distinct h k = absurd (All-contains (λ (route : Route). ¬ Holds route.prefix a) routes r k h.listed h.holds)
-chosen_unique routes a (Some r) (Some s) distinct h k =
-    let s_short : s.prefix.length ≤ r.prefix.length = All-contains (λ (other : Route). Holds other.prefix a → other.prefix.length ≤ r.prefix.length) routes s h.longest k.listed k.holds in
-    let r_short : r.prefix.length ≤ s.prefix.length = All-contains (λ (other : Route). Holds other.prefix a → other.prefix.length ≤ s.prefix.length) routes r k.longest h.listed h.holds in
-    ap Some (route_unique routes r s distinct h.listed k.listed (same_prefix r.prefix s.prefix a (omega (arith, s_short, r_short)) h.holds k.holds))
-
 abbrev found_routes : Option Table → List Route
 found_routes o = option_map_or (λ table. table.routes) o []
 
@@ -119,16 +107,6 @@ routes_distinct device (t ∷ ts) each = by (device == t.device) (All-head IsTab
 
 abbrev ChosenAt : Network → Forwarding → ℕ → ℕ → Option Route → Type 0
 ChosenAt network f a node choice = Chosen f (location_of level.Device network node) a choice
-
-choices_unique : (network : Network) (f : Forwarding) (a : ℕ) (nodes : List ℕ) (cs ds : List (Option Route)) → AreTables f.tables → AllZip (ChosenAt network f a) nodes cs → AllZip (ChosenAt network f a) nodes ds → cs ≡ ds
-choices_unique network f a [] [] [] are h k = refl
-choices_unique network f a [] [] (d ∷ ds) are h k = absurd k
-choices_unique network f a [] (c ∷ cs) ds are h k = absurd h
-choices_unique network f a (n ∷ nodes) [] ds are h k = absurd h
-choices_unique network f a (n ∷ nodes) (c ∷ cs) [] are h k = absurd k
-choices_unique network f a (n ∷ nodes) (c ∷ cs) (d ∷ ds) are h k =
-    let device : ℕ = location_of level.Device network n in
-    ap (λ (x : Option Route). x ∷ cs) (chosen_unique (routes_of f device) a c d (routes_distinct device f.tables are.each) h.0 k.0) ∙ ap (λ (xs : List (Option Route)). d ∷ xs) (choices_unique network f a nodes cs ds are h.1 k.1)
 
 next_unique : (nodes : List ℕ) (cs : List (Option Route)) (ps qs : List (List ℕ)) → AllZip (λ choice places. ArePlacesOf nodes (chosen_hops choice) places) cs ps → AllZip (λ choice places. ArePlacesOf nodes (chosen_hops choice) places) cs qs → ps ≡ qs
 next_unique nodes [] [] [] h k = refl
@@ -149,46 +127,10 @@ unfolding made
 graph_is network f nodes a g is =
     ap (λ es. made es g.delivered g.dropped) is.edges ∙ ap (λ ns. made (edges_from 0 is.next) ns g.dropped) is.delivered ∙ ap (λ ns. made (edges_from 0 is.next) (numbers_from is_delivered 0 is.choices) ns) is.dropped
 
-pub graph_unique : (network : Network) (f : Forwarding) (nodes : List ℕ) (a : ℕ) (g h : Graph) → AreTables f.tables → IsGraphAt network f nodes a g → IsGraphAt network f nodes a h → g ≡ h
-graph_unique network f nodes a g h are is_g is_h =
-    let choices : is_g.choices ≡ is_h.choices = choices_unique network f a nodes is_g.choices is_h.choices are is_g.chosen is_h.chosen in
-    let next : is_g.next ≡ is_h.next = next_unique nodes is_h.choices is_g.next is_h.next (subst (λ (cs : List (Option Route)). AllZip (λ choice places. ArePlacesOf nodes (chosen_hops choice) places) cs is_g.next) choices is_g.next_are) is_h.next_are in
-    graph_is network f nodes a g is_g ∙ ap (λ cs. graph_by cs is_g.next) choices ∙ ap (λ ns. graph_by is_h.choices ns) next ∙ sym (graph_is network f nodes a h is_h)
-
--- ---- the classes
-
-some_addresses : (n : ℕ) → 0 < 2 ^ n
-some_addresses zero = omega arith
-some_addresses (suc n) = omega (arith, some_addresses n)
-
-adjoin_grows : (from to : ℕ) (cs : List Ipv4Prefix) → Adjoin from cs to → from ≤ to
-adjoin_grows from to [] h = omega (arith, h)
-adjoin_grows from to (c ∷ cs) h = omega (arith, adjoin_grows (from + 2 ^ (32 - c.length)) to cs h.1)
-
-adjoin_unique : (prefixes : List Ipv4Prefix) (from to : ℕ) (cs ds : List Ipv4Prefix) → All (IsClass prefixes) cs → All (IsClass prefixes) ds → Adjoin from cs to → Adjoin from ds to → cs ≡ ds
-adjoin_unique prefixes from to [] [] each_c each_d h k = refl
-adjoin_unique prefixes from to [] (d ∷ ds) each_c each_d h k = absurd (omega (arith, h, some_addresses (32 - d.length), adjoin_grows (from + 2 ^ (32 - d.length)) to ds k.1))
-adjoin_unique prefixes from to (c ∷ cs) [] each_c each_d h k = absurd (omega (arith, k, some_addresses (32 - c.length), adjoin_grows (from + 2 ^ (32 - c.length)) to cs h.1))
-adjoin_unique prefixes from to (c ∷ cs) (d ∷ ds) each_c each_d h k =
-    let one : Holds c c.address = holds_own c in
-    let two : Holds d c.address = subst (λ a. Holds d a) (k.0 ∙ sym h.0) (holds_own d) in
-    let same : c ≡ d = same_class prefixes c d c.address (All-head (IsClass prefixes) c cs each_c) (All-head (IsClass prefixes) d ds each_d) one two in
-    let rest : Adjoin (from + 2 ^ (32 - c.length)) ds to = subst (λ (p : Ipv4Prefix). Adjoin (from + 2 ^ (32 - p.length)) ds to) (sym same) k.1 in
-    ap (λ (p : Ipv4Prefix). p ∷ cs) same ∙ ap (λ (ps : List Ipv4Prefix). d ∷ ps) (adjoin_unique prefixes (from + 2 ^ (32 - c.length)) to cs ds (All-tail (IsClass prefixes) c cs each_c) (All-tail (IsClass prefixes) d ds each_d) h.1 rest)
-
-pub classes_unique : (prefixes cs ds : List Ipv4Prefix) → AreClasses prefixes cs → AreClasses prefixes ds → cs ≡ ds
-classes_unique prefixes cs ds are_c are_d = adjoin_unique prefixes 0 (2 ^ 32) cs ds are_c.each are_d.each are_c.in_order are_d.in_order
-
 -- ---- the snapshot
 
 flow_by : Ipv4Prefix → Graph → Flow
 flow_by class graph = record { class = class; graph = graph }
-
-flow_unique : (network : Network) (f : Forwarding) (nodes : List ℕ) (x y : Flow) → AreTables f.tables → x.class ≡ y.class → IsGraphOf network f nodes x.class x.graph → IsGraphOf network f nodes y.class y.graph → x ≡ y
-unfolding flow_by
-flow_unique network f nodes x y are same is_x is_y =
-    let holds : Holds x.class y.class.address = subst (λ (c : Ipv4Prefix). Holds c y.class.address) (sym same) (holds_own y.class) in
-    ap (λ c. flow_by c x.graph) same ∙ ap (λ g. flow_by y.class g) (graph_unique network f nodes y.class.address x.graph y.graph are (is_x y.class.address holds) (is_y y.class.address (holds_own y.class)))
 
 abbrev HasGraph : Network → Forwarding → List ℕ → Flow → Type 0
 HasGraph network f nodes flow = IsGraphOf network f nodes flow.class flow.graph
@@ -201,27 +143,8 @@ other_classes : List Ipv4Prefix → List Ipv4Prefix
 other_classes [] = []
 other_classes (c ∷ cs) = cs
 
-flows_unique : (network : Network) (f : Forwarding) (nodes : List ℕ) (xs ys : List Flow) → AreTables f.tables → classes_of xs ≡ classes_of ys → All (HasGraph network f nodes) xs → All (HasGraph network f nodes) ys → xs ≡ ys
-unfolding first_class other_classes
-flows_unique network f nodes [] [] are same each_x each_y = refl
-flows_unique network f nodes [] (y ∷ ys) are same each_x each_y = absurd (let e : 0 ≡ suc (length (classes_of ys)) = ap length same in omega (arith, e))
-flows_unique network f nodes (x ∷ xs) [] are same each_x each_y = absurd (let e : suc (length (classes_of xs)) ≡ 0 = ap length same in omega (arith, e))
-flows_unique network f nodes (x ∷ xs) (y ∷ ys) are same each_x each_y =
-    let Has : Flow → Type 0 = HasGraph network f nodes in
-    ap (λ (z : Flow). z ∷ xs) (flow_unique network f nodes x y are (ap (first_class x.class) same) (All-head Has x xs each_x) (All-head Has y ys each_y))
-    ∙ ap (λ (zs : List Flow). y ∷ zs) (flows_unique network f nodes xs ys are (ap other_classes same) (All-tail Has x xs each_x) (All-tail Has y ys each_y))
-
 drawn_of : List ℕ → List ℕ → List Flow → Drawn
 drawn_of nodes starts flows = record { nodes = nodes; starts = starts; flows = flows }
-
-pub drawn_unique : (network : Network) (f other : Forwarding) (d e : Drawn) → AreTables f.tables → IsDrawn network f other d → IsDrawn network f other e → d ≡ e
-unfolding drawn_of
-drawn_unique network f other d e are is_d is_e =
-    let nodes : d.nodes ≡ e.nodes = nodes_unique f d.nodes e.nodes is_d.nodes is_e.nodes in
-    let starts : d.starts ≡ e.starts = places_unique e.nodes f.starts d.starts e.starts (subst (λ (ns : List ℕ). ArePlacesOf ns f.starts d.starts) nodes is_d.starts) is_e.starts in
-    let classes : classes_of d.flows ≡ classes_of e.flows = classes_unique (prefixes_in_both f other) (classes_of d.flows) (classes_of e.flows) is_d.classes is_e.classes in
-    let flows : d.flows ≡ e.flows = flows_unique network f e.nodes d.flows e.flows are classes (subst (λ (ns : List ℕ). All (HasGraph network f ns) d.flows) nodes is_d.graphs) is_e.graphs in
-    ap (λ ns. drawn_of ns d.starts d.flows) nodes ∙ ap (λ ss. drawn_of e.nodes ss d.flows) starts ∙ ap (λ fs. drawn_of e.nodes e.starts fs) flows
 
 listed_flow : (flows : List Flow) (class : Ipv4Prefix) → Contains (classes_of flows) class → (flow : Flow) × Contains flows flow × (flow.class ≡ class)
 listed_flow [] class at = absurd (no_member class at)
@@ -230,26 +153,80 @@ listed_flow (x ∷ flows) class at = ⊎_elim
     (λ later. let rest = listed_flow flows class later in (rest.0, contains_later x flows rest.0 rest.1, rest.2))
     (contains_cases x.class (classes_of flows) class at)
 
-not_many_edges : (network : Network) (f other : Forwarding) (d : Drawn) → AreTables f.tables → IsDrawn network f other d → IsFew d → ¬ HasManyEdges network f other
-not_many_edges network f other d are is few many =
-    let nodes : many.nodes ≡ d.nodes = nodes_unique f many.nodes d.nodes many.nodes_are is.nodes in
-    let classes : many.classes ≡ classes_of d.flows = classes_unique (prefixes_in_both f other) many.classes (classes_of d.flows) many.classes_are is.classes in
-    let found = listed_flow d.flows many.class (subst (λ (cs : List Ipv4Prefix). Contains cs many.class) classes many.listed) in
-    let theirs : HasGraph network f d.nodes found.0 = All-contains (HasGraph network f d.nodes) d.flows found.0 is.graphs found.1 in
-    let a : ℕ = many.class.address in
-    let at : IsGraphAt network f d.nodes a found.0.graph = theirs a (subst (λ (c : Ipv4Prefix). Holds c a) (sym found.2) (holds_own many.class)) in
-    let same : many.graph ≡ found.0.graph = graph_unique network f d.nodes a many.graph found.0.graph are (subst (λ (ns : List ℕ). IsGraphAt network f ns a many.graph) nodes (many.graph_is a (holds_own many.class))) at in
-    let short : length found.0.graph.edges ≤ 100000 = All-contains (λ (flow : Flow). length flow.graph.edges ≤ 100000) d.flows found.0 few.edges found.1 in
-    omega (arith, short, many.many, ap (λ (g : Graph). length g.edges) same)
+-- ---- by the laws
 
-pub not_many : (network : Network) (f other : Forwarding) (d : Drawn) → AreTables f.tables → IsDrawn network f other d → IsFew d → ¬ IsTooMany network f other
-not_many network f other d are is few many = ⊎_elim
-    (λ nodes. omega (arith, nodes.2, few.nodes, ap length (nodes_unique f nodes.0 d.nodes nodes.1 is.nodes)))
-    (λ rest. ⊎_elim
-    (λ classes. omega (arith, classes.2, few.flows, ap length (classes_unique (prefixes_in_both f other) classes.0 (classes_of d.flows) classes.1 is.classes), length-map d.flows (λ (flow : Flow). flow.class)))
-    (λ edges. not_many_edges network f other d are is few edges)
-    rest)
-    many
+module _ (laws : AreLaws) where
+  chosen_unique : (routes : List Route) (a : ℕ) (c d : Option Route) → IsDistinct is_same_key (keys_of routes) → ChosenOf routes a c → ChosenOf routes a d → c ≡ d
+  unfolding ChosenOf
+  chosen_unique routes a None None distinct h k = refl
+  chosen_unique routes a None (Some s) distinct h k = absurd (All-contains (λ (route : Route). ¬ Holds route.prefix a) routes s h k.listed k.holds)
+  chosen_unique routes a (Some r) None distinct h k = absurd (All-contains (λ (route : Route). ¬ Holds route.prefix a) routes r k h.listed h.holds)
+  chosen_unique routes a (Some r) (Some s) distinct h k =
+      let s_short : s.prefix.length ≤ r.prefix.length = All-contains (λ (other : Route). Holds other.prefix a → other.prefix.length ≤ r.prefix.length) routes s h.longest k.listed k.holds in
+      let r_short : r.prefix.length ≤ s.prefix.length = All-contains (λ (other : Route). Holds other.prefix a → other.prefix.length ≤ s.prefix.length) routes r k.longest h.listed h.holds in
+      ap Some (route_unique routes r s distinct h.listed k.listed (laws.apart r.prefix s.prefix (omega (arith, s_short, r_short)) (Ipv4 a, h.holds, k.holds)))
 
-pub not_long : (network : Network) (f other : Forwarding) (d : Drawn) → AreTables f.tables → IsDrawn network f other d → length (snapshot_bytes network d) ≤ 33554432 → ¬ IsTooLong network f other
-not_long network f other d are is short long = omega (arith, short, long.long, ap (λ (e : Drawn). length (snapshot_bytes network e)) (drawn_unique network f other d long.drawn are is long.drawn_from))
+  choices_unique : (network : Network) (f : Forwarding) (a : ℕ) (nodes : List ℕ) (cs ds : List (Option Route)) → AreTables f.tables → AllZip (ChosenAt network f a) nodes cs → AllZip (ChosenAt network f a) nodes ds → cs ≡ ds
+  choices_unique network f a [] [] [] are h k = refl
+  choices_unique network f a [] [] (d ∷ ds) are h k = absurd k
+  choices_unique network f a [] (c ∷ cs) ds are h k = absurd h
+  choices_unique network f a (n ∷ nodes) [] ds are h k = absurd h
+  choices_unique network f a (n ∷ nodes) (c ∷ cs) [] are h k = absurd k
+  choices_unique network f a (n ∷ nodes) (c ∷ cs) (d ∷ ds) are h k =
+      let device : ℕ = location_of level.Device network n in
+      ap (λ (x : Option Route). x ∷ cs) (chosen_unique (routes_of f device) a c d (routes_distinct device f.tables are.each) h.0 k.0) ∙ ap (λ (xs : List (Option Route)). d ∷ xs) (choices_unique network f a nodes cs ds are h.1 k.1)
+
+  pub graph_unique : (network : Network) (f : Forwarding) (nodes : List ℕ) (a : ℕ) (g h : Graph) → AreTables f.tables → IsGraphAt network f nodes a g → IsGraphAt network f nodes a h → g ≡ h
+  graph_unique network f nodes a g h are is_g is_h =
+      let choices : is_g.choices ≡ is_h.choices = choices_unique network f a nodes is_g.choices is_h.choices are is_g.chosen is_h.chosen in
+      let next : is_g.next ≡ is_h.next = next_unique nodes is_h.choices is_g.next is_h.next (subst (λ (cs : List (Option Route)). AllZip (λ choice places. ArePlacesOf nodes (chosen_hops choice) places) cs is_g.next) choices is_g.next_are) is_h.next_are in
+      graph_is network f nodes a g is_g ∙ ap (λ cs. graph_by cs is_g.next) choices ∙ ap (λ ns. graph_by is_h.choices ns) next ∙ sym (graph_is network f nodes a h is_h)
+
+  flow_unique : (network : Network) (f : Forwarding) (nodes : List ℕ) (x y : Flow) → AreTables f.tables → x.class ≡ y.class → IsGraphOf network f nodes x.class x.graph → IsGraphOf network f nodes y.class y.graph → x ≡ y
+  unfolding flow_by
+  flow_unique network f nodes x y are same is_x is_y =
+      let holds : Holds x.class y.class.address = subst (λ (c : Ipv4Prefix). Holds c y.class.address) (sym same) (holds_own y.class) in
+      ap (λ c. flow_by c x.graph) same ∙ ap (λ g. flow_by y.class g) (graph_unique network f nodes y.class.address x.graph y.graph are (is_x y.class.address holds) (is_y y.class.address (holds_own y.class)))
+
+  flows_unique : (network : Network) (f : Forwarding) (nodes : List ℕ) (xs ys : List Flow) → AreTables f.tables → classes_of xs ≡ classes_of ys → All (HasGraph network f nodes) xs → All (HasGraph network f nodes) ys → xs ≡ ys
+  unfolding first_class other_classes
+  flows_unique network f nodes [] [] are same each_x each_y = refl
+  flows_unique network f nodes [] (y ∷ ys) are same each_x each_y = absurd (let e : 0 ≡ suc (length (classes_of ys)) = ap length same in omega (arith, e))
+  flows_unique network f nodes (x ∷ xs) [] are same each_x each_y = absurd (let e : suc (length (classes_of xs)) ≡ 0 = ap length same in omega (arith, e))
+  flows_unique network f nodes (x ∷ xs) (y ∷ ys) are same each_x each_y =
+      let Has : Flow → Type 0 = HasGraph network f nodes in
+      ap (λ (z : Flow). z ∷ xs) (flow_unique network f nodes x y are (ap (first_class x.class) same) (All-head Has x xs each_x) (All-head Has y ys each_y))
+      ∙ ap (λ (zs : List Flow). y ∷ zs) (flows_unique network f nodes xs ys are (ap other_classes same) (All-tail Has x xs each_x) (All-tail Has y ys each_y))
+
+  pub drawn_unique : (network : Network) (f other : Forwarding) (d e : Drawn) → AreTables f.tables → IsDrawn network f other d → IsDrawn network f other e → d ≡ e
+  unfolding drawn_of
+  drawn_unique network f other d e are is_d is_e =
+      let nodes : d.nodes ≡ e.nodes = nodes_unique f d.nodes e.nodes is_d.nodes is_e.nodes in
+      let starts : d.starts ≡ e.starts = places_unique e.nodes f.starts d.starts e.starts (subst (λ (ns : List ℕ). ArePlacesOf ns f.starts d.starts) nodes is_d.starts) is_e.starts in
+      let classes : classes_of d.flows ≡ classes_of e.flows = laws.one_list (prefixes_in_both f other) (classes_of d.flows) (classes_of e.flows) is_d.classes is_e.classes in
+      let flows : d.flows ≡ e.flows = flows_unique network f e.nodes d.flows e.flows are classes (subst (λ (ns : List ℕ). All (HasGraph network f ns) d.flows) nodes is_d.graphs) is_e.graphs in
+      ap (λ ns. drawn_of ns d.starts d.flows) nodes ∙ ap (λ ss. drawn_of e.nodes ss d.flows) starts ∙ ap (λ fs. drawn_of e.nodes e.starts fs) flows
+
+  not_many_edges : (network : Network) (f other : Forwarding) (d : Drawn) → AreTables f.tables → IsDrawn network f other d → IsFew d → ¬ HasManyEdges network f other
+  not_many_edges network f other d are is few many =
+      let nodes : many.nodes ≡ d.nodes = nodes_unique f many.nodes d.nodes many.nodes_are is.nodes in
+      let classes : many.classes ≡ classes_of d.flows = laws.one_list (prefixes_in_both f other) many.classes (classes_of d.flows) many.classes_are is.classes in
+      let found = listed_flow d.flows many.class (subst (λ (cs : List Ipv4Prefix). Contains cs many.class) classes many.listed) in
+      let theirs : HasGraph network f d.nodes found.0 = All-contains (HasGraph network f d.nodes) d.flows found.0 is.graphs found.1 in
+      let a : ℕ = many.class.address in
+      let at : IsGraphAt network f d.nodes a found.0.graph = theirs a (subst (λ (c : Ipv4Prefix). Holds c a) (sym found.2) (holds_own many.class)) in
+      let same : many.graph ≡ found.0.graph = graph_unique network f d.nodes a many.graph found.0.graph are (subst (λ (ns : List ℕ). IsGraphAt network f ns a many.graph) nodes (many.graph_is a (holds_own many.class))) at in
+      let short : length found.0.graph.edges ≤ 100000 = All-contains (λ (flow : Flow). length flow.graph.edges ≤ 100000) d.flows found.0 few.edges found.1 in
+      omega (arith, short, many.many, ap (λ (g : Graph). length g.edges) same)
+
+  pub not_many : (network : Network) (f other : Forwarding) (d : Drawn) → AreTables f.tables → IsDrawn network f other d → IsFew d → ¬ IsTooMany network f other
+  not_many network f other d are is few many = ⊎_elim
+      (λ nodes. omega (arith, nodes.2, few.nodes, ap length (nodes_unique f nodes.0 d.nodes nodes.1 is.nodes)))
+      (λ rest. ⊎_elim
+      (λ classes. omega (arith, classes.2, few.flows, ap length (laws.one_list (prefixes_in_both f other) classes.0 (classes_of d.flows) classes.1 is.classes), length-map d.flows (λ (flow : Flow). flow.class)))
+      (λ edges. not_many_edges network f other d are is few edges)
+      rest)
+      many
+
+  pub not_long : (network : Network) (f other : Forwarding) (d : Drawn) → AreTables f.tables → IsDrawn network f other d → length (snapshot_bytes network d) ≤ 33554432 → ¬ IsTooLong network f other
+  not_long network f other d are is short long = omega (arith, short, long.long, ap (λ (e : Drawn). length (snapshot_bytes network e)) (drawn_unique network f other d long.drawn are is long.drawn_from))

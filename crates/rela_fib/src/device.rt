@@ -1,7 +1,6 @@
 //! A device, and what it does by each of its routes.
 
 ghost use Rattle.std.specs.Prelude.{◌≡◌, ◌<◌, ◌^◌, IfOk, length, map};
-ghost use Rattle.std.specs.List.{AllZip};
 ghost use Rattle.std.specs.List.Sorted.{IsStrictlyIncreasing};
 ghost use Rattle.rela_prefixes.specs.Longest.{Longest};
 ghost use Rattle.rela_fib.specs.Prefixes.{prefixes_of};

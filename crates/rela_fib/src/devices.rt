@@ -1,7 +1,7 @@
 //! The devices that the nodes of a graph belong to.
 
 ghost use Rattle.std.specs.Prelude.{◌≡◌, ◌<◌, ◌≤◌, ◌^◌, false, IfOk, length, map, nat_eq};
-ghost use Rattle.std.specs.List.{All, AllZip, IsDistinct};
+ghost use Rattle.std.specs.List.{IsDistinct};
 ghost use Rattle.std.specs.List.Sorted.{IsStrictlyIncreasing};
 ghost use Rattle.rela_tables.specs.Distinct.{AreTables, devices_of};
 ghost use Rattle.rela_tables.specs.Forwarding.{routes_of};

@@ -1,6 +1,6 @@
 //! The graph on which the packets to an address are forwarded.
 
-ghost use Rattle.std.specs.Prelude.{◌≡◌, ◌<◌, ◌≤◌, ◌^◌, ◌++◌, OnOk, length, map, nat_lt};
+ghost use Rattle.std.specs.Prelude.{◌≡◌, ◌<◌, ◌^◌, ◌++◌, OnOk, length, map, nat_lt};
 ghost use Rattle.rela_fib.specs.Graph.{edges_to, number_if};
 ghost use Rattle.rela_fib.specs.Steps.{graph_of};
 ghost use Rattle.rela_fib.specs.Text.{edge_data, number_data};

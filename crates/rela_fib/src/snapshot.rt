@@ -12,7 +12,9 @@ use crate::nodes::nodes_of;
 use crate::pieces::interfaces_ascend;
 use crate::places::places_of;
 use crate::writing::{end_of, text_of};
+use rela_flows::{canonical_texts_write_their_prefixes, prefixes_of_one_length_are_apart};
 use rela_locations::Locations;
+use rela_prefixes::classes_are_unique;
 use rela_tables::Tables;
 use std::alloc::Global;
 
@@ -71,6 +73,9 @@ pub fn snapshot_text(
     let starts = places_of(alloc, nodes.as_slice(), tables.starts())?;
     let devices = Devices::new(alloc, locations, tables, nodes.as_slice())?;
     interfaces_ascend(locations);
+    canonical_texts_write_their_prefixes();
+    prefixes_of_one_length_are_apart();
+    classes_are_unique();
     let end = end_of(alloc, locations, nodes.as_slice(), starts.as_slice())?;
     text_of(alloc, &devices, classes.as_slice(), end.as_slice())
 }
