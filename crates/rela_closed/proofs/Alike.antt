@@ -5,9 +5,9 @@ use Rattle.std.proofs.lemmas.List.{append-nil, same_from_push}
 use Rattle.std.proofs.lemmas.List.Elements.{All-contains}
 use Rattle.rela_nfa.specs.Automaton.{Automaton}
 use Rattle.rela_nfa.specs.Runs.{Accepts, HasStep, Reach}
-use Rattle.rela_nfa.proofs.Reaching.{reach_each, reach_silent, reach_step}
 use Rattle.rela_closed.specs.Closed.{AreApart, SameStates}
 use Rattle.rela_build.specs.Complement.{ReachSame}
+use Rattle.rela_closed.proofs.Reached.{reach_each, reach_silent, reach_step}
 
 -- a letter more
 push_one : (a : Automaton) (v w : List ℕ) (k : ℕ) → ((q : ℕ) → Reach a q v → Reach a q w) → (q : ℕ) → Reach a q (v ++ k ∷ []) → Reach a q (w ++ k ∷ [])

@@ -9,7 +9,6 @@ use Rattle.std.proofs.lemmas.Map.Steps.{length-le_from_distinct_below}
 use Rattle.std.proofs.lemmas.Map.Views.{Contains-from_any, exact_unsigned_eq}
 use Rattle.rela_labels.specs.Letters.{has}
 use Rattle.rela_names.specs.Shortlex.{First, IsBefore}
-use Rattle.rela_names.proofs.ShortlexLaws.{before_irreflexive}
 use Rattle.rela_nfa.specs.Automaton.{Automaton}
 use Rattle.rela_closed.specs.Closed.{AreApart, IsClosed, ReachSets, ReachesLike, SameStates}
 use Rattle.rela_build.specs.Complement.{IsOver}
@@ -18,10 +17,10 @@ use Rattle.rela_closed.specs.Sets.{AreDistinct, AreReached}
 use Rattle.rela_closed.specs.Words.{IsUpTo}
 use Rattle.rela_closed.proofs.Alike.{apart_not_same, same_push, same_refl, same_sym, same_trans}
 use Rattle.rela_closed.proofs.JointSets.{same_sets, sets_same}
-use Rattle.rela_closed.proofs.LastLetters.{before_upto, upto_push, upto_transitive}
+use Rattle.rela_closed.proofs.LastLetters.{IsTransitive, before_upto, upto_push, upto_transitive}
 use Rattle.rela_closed.proofs.Searching.{words_apart}
 
-module _ (over : List Bool) (automata : List Automaton) (words : List (List ℕ)) (table : List (List (List ℕ)))
+module _ (transitive : IsTransitive) (irreflexive : (u : List ℕ) → ¬ IsBefore u u) (over : List Bool) (automata : List Automaton) (words : List (List ℕ)) (table : List (List (List ℕ)))
     (is : IsSearched over automata words table (length words) 0) (distinct : AreDistinct table) where
   -- a listed word that isn't after the word reaches the same states
   abbrev Told : List ℕ → Type 0
@@ -36,7 +35,7 @@ module _ (over : List Bool) (automata : List Automaton) (words : List (List ℕ)
         to_below,
         same_trans automata there (here ++ k ∷ []) (word ++ k ∷ [])
             (sets_same automata there (here ++ k ∷ []) (get_or table to []) (is.reached to to_below) (leads here (is.reached i below))) (same_push automata here word k same),
-        upto_transitive there (here ++ k ∷ []) (word ++ k ∷ []) early (upto_push here word k upto),
+        upto_transitive transitive there (here ++ k ∷ []) (word ++ k ∷ []) early (upto_push here word k upto),
       )
 
   told_on : (front back : List ℕ) → IsOver over back → Told front → Told (front ++ back)
@@ -79,7 +78,7 @@ module _ (over : List Bool) (automata : List Automaton) (words : List (List ℕ)
         least = λ u like before.
             let (j, j_below, same, upto) = told u like.0 in
             let at = same_place j i j_below below (same_trans automata (get_or words j []) u word same like.1) in
-            before_irreflexive u (before_upto u word u before (subst (λ m. IsUpTo (get_or words m []) u) at upto));
+            irreflexive u (before_upto transitive u word u before (subst (λ m. IsUpTo (get_or words m []) u) at upto));
       })
 
   pub search_ascending : AllPairs IsBefore words
@@ -88,7 +87,7 @@ module _ (over : List Bool) (automata : List Automaton) (words : List (List ℕ)
       (subst (λ w. IsBefore (get_or words i []) w) (get_or_default words j [] e within) (is.ascending i j before within))
 
   pub search_apart : AllPairs (AreApart automata) words
-  search_apart = words_apart over automata words table (length words) 0 is distinct
+  search_apart = words_apart transitive over automata words table (length words) 0 is distinct
 
   -- the places of the listed words that reach the same states as some words
   record ArePlaces (others : List (List ℕ)) : Type 0 where

@@ -9,10 +9,10 @@ use Rattle.rela_labels.specs.Letters.{has}
 use Rattle.rela_nfa.specs.Automaton.{Automaton, Move, moves_of}
 use Rattle.rela_nfa.specs.Runs.{HasStep, Reach, StepIn}
 use Rattle.rela_nfa.specs.StateSet.{Lists}
-use Rattle.rela_nfa.proofs.Reaching.{reach_each, reach_silent, reach_step}
 use Rattle.rela_closed.specs.Listing.{takes}
 use Rattle.rela_closed.specs.Sets.{AreReached, ReachedBy}
 use Rattle.rela_closed.specs.Splitting.{AreSorted, AreTogether, AreTold, IsSorted, LeadAlike, Sorted, Splitting}
+use Rattle.rela_closed.proofs.Reached.{reach_each, reach_silent, reach_step}
 use Rattle.rela_closed.proofs.Walks.{lists_as}
 
 -- each of the edges may be taken by both letters or by neither

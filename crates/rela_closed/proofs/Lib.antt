@@ -1,3 +1,4 @@
+pub mod Reached
 pub mod Accepting
 pub mod Alike
 pub mod Ascending

@@ -10,7 +10,6 @@ use Rattle.rela_labels.specs.Letters.{has}
 use Rattle.rela_nfa.specs.Automaton.{Automaton, IsAutomaton, IsFinal, IsMove, Move, moves_of}
 use Rattle.rela_nfa.specs.Runs.{Accepts, HasStep, Reach, StepIn}
 use Rattle.rela_nfa.specs.StateSet.{Lists}
-use Rattle.rela_nfa.proofs.Reaching.{reach_each, reach_start, reach_step}
 use Rattle.rela_closed.specs.Closed.{SameStates}
 use Rattle.rela_build.specs.Complement.{IsComplement, IsOver, ReachApart, ReachSame, TellsAll}
 use Rattle.rela_closed.specs.Listing.{AreAllEdges, AreListed, takes}
@@ -22,6 +21,7 @@ use Rattle.rela_closed.proofs.Alike.{same_refl}
 use Rattle.rela_closed.proofs.Edges.{letter_below}
 use Rattle.rela_closed.proofs.JointSets.{same_sets, sets_apart, sets_same}
 use Rattle.rela_closed.proofs.Listed.{all_met}
+use Rattle.rela_closed.proofs.Reached.{reach_each, reach_start, reach_step}
 use Rattle.rela_closed.proofs.WordLists.{words_first, words_of_length}
 use Rattle.rela_closed.proofs.Targets.{Contains-cons_cases, Contains-head, Contains-nil, Contains-one, Contains-tail}
 

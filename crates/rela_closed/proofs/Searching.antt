@@ -6,7 +6,6 @@ use Rattle.std.proofs.lemmas.List.{get_or_append_left, get_or_push, length_push,
 use Rattle.std.proofs.lemmas.List.Elements.{All-cons, All-get_or, All-nil, All-push}
 use Rattle.rela_labels.specs.Letters.{has}
 use Rattle.rela_names.specs.Shortlex.{IsBefore}
-use Rattle.rela_names.proofs.ShortlexLaws.{before_transitive}
 use Rattle.rela_nfa.specs.Automaton.{Automaton}
 use Rattle.rela_closed.specs.Closed.{AreApart, ReachSets}
 use Rattle.rela_build.specs.Complement.{IsOver}
@@ -16,7 +15,7 @@ use Rattle.rela_closed.specs.Splitting.{LeadAlike}
 use Rattle.rela_closed.specs.Words.{IsUpTo, words_of}
 use Rattle.rela_closed.specs.declared.step.Step.{Step}
 use Rattle.rela_closed.proofs.JointSets.{sets_apart}
-use Rattle.rela_closed.proofs.LastLetters.{before_last, before_push, nil_before, upto_transitive}
+use Rattle.rela_closed.proofs.LastLetters.{IsTransitive, before_last, before_push, nil_before, upto_transitive}
 use Rattle.rela_closed.proofs.Listed.{table_kept}
 use Rattle.rela_closed.proofs.WordLists.{word_by, words_of_push}
 
@@ -26,7 +25,7 @@ first_alone first old table n none numbered = elim numbered.grown [
   | inr new ↦ new.0 ∙ ap (λ (l : List (List (List ℕ))). l ++ first ∷ []) none
 ]
 
-module _ (over : List Bool) (automata : List Automaton) where
+module _ (transitive : IsTransitive) (over : List Bool) (automata : List Automaton) where
   -- the empty word alone
   pub search_start : (first : List (List ℕ)) (old table : List (List (List ℕ))) (n : ℕ) → old ≡ [] → AreNumbered first old table n → AreReached automata [] first
       → IsSearched over automata ([] ∷ []) table 0 0
@@ -58,12 +57,12 @@ module _ (over : List Bool) (automata : List Automaton) where
       | inr later ↦
           let (to, to_below, leads, upto) = so_far.out p j p_in (inr (refl, before)) j_read in
           let next : IsBefore (get_or words p [] ++ j ∷ []) (get_or words p [] ++ l ∷ []) = before_last (get_or words p []) j l (omega arith) in
-          (to, to_below, alike (get_or table to []) leads, upto_transitive (get_or words to []) (get_or words p [] ++ j ∷ []) (get_or words p [] ++ l ∷ []) upto (inr next))
+          (to, to_below, alike (get_or table to []) leads, upto_transitive transitive (get_or words to []) (get_or words p [] ++ j ∷ []) (get_or words p [] ++ l ∷ []) upto (inr next))
     ]
 
     ahead_more : p < length words → (i : ℕ) → i < length words → IsBefore (get_or words i []) (get_or words p [] ++ (k + 1) ∷ [])
     ahead_more within i below =
-        before_transitive (get_or words i []) (get_or words p [] ++ k ∷ []) (get_or words p [] ++ (k + 1) ∷ []) (so_far.ahead within i below)
+        transitive (get_or words i []) (get_or words p [] ++ k ∷ []) (get_or words p [] ++ (k + 1) ∷ []) (so_far.ahead within i below)
         (before_last (get_or words p []) k (k + 1) (omega arith))
 
     -- the letter leads to sets that were found before, or isn't one of the letters
@@ -98,7 +97,7 @@ module _ (over : List Bool) (automata : List Automaton) where
       ascending = so_far.ascending;
       ahead = λ within i below.
           let p_in : p < length words = omega arith in
-          before_transitive (get_or words i []) (get_or words p [] ++ k ∷ []) (get_or words (p + 1) [] ++ 0 ∷ []) (so_far.ahead p_in i below)
+          transitive (get_or words i []) (get_or words p [] ++ k ∷ []) (get_or words (p + 1) [] ++ 0 ∷ []) (so_far.ahead p_in i below)
           (before_push (get_or words p []) (get_or words (p + 1) []) k 0 (so_far.ascending p (p + 1) (omega arith) within));
       out = λ i j below left read. elim left [
         | inl less ↦ elim (cases_lt i p) [
@@ -237,12 +236,12 @@ module _ (over : List Bool) (automata : List Automaton) where
     search_sets distinct = record { words = words; count = refl; letters = so_far.read; apart = words_apart distinct }
 
 -- more sets are reached than the limit
-pub search_passed : (over : List Bool) (automata : List Automaton) (words : List (List ℕ)) (table : List (List (List ℕ))) (p k limit : ℕ) → IsSearched over automata words table p k
+pub search_passed : IsTransitive → (over : List Bool) (automata : List Automaton) (words : List (List ℕ)) (table : List (List (List ℕ))) (p k limit : ℕ) → IsSearched over automata words table p k
     → AreDistinct table → limit < length table → length table ≤ limit + 1 → ReachSets over automata (limit + 1)
-search_passed over automata words table p k limit searched distinct above upto =
+search_passed transitive over automata words table p k limit searched distinct above upto =
     let each = searched.each in
     let len : length words ≡ limit + 1 = omega arith in
-    subst (ReachSets over automata) len (search_sets over automata words table p k searched distinct)
+    subst (ReachSets over automata) len (search_sets transitive over automata words table p k searched distinct)
 
 -- the word that was put in is that of a step
 pub search_step : (over : List Bool) (automata : List Automaton) (steps steps' : List Step) (step : Step) (table : List (List (List ℕ))) (p k : ℕ) → steps' ≡ steps ++ step ∷ []

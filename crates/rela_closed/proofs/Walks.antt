@@ -7,8 +7,8 @@ use Rattle.std.proofs.lemmas.List.Elements.{All-get_or, All-from_get_or, Contain
 use Rattle.rela_nfa.specs.Automaton.{Automaton, IsAutomaton, IsMove, moves_of, states}
 use Rattle.rela_nfa.specs.Runs.{Reach, StepIn, HasStep}
 use Rattle.rela_nfa.specs.StateSet.{Lists}
-use Rattle.rela_nfa.proofs.Reaching.{reach_each}
 use Rattle.rela_closed.specs.Sets.{ReachedBy}
+use Rattle.rela_closed.proofs.Reached.{reach_each}
 use Rattle.rela_closed.proofs.Targets.{Contains-nil, step_within}
 
 no_step : (letter : Option ℕ) (q : ℕ) → ¬ StepIn [] letter q

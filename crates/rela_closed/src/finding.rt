@@ -10,6 +10,7 @@ use crate::reader::Reader;
 use crate::step::Step;
 use crate::table::Table;
 use rela_labels::LabelSet;
+use rela_names::{shortlex_is_irreflexive, shortlex_is_transitive};
 use rela_nfa::{BuildError, Nfa};
 use rela_pairs::within;
 use std::alloc::Global;
@@ -50,6 +51,8 @@ pub fn find<L: LabelSet>(
     ensures limit { IfErr result (λ e. e ≡ BuildError.Limit →
         ReachSets (L.letters over.now) (map (λ a. a.now) automata.now) (limit + 1)) }
 {
+    shortlex_is_irreflexive();
+    shortlex_is_transitive();
     let mut reader = Reader::new(alloc, automata)?;
     let mut table = Table::new(alloc);
     table.number(reader.first(alloc)?)?;
@@ -98,6 +101,7 @@ fn leave<'a, L: LabelSet>(
     ensures limit { IfErr result (λ e. e ≡ BuildError.Limit →
         ReachSets (L.letters over.now) reader.old (limit + 1)) }
 {
+    shortlex_is_transitive();
     let mut blocks = reader.blocks(alloc, over, table.get(number))?;
     for letter in 0..over.size() {
         if !blocks.has_left(letter) {

@@ -10,7 +10,7 @@ use Rattle.rela_closed.proofs.finding.find.Goals as goal
 pub loop-number-init : goal.loop-number-init
 loop-number-init g c =
     let searched : IsSearched (g.L.LabelSet.letters c.args.over.now) c.first.new.self ([] ∷ []) c.number.new.self 0 0 =
-    search_start (g.L.LabelSet.letters c.args.over.now) c.first.new.self (sets_in c.in_ok-first.field-0.items) c.new-table.result c.number.new.self c.in_ok-number.field-0 c.new-table.ensures
+    search_start c.shortlex_is_transitive.ensures (g.L.LabelSet.letters c.args.over.now) c.first.new.self (sets_in c.in_ok-first.field-0.items) c.new-table.result c.number.new.self c.in_ok-number.field-0 c.new-table.ensures
     c.in_ok-number.ensures.numbered (subst (λ l. AreReached l [] (sets_in c.in_ok-first.field-0.items)) (sym c.in_ok-first.ensures.same) c.in_ok-first.ensures.first) in
     record {
       automata = c.in_ok-first.ensures.same ∙ c.in_ok-reader.ensures;
@@ -28,18 +28,18 @@ module _ (g : Rattle.rela_closed.proofs.finding.find.Given.Over) (c : goal.After
       c.loop-number.number c.loop-number.invariant.automata c.loop-number.invariant.number (omega (arith, c.len.ensures.len, c.loop-number-test.false)) c.loop-number.invariant.searched
 
 pub returns-clause-closed : goal.returns-clause-closed
-returns-clause-closed g c = search_closed _ _ _ c.loop-number.table (found g c) c.len.ensures.distinct
+returns-clause-closed g c = search_closed c.shortlex_is_transitive.ensures c.shortlex_is_irreflexive.ensures _ _ _ c.loop-number.table (found g c) c.len.ensures.distinct
 
 pub returns-clause-first : goal.returns-clause-first
-returns-clause-first g c = search_first _ _ _ c.loop-number.table (found g c) c.len.ensures.distinct
+returns-clause-first g c = search_first c.shortlex_is_transitive.ensures c.shortlex_is_irreflexive.ensures _ _ _ c.loop-number.table (found g c) c.len.ensures.distinct
 
 pub returns-clause-ascending : goal.returns-clause-ascending
-returns-clause-ascending g c = search_ascending _ _ _ c.loop-number.table (found g c) c.len.ensures.distinct
+returns-clause-ascending g c = search_ascending c.shortlex_is_transitive.ensures c.shortlex_is_irreflexive.ensures _ _ _ c.loop-number.table (found g c) c.len.ensures.distinct
 
 pub returns-clause-apart : goal.returns-clause-apart
-returns-clause-apart g c = search_apart _ _ _ c.loop-number.table (found g c) c.len.ensures.distinct
+returns-clause-apart g c = search_apart c.shortlex_is_transitive.ensures c.shortlex_is_irreflexive.ensures _ _ _ c.loop-number.table (found g c) c.len.ensures.distinct
 
 pub returns-clause-told : goal.returns-clause-told
 returns-clause-told g c =
-    search_few _ _ (words_of c.loop-number.steps.items) c.loop-number.table (found g c) c.len.ensures.distinct c.args.limit
+    search_few c.shortlex_is_transitive.ensures c.shortlex_is_irreflexive.ensures _ _ (words_of c.loop-number.steps.items) c.loop-number.table (found g c) c.len.ensures.distinct c.args.limit
     (omega (arith, c.loop-number.invariant.searched.each, c.loop-number.invariant.few))

@@ -23,7 +23,7 @@ loop-letter-preserved-then-not-has_left g c =
       more = c.loop-letter.invariant.more;
       few = c.loop-letter.invariant.few;
       ordered = c.loop-letter.invariant.ordered;
-      searched = search_old over c.args.reader.now words table c.args.number letter c.loop-letter.invariant.searched (λ read. c.loop-letter.invariant.done letter read (inr none));
+      searched = search_old c.shortlex_is_transitive.ensures over c.args.reader.now words table c.args.number letter c.loop-letter.invariant.searched (λ read. c.loop-letter.invariant.done letter read (inr none));
       told = c.loop-letter.invariant.told;
       over = c.loop-letter.invariant.over;
       done =
@@ -51,7 +51,7 @@ loop-letter-preserved-then-branch-known g c =
     leads_from automata c.loop-letter.reader (get_or table p []) (sets_in c.get-in-loop-letter.result.now) next letter c.loop-letter.invariant.same c.get-in-loop-letter.ensures
     c.in_ok-next.ensures.leads in
     let same = same_table over automata words table table' p letter n next c.loop-letter.invariant.searched p_in numbered leads known in
-    let searched = searched_known over automata words table table' p letter n next c.loop-letter.invariant.searched p_in numbered leads known in
+    let searched = searched_known over automata words table table' p letter n next c.loop-letter.invariant.searched p_in numbered leads known c.shortlex_is_transitive.ensures in
     let kept : get_or table' p [] ≡ get_or table p [] = ap (λ t. get_or t p []) same in
     record {
       same = c.in_ok-next.ensures.same ∙ c.loop-letter.invariant.same;
@@ -63,7 +63,7 @@ loop-letter-preserved-then-branch-known g c =
           words table' kept;
       over = λ k there. c.loop-letter.invariant.over k (fewer_remain block c.loop-letter.blocks c.take.new.self fewer k there);
       done = done_after over automata words table p letter c.loop-letter.blocks c.take.new.self block c.loop-letter.invariant.told c.loop-letter.invariant.over is fewer c.loop-letter.invariant.done
-          words table' kept searched p_in (λ k led. subst (λ t. IsLed automata words t p k) (sym same) led);
+          words table' kept c.shortlex_is_transitive.ensures searched p_in (λ k led. subst (λ t. IsLed automata words t p k) (sym same) led);
     }
 
 pub returns-in_err-within-clause-limit : goal.returns-in_err-within-clause-limit
@@ -86,11 +86,11 @@ returns-in_err-within-clause-limit g c =
     c.in_ok-next.ensures.leads in
     let searched =
     searched_new over automata c.loop-letter.steps.items c.push.new.self.items table table' p letter n next c.in_ok-push.ensures.items c.loop-letter.invariant.searched p_in numbered leads
-    (c.loop-letter.invariant.over letter (is.within letter is.member)) new in
+    (c.loop-letter.invariant.over letter (is.within letter is.member)) new c.shortlex_is_transitive.ensures in
     let past = c.in_err-within.ensures.limit.1 in
     let e = err_from_is_err_and c.from_residual-in_err-within.result c.from_residual-in_err-within.ensures.1 in
     rw (e.1, e.2) (λ _.
-    search_passed over automata (words_of c.push.new.self.items) table' p (letter + 1) c.args.limit searched c.len.ensures.distinct (omega (arith, c.len.ensures.len, past))
+    search_passed c.shortlex_is_transitive.ensures over automata (words_of c.push.new.self.items) table' p (letter + 1) c.args.limit searched c.len.ensures.distinct (omega (arith, c.len.ensures.len, past))
     (omega (arith, table_one_longer automata next table table' n numbered, c.loop-letter.invariant.few)))
 
 pub loop-letter-preserved : goal.loop-letter-preserved
@@ -117,7 +117,7 @@ loop-letter-preserved g c =
     c.in_ok-next.ensures.leads in
     let read = c.loop-letter.invariant.over letter (is.within letter is.member) in
     let searched =
-    searched_new over automata steps steps' table table' p letter n next c.in_ok-push.ensures.items c.loop-letter.invariant.searched p_in numbered leads read past in
+    searched_new over automata steps steps' table table' p letter n next c.in_ok-push.ensures.items c.loop-letter.invariant.searched p_in numbered leads read past c.shortlex_is_transitive.ensures in
     let kept = table_kept automata next table table' n numbered p (omega (arith, c.loop-letter.invariant.more, c.requires.number)) in
     let p_in' : p < length (words_of steps') = omega (arith, searched.each, table_longer automata next table table' n numbered, c.loop-letter.invariant.more, c.requires.number) in
     record {
@@ -131,11 +131,11 @@ loop-letter-preserved g c =
           (words_of steps') table' kept;
       over = λ k there. c.loop-letter.invariant.over k (fewer_remain block c.loop-letter.blocks c.take.new.self fewer k there);
       done = done_after over automata words table p letter c.loop-letter.blocks c.take.new.self block c.loop-letter.invariant.told c.loop-letter.invariant.over is fewer c.loop-letter.invariant.done
-          (words_of steps') table' kept searched p_in'
-          (led_new over automata steps steps' table table' p letter n next c.in_ok-push.ensures.items c.loop-letter.invariant.searched p_in numbered leads read past);
+          (words_of steps') table' kept c.shortlex_is_transitive.ensures searched p_in'
+          (led_new over automata steps steps' table table' p letter n next c.in_ok-push.ensures.items c.loop-letter.invariant.searched p_in numbered leads read past c.shortlex_is_transitive.ensures);
     }
 
 pub returns-clause-searched : goal.returns-clause-searched
 returns-clause-searched g c =
-    search_next (g.L.LabelSet.letters c.args.over.now) c.args.reader.now (words_of c.loop-letter.steps.items) c.loop-letter.table c.args.number c.loop-letter.letter
+    search_next c.shortlex_is_transitive.ensures (g.L.LabelSet.letters c.args.over.now) c.args.reader.now (words_of c.loop-letter.steps.items) c.loop-letter.table c.args.number c.loop-letter.letter
     c.loop-letter.invariant.searched (no_more_letters (g.L.LabelSet.letters c.args.over.now) c.loop-letter.letter (omega (arith, c.size-letter-end.ensures.size, c.loop-letter-test.false)))
