@@ -13,17 +13,16 @@ use Rattle.rela_spec.specs.declared.tree.Modifier.{Modifier}
 use Rattle.rela_spec.specs.declared.tree.Modifier.TheVariants as m
 use Rattle.rela_translate.specs.Checked.{Checked, IsCheck, entries_of, markers_of}
 use Rattle.rela_expand.specs.Expand.{in_size, listing_of, outcome_of, symbols_in}
-use Rattle.rela_expand.specs.Measures.{Measures, measure_of, modifier_measures, unit_measures, body_measures, weight_of, weight_of_modifier}
+use Rattle.rela_expand.specs.Measures.{Measures, measure_of, modifier_measures, unit_measures, body_measures, of_terms, weight_of, weight_of_modifier}
 use Rattle.rela_expand.specs.Numbered.{numbered_body}
-use Rattle.rela_expand.specs.Numbering.{Listing, Step, nothing_numbered}
+use Rattle.rela_expand.specs.Numbering.{Listing, Numbering, Step, nothing_numbered}
 use Rattle.rela_expand.specs.Places.{Place, locations_at}
 use Rattle.rela_expand.specs.Refusals.{refusal_at}
 use Rattle.rela_expand.specs.declared.unfit.Unfit.{Unfit}
 use Rattle.rela_expand.specs.declared.unfit.Unfit.TheVariants as unfit
 use Rattle.rela_expand.specs.Shapes.{Shape, BodyShape, Unit as Unit', Then, Else, nodes_of_shape}
-use Rattle.rela_translate.specs.Terms.{before_of, after_of}
+use Rattle.rela_translate.specs.Terms.{before_of, after_of, terms_of}
 use Rattle.rela_translate.specs.declared.body.Core.{Core}
-use Rattle.rela_expand.proofs.BodySizes.{body_measure}
 use Rattle.rela_expand.proofs.Entries.{body_inside}
 use Rattle.rela_expand.proofs.Marks.{markers_counted}
 
@@ -60,18 +59,22 @@ large_is : {X : Type 0} (a b c d : ℕ) (x y z : X) → a ≤ 1000 → b ≤ 100
 large_is a b c d x y z ha hb (inl h) = rw (le-ltb 1000 a ha, le-ltb 1000 b hb, lt-ltb 20000 c h) refl
 large_is a b c d x y z ha hb (inr h) = rw (le-ltb 1000 a ha, le-ltb 1000 b hb, lt-ltb 4000000 d h, or_true (nat_lt 20000 c)) refl
 
-module _ (place : Place) (s : BodyShape) where
+-- what the law of the sizes of bodies says
+abbrev pub AreMeasured : Type 0
+AreMeasured = (place : Place) (locations : ℕ) (s : BodyShape) (n : Numbering) → of_terms (terms_of locations (numbered_body place s n).value) ≡ body_measures s
+
+module _ (measured : AreMeasured) (place : Place) (s : BodyShape) where
   abbrev pub step_of : Step Core
   step_of = numbered_body place s nothing_numbered
 
   before_depth : (locations : ℕ) → depth_of_rel (before_of locations step_of.value) ≡ (body_measures s).before.depth
-  before_depth locations = ap (λ (x : Measures). x.before.depth) (body_measure place locations s nothing_numbered)
+  before_depth locations = ap (λ (x : Measures). x.before.depth) (measured place locations s nothing_numbered)
 
   after_depth : (locations : ℕ) → depth_of_rel (after_of locations step_of.value) ≡ (body_measures s).after.depth
-  after_depth locations = ap (λ (x : Measures). x.after.depth) (body_measure place locations s nothing_numbered)
+  after_depth locations = ap (λ (x : Measures). x.after.depth) (measured place locations s nothing_numbered)
 
   all_nodes : (locations : ℕ) → nodes_of_rel (before_of locations step_of.value) + nodes_of_rel (after_of locations step_of.value) ≡ (body_measures s).before.nodes + (body_measures s).after.nodes
-  all_nodes locations = ap (λ (x : Measures). x.before.nodes + x.after.nodes) (body_measure place locations s nothing_numbered)
+  all_nodes locations = ap (λ (x : Measures). x.before.nodes + x.after.nodes) (measured place locations s nothing_numbered)
 
   abbrev at_locations : ℕ
   at_locations = locations_at place
@@ -145,12 +148,12 @@ outcome_parts : (check : Checked) {name : List ℕ} {at_most : Bool} {when : Pre
     → outcome_of check ≡ record { name = name; at_most = at_most; when = when; classes = classes; body = body }
 outcome_parts check a b c d e = λ i. record { name = a i; at_most = b i; when = c i; classes = d i; body = e i }
 
-pub check_is_made : (place : Place) (s : BodyShape) (at : ℕ) (check : Checked) (name : List ℕ) (at_most : Bool) (when : Predicate)
+pub check_is_made : AreMeasured → (place : Place) (s : BodyShape) (at : ℕ) (check : Checked) (name : List ℕ) (at_most : Bool) (when : Predicate)
     → check.name ≡ name → check.at_most ≡ at_most → check.when ≡ when
     → (numbered_body place s nothing_numbered).value ≡ check.body → (numbered_body place s nothing_numbered).after.classes ≡ map listing_of check.classes
     → (body_measures s).before.depth ≤ 1000 → (body_measures s).after.depth ≤ 1000 → (body_measures s).before.nodes + (body_measures s).after.nodes ≤ 20000
     → symbols_in (numbered_body place s nothing_numbered).after.classes ≤ 4000000
     → (step : Step Core) × (in_size (locations_at place) at (numbered_body place s nothing_numbered) ≡ Ok step)
     × (outcome_of check ≡ record { name = name; at_most = at_most; when = when; classes = step.after.classes; body = step.value })
-check_is_made place s at check name at_most when a b c body classes before after few listed =
-    (numbered_body place s nothing_numbered, is_sized place s at before after few listed, outcome_parts check a b c (sym classes) (sym body))
+check_is_made measured place s at check name at_most when a b c body classes before after few listed =
+    (numbered_body place s nothing_numbered, is_sized measured place s at before after few listed, outcome_parts check a b c (sym classes) (sym body))

@@ -7,9 +7,9 @@ use Rattle.std.specs.Cmp.Lexicographic.{pointwise}
 use Rattle.std.specs.HashMap.{get}
 use Rattle.std.proofs.lemmas.List.{append-nil}
 use Rattle.std.proofs.lemmas.Slice.Eq.{bytes_eq-Decides}
+use Rattle.std.proofs.lemmas.Bool.{eqb-true}
 use Rattle.std.specs.Str.{bytes_eq}
 use denote.Enum.Bare.{same_true, sameb}
-use Rattle.rela_locations.proofs.Parents.{equal_numbers}
 use Rattle.rela_locations.specs.contracts.members.By.{the_type as by_type}
 use Rattle.rela_spec.specs.declared.tree.Member.{Member}
 use Rattle.rela_expand.specs.Forms.{shape_at}
@@ -138,7 +138,7 @@ place_known place shapes old mid new at k known is table told q number found = b
     by_test : (b : Bool) → nat_eq at q ≡ b → cond b (Some k) (get nat_eq mid.places q) ≡ Some number → Gives (numbered place (shape_at shapes q)) (x.Class number) (table_of new)
     by_test true same found =
         subst (λ (cs : List Listing). Gives (numbered place (shape_at shapes q)) (x.Class number) cs) (sym table)
-        (subst (λ (p : ℕ). Gives (numbered place (shape_at shapes p)) (x.Class number) (table_of mid)) (equal_numbers at q same)
+        (subst (λ (p : ℕ). Gives (numbered place (shape_at shapes p)) (x.Class number) (table_of mid)) (eqb-true at q same)
         (subst (λ (n : ℕ). Gives (numbered place (shape_at shapes at)) (x.Class n) (table_of mid)) (from_some k number found)
         (gives_again (numbered place (shape_at shapes at)) (numbered_again place (shape_at shapes at)) (numbering_of old) (numbering_of mid) (x.Class k) is)))
     by_test false apart found =

@@ -2,12 +2,24 @@
 use Rattle.std.proofs.Common.{◌≡◌, ℕ, ◌-◌, ◌≤◌, zero, suc, ◌⊎◌, inl, inr, List, [], ◌∷◌, ◌++◌, length, take, drop, map, replicate, refl, ap, sym, subst, ◌∙◌, arith, append_assoc, length-drop}
 use Rattle.std.specs.List.{All, AllZip, concat}
 use Rattle.std.proofs.lemmas.List.{append-nil, length-take-le, take-append-drop}
-use Rattle.std.proofs.lemmas.List.Elements.{All-cons, All-head, All-tail}
+use Rattle.std.proofs.lemmas.List.Elements.{All-cons, All-head, All-tail, All-weaker}
 use Rattle.rela_rir.specs.Words.{WordSet, Concatenation, Star}
-use Rattle.rela_rir.proofs.Inclusions as within
-use Rattle.rela_rir.proofs.Inclusions.{Within}
 use Rattle.rela_expand.specs.Expansions.{half, tree_within}
 use Rattle.rela_expand.specs.LangW.{InOrder, OfSome, OfEach, Repeated}
+
+-- each word of the one set is in the other
+abbrev Within : WordSet → WordSet → Type 0
+Within X Y = (w : List ℕ) → X w → Y w
+
+joined_within : (X X' Y Y' : WordSet) → Within X X' → Within Y Y' → Within (Concatenation X Y) (Concatenation X' Y')
+joined_within X X' Y Y' f g w c = record { front = c.front; rest = c.rest; split = c.split; in_front = f c.front c.in_front; in_rest = g c.rest c.in_rest }
+
+either_within : (X X' Y Y' : WordSet) → Within X X' → Within Y Y' → Within (λ w. X w ⊎ Y w) (λ w. X' w ⊎ Y' w)
+either_within X X' Y Y' f g w (inl x) = inl (f w x)
+either_within X X' Y Y' f g w (inr y) = inr (g w y)
+
+starred_within : (X X' : WordSet) → Within X X' → Within (Star X) (Star X')
+starred_within X X' f w s = record { pieces = s.pieces; joined = s.joined; each = All-weaker X X' f s.pieces s.each }
 
 -- the two sets have the same words
 abbrev pub Equal : WordSet → WordSet → Type 0
@@ -26,16 +38,16 @@ pub through : (X Y Z : WordSet) → Equal X Y → Equal Y Z → Equal X Z
 through X Y Z e f = (λ w x. f.0 w (e.0 w x), λ w z. e.1 w (f.1 w z))
 
 pub joined : (X X' Y Y' : WordSet) → Equal X X' → Equal Y Y' → Equal (Concatenation X Y) (Concatenation X' Y')
-joined X X' Y Y' e f = (within.joined X X' Y Y' e.0 f.0, within.joined X' X Y' Y e.1 f.1)
+joined X X' Y Y' e f = (joined_within X X' Y Y' e.0 f.0, joined_within X' X Y' Y e.1 f.1)
 
 pub either : (X X' Y Y' : WordSet) → Equal X X' → Equal Y Y' → Equal (λ w. X w ⊎ Y w) (λ w. X' w ⊎ Y' w)
-either X X' Y Y' e f = (within.union X X' Y Y' e.0 f.0, within.union X' X Y' Y e.1 f.1)
+either X X' Y Y' e f = (either_within X X' Y Y' e.0 f.0, either_within X' X Y' Y e.1 f.1)
 
 pub both : (X X' Y Y' : WordSet) → Equal X X' → Equal Y Y' → Equal (λ w. X w × Y w) (λ w. X' w × Y' w)
-both X X' Y Y' e f = (within.meet X X' Y Y' e.0 f.0, within.meet X' X Y' Y e.1 f.1)
+both X X' Y Y' e f = (λ w h. (e.0 w h.0, f.0 w h.1), λ w h. (e.1 w h.0, f.1 w h.1))
 
 pub starred : (X X' : WordSet) → Equal X X' → Equal (Star X) (Star X')
-starred X X' e = (within.star X X' e.0, within.star X' X e.1)
+starred X X' e = (starred_within X X' e.0, starred_within X' X e.1)
 
 pub others : (P X X' : WordSet) → Equal X X' → Equal (λ w. P w × (¬ X w)) (λ w. P w × (¬ X' w))
 others P X X' e = (λ w h. (h.0, λ x. h.1 (e.1 w x)), λ w h. (h.0, λ x. h.1 (e.0 w x)))

@@ -1,6 +1,8 @@
 -- What members pick, each once.
 use Rattle.std.proofs.Common.{◌≡◌, ℕ, ◌+◌, ◌<◌, Bool, true, false, ◌||◌, List, [], ◌∷◌, ◌++◌, length, get_or, take, map, Ok, Err, refl, ap, sym, ◌∙◌}
 use Rattle.std.specs.List.{list_any}
+use Rattle.std.proofs.lemmas.List.{take_more}
+use Rattle.std.proofs.lemmas.List.Folds.{list_any-append}
 use Rattle.std.specs.Prelude.{not, if◌then◌else◌}
 use Rattle.indexmap.specs.IndexSet.{insert_key}
 use Rattle.rela_locations.specs.Names.{has_name}
@@ -8,7 +10,6 @@ use Rattle.rela_locations.specs.Network.{by_level, is_finer, members_of, names_b
 use Rattle.rela_locations.specs.Tables.{has_number}
 use Rattle.rela_locations.specs.declared.members.By.{By}
 use Rattle.rela_lex.specs.declared.error.SpecError.TheVariants.{FinerLevel, UnknownLocation}
-use Rattle.rela_locations.proofs.Known.{any_more}
 use Rattle.rela_spec.specs.declared.tree.Member.{Member}
 use Rattle.rela_spec.specs.declared.tree.Member.TheVariants as m
 use Rattle.rela_expand.specs.Numbered.{or_none, named_by}
@@ -77,6 +78,12 @@ module _ {X : Type 0} (lists : X → List ℕ) (eq : X → X → Bool) (same : (
 any_of_map : {X Y : Type 0} (p : Y → Bool) (f : X → Y) (xs : List X) → list_any p (map f xs) ≡ list_any (λ x. p (f x)) xs
 any_of_map p f [] = refl
 any_of_map p f (x ∷ xs) = ap (λ (b : Bool). p (f x) || b) (any_of_map p f xs)
+
+-- a test of one more
+any_more : {X : Type 0} (p : X → Bool) (xs : List X) (k : ℕ) (x : X) → k < length xs → x ≡ get_or xs k x → list_any p (take (k + 1) xs) ≡ (list_any p (take k xs) || p x)
+any_more p xs k x within is =
+    let front : take (k + 1) xs ≡ take k xs ++ x ∷ [] = take_more xs k x within ∙ ap (λ y. take k xs ++ y ∷ []) (sym is) in
+    ap (list_any p) front ∙ list_any-append p (take k xs) (x ∷ []) ∙ ap (λ b. list_any p (take k xs) || b) (or_nothing (p x))
 
 -- the numbers of one member more
 pub one_member_more : (place : Place) (members : List Member) (i : ℕ) (member : Member) (n : ℕ) → i < length members → member ≡ get_or members i member

@@ -1,6 +1,6 @@
 //! Lists of specifications as binary trees of bodies.
 
-ghost use Rattle.std.specs.Prelude.{◌≡◌, ◌<◌, ◌≤◌, length, map, IfOk};
+ghost use Rattle.std.specs.Prelude.{◌<◌, ◌≤◌, length, map, IfOk};
 ghost use Rattle.std.specs.List.{All};
 ghost use Rattle.rela_expand.specs.Bodies.{AreBodies, Grows, StandsFor, bodies_of, body_at, body_joined};
 ghost use Rattle.rela_expand.specs.Expansions.{tree_of};

@@ -1,12 +1,10 @@
 //! Expanded path expressions as a graph. What a name stands for is there once, however often it is
 //! used, so that the graph stays linear in the text, and its sizes are known before it is unfolded.
 
-ghost use Rattle.std.specs.Prelude.{◌≡◌, ◌+◌, ◌-◌, ◌<◌, ◌≤◌, [], ◌∷◌, ◌++◌, length, map, max, replicate, IfOk, OnOk};
-ghost use Rattle.std.specs.List.{All};
-ghost use Rattle.rela_expand.specs.Expansions.{tree_of};
-ghost use Rattle.rela_expand.specs.Forms.{AreForms, Extends, StandsAt, behind, capped, capped_size, joined, shape_at, shape_in, shapes_of, size_of};
+ghost use Rattle.std.specs.Prelude.{◌≡◌, ◌+◌, ◌-◌, ◌<◌, ◌≤◌, [], length, max, IfOk};
+ghost use Rattle.rela_expand.specs.Forms.{AreForms, Extends, StandsAt, behind, capped, capped_size, shape_at, shape_in, shapes_of, size_of};
 ghost use Rattle.rela_expand.specs.Measures.{Measure, over, over_two};
-ghost use Rattle.rela_expand.specs.Shapes.{Empty, sequence_shape};
+ghost use Rattle.rela_expand.specs.Shapes.{Empty};
 
 use rela_spec::Member;
 use std::alloc::{AllocError, Global};

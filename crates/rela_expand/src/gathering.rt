@@ -1,6 +1,6 @@
 //! From trees of path expressions to forms.
 
-ghost use Rattle.std.specs.Prelude.{◌≡◌, ◌≢◌, ◌<◌, Err, Ok, IfErr, IfOk, OnErr, [], ◌∷◌, ◌≤◌, false, length, map};
+ghost use Rattle.std.specs.Prelude.{◌≡◌, ◌≢◌, ◌<◌, Err, Ok, IfErr, IfOk, [], ◌∷◌, ◌≤◌, false, length, map};
 ghost use Rattle.rela_json.specs.Results.{ok_or};
 ghost use Rattle.rela_lex.specs.declared.error.SpecError.TheVariants.{Memory, UnknownName};
 ghost use Rattle.rela_expand.specs.Expansions.{tree_of};

@@ -17,6 +17,8 @@ ghost use Rattle.rela_expand.specs.Shapes.{BodyShape, Shapes, body_shape_of};
 ghost use Rattle.rela_translate.specs.Terms.{terms_of};
 ghost use Rattle.rela_expand.specs.Walk.{shaped};
 
+use rela_rir::{sizes_of_path_terms, sizes_of_rel_terms};
+
 /// Expanding a specification, where names stand for what their shapes expand to, is shaping it and
 /// then numbering the classes and markers of its shape.
 #[tactic(auto, using(crate::proofs::Expanding::spec_goes_by))]
@@ -27,11 +29,13 @@ fn expansions_go_by_shapes()
 {}
 
 /// The terms of a numbered body are as large as its shape tells before it is numbered.
-#[tactic(auto, using(crate::proofs::BodySizes::body_measure))]
-fn bodies_are_as_large_as_their_shapes()
+pub(crate) fn bodies_are_as_large_as_their_shapes()
     ensures { (place : Place) (locations : ℕ) (s : BodyShape) (n : Numbering) →
         of_terms (terms_of locations (numbered_body place s n).value) ≡ body_measures s }
-{}
+{
+    sizes_of_path_terms();
+    sizes_of_rel_terms();
+}
 
 /// The checks of a specification, or its first refusal, are those that its shapes give.
 #[tactic(auto, using(crate::proofs::ShapedChecks::checks_by_shapes))]

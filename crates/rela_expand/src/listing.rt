@@ -1,7 +1,6 @@
 //! The symbols that a class lists.
 
-ghost use Rattle.std.specs.Prelude.{◌≡◌, ℕ, ◌||◌, IfOk, OnOk, map};
-ghost use Rattle.rela_locations.specs.Tables.{has_number};
+ghost use Rattle.std.specs.Prelude.{◌≡◌, ℕ, IfOk, map};
 ghost use Rattle.rela_expand.specs.Known.{picked};
 ghost use Rattle.rela_expand.specs.Numbered.{or_none};
 ghost use Rattle.rela_expand.specs.Places.{in_some, located};

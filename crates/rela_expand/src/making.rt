@@ -18,6 +18,7 @@ use crate::body_unfolding::unfold_body;
 use crate::entry::Entry;
 use crate::fitting::fit;
 use crate::forms::Forms;
+use crate::laws::bodies_are_as_large_as_their_shapes;
 use crate::numbers::Numbers;
 use crate::unfit::Unfit;
 use crate::unfolding::MAX_LISTED;
@@ -81,6 +82,7 @@ pub(crate) fn made(
         (body_at (bodies_of (shapes_of forms.now.forms.items) bodies.now.forms.items) place)
         nothing_numbered) ≡ Err e) }
 {
+    bodies_are_as_large_as_their_shapes();
     fit(bodies.size(place), heading.at)?;
     let (name, when) = copied(alloc, heading)?;
     match unfolded(alloc, locations, level, forms, bodies, place) {

@@ -1,6 +1,6 @@
 //! The numbers of the classes and markers of a check.
 
-ghost use Rattle.std.specs.Prelude.{◌≡◌, ◌+◌, ◌-◌, ◌<◌, ◌^◌, List, [], length, map, IfOk, OnOk};
+ghost use Rattle.std.specs.Prelude.{◌≡◌, ◌-◌, ◌<◌, ◌^◌, List, length, IfOk, OnOk};
 ghost use Rattle.rela_expand.specs.Known.{ArePlaced, AreWritten};
 ghost use Rattle.rela_expand.specs.Numbered.{placed};
 ghost use Rattle.rela_expand.specs.Numbering.{nothing_numbered};

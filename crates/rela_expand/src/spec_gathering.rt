@@ -1,10 +1,10 @@
 //! From trees of specifications to bodies.
 
-ghost use Rattle.std.specs.Prelude.{◌≡◌, ◌≢◌, ◌<◌, ◌≤◌, Err, Ok, IfErr, IfOk, List, OnOk, length, map};
+ghost use Rattle.std.specs.Prelude.{◌≡◌, ◌≢◌, ◌<◌, Err, Ok, IfErr, IfOk, List, OnOk, length, map};
 ghost use Rattle.std.specs.List.{All};
 ghost use Rattle.rela_json.specs.Results.{ok_or};
 ghost use Rattle.rela_lex.specs.declared.error.SpecError.TheVariants.{Memory, UnknownName};
-ghost use Rattle.rela_expand.specs.Bodies.{AreBodies, Grows, StandsFor, behind_modifier, bodies_of, body_at, body_joined};
+ghost use Rattle.rela_expand.specs.Bodies.{AreBodies, Grows, StandsFor, bodies_of, body_at, body_joined};
 ghost use Rattle.rela_expand.specs.BodyGathers.{AreBodiesKnown, AreBodiesMade, IsBody, IsModifier, modifier_shape, spec_shape, specs_named, unit_shape};
 ghost use Rattle.rela_expand.specs.Expansions.{tree_of};
 ghost use Rattle.rela_expand.specs.Forms.{Extends, shapes_of};

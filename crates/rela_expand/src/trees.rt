@@ -1,6 +1,6 @@
 //! Lists of parts as binary trees of forms.
 
-ghost use Rattle.std.specs.Prelude.{◌≡◌, ◌+◌, ◌<◌, ◌≤◌, length, map, replicate, IfOk};
+ghost use Rattle.std.specs.Prelude.{◌+◌, ◌<◌, ◌≤◌, length, map, replicate, IfOk};
 ghost use Rattle.std.specs.List.{All};
 ghost use Rattle.rela_expand.specs.Expansions.{tree_of};
 ghost use Rattle.rela_expand.specs.Forms.{Extends, StandsAt, joined, shape_at, shapes_of};

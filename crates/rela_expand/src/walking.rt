@@ -10,7 +10,7 @@ ghost use Rattle.rela_spec.specs.declared.tree.Item.TheVariants.{Path as PathIte
 ghost use Rattle.rela_expand.specs.Expand.{not_full, outcome_of, unused};
 ghost use Rattle.rela_expand.specs.Scopes.{meaning_of};
 ghost use Rattle.rela_expand.specs.Walk.{Seen, at_start, with_shaped};
-ghost use Rattle.rela_expand.specs.Walks.{AreTaken, IsWalk, names_of, seen_of, taken_with};
+ghost use Rattle.rela_expand.specs.Walks.{AreTaken, IsWalk, seen_of, taken_with};
 
 use crate::bodies::Bodies;
 use crate::forms::Forms;
