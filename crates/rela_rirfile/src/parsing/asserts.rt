@@ -1,9 +1,9 @@
 //! What is asserted: a word, and behind it the parts in brackets.
 
-ghost use Rattle.std.specs.Prelude.{◌≡◌, ◌≢◌, ◌+◌, ◌<◌, ◌≤◌, Ok, Err, length, IfOk, IfErr, OnOk};
+ghost use Rattle.std.specs.Prelude.{◌≡◌, ◌≢◌, ◌<◌, ◌≤◌, Ok, Err, length, IfOk, IfErr, OnOk};
 ghost use Rattle.rela_lex.specs.declared.error.SpecError.TheVariants.{Memory};
-ghost use Rattle.rela_rirfile.specs.Depth.{deepest, set_depth};
-ghost use Rattle.rela_rirfile.specs.ReadTrees.{read_tree, read_one_tree, read_two_trees, read_two_sets};
+ghost use Rattle.rela_rirfile.specs.Depth.{deepest};
+ghost use Rattle.rela_rirfile.specs.ReadTrees.{read_tree, read_one_tree, read_two_trees};
 
 use crate::parsing::pairs::{boxed, paired};
 use crate::parsing::sets::two_sets;

@@ -1,6 +1,6 @@
 //! Members: a location of the level, the locations within what a name picks, `drop` or `loop`.
 
-ghost use Rattle.std.specs.Prelude.{◌≡◌, ◌≢◌, ◌<◌, ◌≤◌, Ok, Err, length, IfOk, IfErr, OnOk};
+ghost use Rattle.std.specs.Prelude.{◌≡◌, ◌≢◌, ◌<◌, Ok, Err, length, IfOk, IfErr, OnOk};
 ghost use Rattle.rela_lex.specs.declared.error.SpecError.TheVariants.{Memory};
 ghost use Rattle.rela_rirfile.specs.ReadWords.{read_member, read_picked};
 
