@@ -4,7 +4,7 @@ ghost use Rattle.std.specs.List.{All};
 ghost use Rattle.std.specs.Option.{ForSome};
 ghost use Rattle.rela_letter_nfa.specs.LetterAutomaton.{states};
 ghost use Rattle.rela_letter_image.specs.Coarse.{coarse_of};
-ghost use Rattle.rela_letter_image.specs.Needs.{AreAhead, IsEdgeAhead, IsToldAhead, IsWithin};
+ghost use Rattle.rela_letter_image.specs.Needs.{AreAhead, IsEdgeAhead, IsWithin};
 
 use crate::needs::{is_within, with_letter, word_at};
 use crate::product::coarse_letter;
