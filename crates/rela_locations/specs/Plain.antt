@@ -1,5 +1,5 @@
 -- Groups and devices that stand in a file as they are mostly written.
-use Rattle.std.specs.Prelude.{◌≡◌, ℕ, List, [], ◌∷◌, Result, Ok, codes, map}
+use Rattle.std.specs.Prelude.{◌≡◌, ℕ, List, ◌∷◌, Result, Ok, codes, map}
 use Rattle.json.specs.Token.{Token, begin_array, begin_object, key}
 use Rattle.serde_json.specs.Data.{Data}
 use Rattle.rela_json.specs.Results.{◌>>=◌}

@@ -1,7 +1,7 @@
 //! The walk of the file: groups in order, in each its devices, in each device its tags and then its
 //! interfaces. The first fault of the walk is the answer.
 
-ghost use Rattle.std.specs.Prelude.{◌≡◌, ◌≢◌, Ok, Err, [], ◌∷◌, map, option_map, is_ok, IsTrue, IfOk, IfErr, IsErrOf};
+ghost use Rattle.std.specs.Prelude.{◌≡◌, ◌≢◌, Ok, Err, [], map, option_map, is_ok, IsTrue, IfOk, IfErr, IsErrOf};
 ghost use Rattle.std.specs.List.{flat_map};
 ghost use Rattle.serde_json.specs.View.{view};
 ghost use Rattle.rela_names.specs.declared.level.Level.TheVariants as level;
