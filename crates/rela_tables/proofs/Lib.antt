@@ -1,3 +1,5 @@
+pub mod StepLaws
+pub mod Places
 pub mod Loops
 pub mod WalkLaws
 pub mod PrefixLaws

@@ -12,7 +12,7 @@ use Rattle.rela_json.specs.Results.{ok_or}
 use Rattle.rela_flows.specs.declared.prefix.Ipv4Prefix.{Ipv4Prefix}
 use Rattle.rela_locations.specs.Network.{Network}
 use Rattle.rela_snapshot.specs.Steps.{IsAnswer}
-use Rattle.rela_snapshot.proofs.StepLaws.{is_answer, then_next, then_refused, value_next, value_refused}
+use Rattle.rela_tables.proofs.StepLaws.{is_answer, then_next, then_refused, value_next, value_refused}
 use Rattle.rela_tables.specs.declared.route.Route.{Route}
 use Rattle.rela_tables.specs.declared.table.Table.{Table}
 use Rattle.rela_tables.specs.Distinct.{devices_of, is_same_key, key_of, keys_of}

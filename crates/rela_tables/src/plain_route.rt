@@ -12,7 +12,7 @@ ghost use Rattle.rela_tables.specs.Located.{AreInterfaces, IsRouteIn};
 ghost use Rattle.rela_tables.specs.Plain.{ArePlainRoutes, IsPlainRoute, entry_of};
 ghost use Rattle.rela_tables.specs.RouteParts as parts;
 ghost use Rattle.rela_tables.specs.Routes as spec;
-ghost use Rattle.rela_tokens.specs.Pieces.{list, text as text_of};
+ghost use Rattle.rela_tokens.specs.Pieces.{text as text_of};
 
 use crate::route::{MAX_ROUTES, Route, ipv4_prefix};
 use crate::symbols::interface_named;

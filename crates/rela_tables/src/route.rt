@@ -1,6 +1,6 @@
 //! The routes of a table.
 
-ghost use Rattle.std.specs.Prelude.{◌≡◌, ◌≢◌, ◌+◌, ◌<◌, ◌≤◌, ◌^◌, [], ◌∷◌, ◌++◌, Ok, Err, IfOk, IfErr, OnOk, IfSome, length, map, option_map, vec_len};
+ghost use Rattle.std.specs.Prelude.{◌≡◌, ◌≢◌, ◌+◌, ◌<◌, ◌^◌, [], ◌∷◌, ◌++◌, Ok, Err, IfOk, IfErr, OnOk, IfSome, length, map, option_map, vec_len};
 ghost use Rattle.std.specs.List.{All, IsDistinct};
 ghost use Rattle.indexmap.specs.IndexSet.{IsUnique};
 ghost use Rattle.serde_json.specs.View.{view};

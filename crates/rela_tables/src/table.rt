@@ -1,7 +1,7 @@
 //! The tables of a file.
 
-ghost use Rattle.std.specs.Prelude.{◌≡◌, ◌≢◌, ◌*◌, ◌<◌, ◌≤◌, [], ◌∷◌, ◌++◌, Ok, Err, IfOk, IfErr, OnOk, IsOk, IsErrOf, length, map, nat_eq, vec_len};
-ghost use Rattle.std.specs.List.{All, IsDistinct};
+ghost use Rattle.std.specs.Prelude.{◌≡◌, ◌≢◌, ◌*◌, ◌<◌, ◌≤◌, [], ◌∷◌, ◌++◌, Ok, Err, IfOk, IfErr, OnOk, IsOk, IsErrOf, length, map, nat_eq};
+ghost use Rattle.std.specs.List.{All};
 ghost use Rattle.indexmap.specs.IndexSet.{IsUnique};
 ghost use Rattle.serde_json.specs.View.{view};
 ghost use Rattle.rela_locations.specs.Network.{alphabet_of};

@@ -1,6 +1,6 @@
 use Rattle.rela_names.specs.declared.level.Level.TheVariants.{Device}
 use Rattle.rela_locations.specs.Network.{alphabet_of}
-use Rattle.rela_snapshot.proofs.Places.{is_place, found_within}
+use Rattle.rela_tables.proofs.Places.{is_place, found_within}
 use Rattle.rela_tables.proofs.symbols.find_device.Goals as goal
 
 pub returns-clause-place : goal.returns-clause-place

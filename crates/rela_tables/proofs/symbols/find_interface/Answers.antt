@@ -1,4 +1,4 @@
-use Rattle.rela_snapshot.proofs.Places.{is_place, found_within}
+use Rattle.rela_tables.proofs.Places.{is_place, found_within}
 use Rattle.rela_tables.proofs.symbols.find_interface.Goals as goal
 
 pub returns-clause-place : goal.returns-clause-place
