@@ -3,6 +3,9 @@ use Rattle.rela_minimise.proofs.Paired.{pair_at, pair_grown, pairs_apart}
 use Rattle.rela_minimise.specs.declared.class_pairs.ClassPair.{ClassPair}
 use Rattle.rela_minimise.proofs.class_pairs.ClassPairs.number.Goals as goal
 
+pub invariant_of-self-in_err-note : goal.invariant_of-self-in_err-note
+invariant_of-self-in_err-note c = pairs_apart c.self.inside.found.keys c.insert_full.new.self.keys c.args.pair c.self.invariant c.in_ok-number.ensures.keys
+
 pub invariant_of-self-2 : goal.invariant_of-self-2
 invariant_of-self-2 c = pairs_apart c.self.inside.found.keys c.insert_full.new.self.keys c.args.pair c.self.invariant c.in_ok-number.ensures.keys
 
