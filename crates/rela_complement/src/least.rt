@@ -10,6 +10,7 @@ ghost use Rattle.rela_complement.specs.Telling.{TellsWords};
 use rela_labels::WideSet;
 use rela_minimise::merge_equivalent;
 use rela_nfa::{BuildError, Nfa};
+use rela_pairs::pass_limit;
 use rela_reduce::{past_detours, reduce};
 use rela_subset::{Dfa, determinise};
 use std::alloc::Global;
@@ -46,8 +47,10 @@ pub fn least_over(
     }
     match least_by_sets(alloc, a, over, few) {
         Ok(least) => Ok(least),
-        Err(BuildError::Limit) => least_by_fewer_sets(alloc, a, over, limit),
-        Err(BuildError::Memory) => Err(BuildError::Memory),
+        Err(error) => {
+            pass_limit(error)?;
+            least_by_fewer_sets(alloc, a, over, limit)
+        }
     }
 }
 
