@@ -3,3 +3,4 @@ pub mod ActWords
 pub mod Covering
 pub mod Searching
 pub mod MappedMembers
+pub mod ActLetters

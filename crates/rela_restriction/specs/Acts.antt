@@ -1,5 +1,5 @@
 -- What a transducer does for a pair of words, as one word: its acts, and the letters that stand for them.
-use Rattle.std.specs.Prelude.{ℕ, ◌+◌, ◌<◌, List, [], ◌∷◌, map}
+use Rattle.std.specs.Prelude.{◌≡◌, ℕ, ◌+◌, ◌<◌, ◌⊎◌, List, [], ◌∷◌, map, Contains}
 use Rattle.std.specs.List.{All}
 
 -- a symbol is read, or written, or read and written again
@@ -22,6 +22,11 @@ act_letter read n (Keeps s) = n + (n + read s)
 
 abbrev pub act_letters : (ℕ → ℕ) → ℕ → List Act → List ℕ
 act_letters read n acts = map (act_letter read n) acts
+
+-- the letter, over n letters of symbols, is that of an act that reads nothing, or one of the inputs
+abbrev pub IsActOn : ℕ → List ℕ → ℕ → Type 0
+IsActOn n inputs x = ((k : ℕ) × (k < n) × (x ≡ n + k))
+    ⊎ ((k : ℕ) × Contains inputs k × ((x ≡ k) ⊎ (x ≡ n + (n + k))))
 
 -- each symbol is read as one of the n letters
 abbrev pub AreOfLetters : (ℕ → ℕ) → ℕ → List Act → Type 0

@@ -2,6 +2,7 @@
 ghost use Rattle.std.specs.Prelude.{◌≡◌, ℕ, ◌+◌, ◌<◌, ◌^◌, true, Contains, IfOk, length};
 ghost use Rattle.std.specs.List.{All};
 ghost use Rattle.rela_labels.specs.Letters.{has};
+ghost use Rattle.rela_restriction.specs.Acts.{IsActOn};
 ghost use Rattle.rela_restriction.specs.Automata.{act_count};
 
 use crate::letters::letters_between;
@@ -25,6 +26,8 @@ pub(crate) fn acts_on<L: LabelSet>(
         has (L.letters set) k ≡ true) }
     ensures keeps { IfOk result (λ set. (k : ℕ) → Contains inputs.now k →
         has (L.letters set) (letters + (letters + k)) ≡ true) }
+    ensures only { IfOk result (λ set. (x : ℕ) → has (L.letters set) x ≡ true →
+        IsActOn letters inputs.now x) }
 {
     let twice = letters + letters;
     let mut set: L = letters_between(alloc, letters + twice, letters, twice)?;

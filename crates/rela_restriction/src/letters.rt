@@ -17,6 +17,8 @@ pub(crate) fn letters_between<L: LabelSet>(
     ensures size { IfOk result (λ set. length (L.letters set) ≡ size) }
     ensures all { IfOk result (λ set. (k : ℕ) → from ≤ k → k < to →
         has (L.letters set) k ≡ true) }
+    ensures only { IfOk result (λ set. (k : ℕ) → has (L.letters set) k ≡ true →
+        (from ≤ k) × (k < to)) }
 {
     let mut set = L::none(alloc, size)?;
     for letter in from..to {

@@ -6,4 +6,5 @@ abbrev pub invariant-loop-letter : goal.invariant-loop-letter
 invariant-loop-letter g l = record {
   size : length (g.L.LabelSet.letters l.set) ≡ l.size;
   all : (k : ℕ) → l.from ≤ k → k < l.letter → has (g.L.LabelSet.letters l.set) k ≡ true;
+  only : (k : ℕ) → has (g.L.LabelSet.letters l.set) k ≡ true → (l.from ≤ k) × (k < l.to);
 }
