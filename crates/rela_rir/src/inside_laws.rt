@@ -1,6 +1,6 @@
 //! What is inside a term, by its form: the counted terms, and the complements in the order in
 //! which they are numbered. Each law is a function that does nothing, and its contract is the law.
-ghost use Rattle.std.specs.Prelude.{◌≡◌, ℕ, ◌⊎◌, ◌↔◌, List, [], ◌∷◌, ◌++◌, Contains};
+ghost use Rattle.std.specs.Prelude.{◌≡◌, ℕ, ◌⊎◌, ◌↔◌, [], ◌∷◌, ◌++◌, Contains};
 ghost use Rattle.rela_rir.specs.Complements.{complemented_parts, complemented_parts_r};
 ghost use Rattle.rela_rir.specs.Limit.{Reached, ReachedR, ReachedInside, ReachedInsideR, AreTold, ForcedInside, ForcedInsideR};
 

@@ -1,6 +1,6 @@
 //! How the states of automata and transducers stand for places of terms. Each law is a function
 //! that does nothing, and its contract is the law.
-ghost use Rattle.std.specs.Prelude.{ℕ, ◌≡◌, ◌↔◌, ◌⊎◌, Option, List};
+ghost use Rattle.std.specs.Prelude.{ℕ, ◌↔◌, ◌⊎◌, Option, List};
 ghost use Rattle.std.specs.Option.{ForSome};
 ghost use Rattle.rela_names.specs.Shortlex.{IsBefore};
 ghost use Rattle.rela_rir.specs.Meaning.{IsPathWord};
