@@ -1,6 +1,6 @@
 //! The body of a check: zones of paths, and what has to become of them.
 
-use rela_names::{Boxed, List};
+use rela_names::Boxed;
 
 /// A set of paths.
 #[derive(PartialEq, Eq, Drop)]

@@ -1,7 +1,6 @@
 //! The terms of one unit: a zone and its modifier. The only error is want of memory.
 ghost use Rattle.std.specs.Prelude.{◌≡◌, IfOk, Ok, length};
 ghost use Rattle.std.specs.List.{All};
-ghost use Rattle.rela_translate.specs.Zones.{drop_symbol, marker_symbol};
 ghost use Rattle.rela_translate.specs.Terms.{path_of, unit_terms, without, outside};
 ghost use Rattle.rela_translate.specs.Checked.{change_markers};
 ghost use Rattle.rela_translate.specs.Settings.{IsMarker};
