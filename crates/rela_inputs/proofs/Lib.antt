@@ -1,3 +1,4 @@
+pub mod ChainLaws
 pub mod GivenLaws
 pub mod InputLaws
 pub mod TextLaws

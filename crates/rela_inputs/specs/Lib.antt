@@ -1,4 +1,5 @@
 pub mod Answer
+pub mod Chained
 pub mod Given
 pub mod Halts
 pub mod Inputs

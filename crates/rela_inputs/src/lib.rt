@@ -10,6 +10,7 @@ mod laws;
 mod loading;
 mod reading;
 mod refusal;
+mod step_laws;
 mod texts;
 
 pub use answer::{
@@ -25,4 +26,5 @@ pub use loading::{
 };
 pub use reading::{Halt, MAX_FILE_BYTES, read_input};
 pub use refusal::{Input, Reason, Refusal, refusal_line};
+pub use step_laws::{Steps, calls_inside_end, steps_chain, texts_are_refused};
 pub use texts::{pair_flows, read_locations, read_snapshot, read_tables};
