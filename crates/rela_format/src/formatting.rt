@@ -7,10 +7,11 @@ ghost use Rattle.rela_format.specs.Formats.{Formats};
 ghost use Rattle.rela_inputs.specs.Given.{Equals, IsGiven, seen};
 ghost use Rattle.rela_inputs.specs.Reading.{Ends};
 
-use rela_inputs::{Answer, Halt, MET, load_tree};
+use rela_inputs::{Answer, Halt, MET, load_tree, steps_chain};
 use rela_io::Files;
 use rela_print::print;
 use std::alloc::Global;
+use std::marker::Brand;
 
 /// Reads the specification in the file of this name, and makes its canonical text. Time and space:
 /// linear in the file and the text.
@@ -27,6 +28,7 @@ pub fn format<F: Files>(alloc: Global, files: &mut F, spec: &str) -> Result<Answ
         HoldsName (F.holds files.old) spec.now →
         result ≢ Err Halt.ReadFault }
 {
+    steps_chain::<Brand>();
     let file = load_tree(alloc, files, spec)?;
     Ok(Answer {
         text: print(alloc, &file)?,
