@@ -9,11 +9,14 @@ ghost use Rattle.rela_inputs.specs.Given.{IsGiven, IsRead, seen};
 ghost use Rattle.rela_inputs.specs.Reading.{Ends};
 
 use rela_fib::snapshot_text;
-use rela_inputs::{Answer, Halt, Input, MET, fib_halt, load_locations, load_tables};
+use rela_inputs::{
+    Answer, Halt, Input, MET, calls_inside_end, fib_halt, load_locations, load_tables, steps_chain,
+};
 use rela_io::Files;
 use rela_locations::Locations;
 use rela_tables::Tables;
 use std::alloc::Global;
+use std::marker::Brand;
 
 /// Reads the locations, the tables and the other tables in the files of these names, in this order,
 /// and makes the snapshot of the tables. Time and space: those of decoding the files and of
@@ -39,6 +42,7 @@ pub fn draw<F: Files>(
         HoldsName (F.holds files.old) locations.now →
         result ≢ Err Halt.ReadFault }
 {
+    steps_chain::<Brand>();
     let locations = load_locations(alloc, files, locations)?;
     draw_over(alloc, files, tables, other, &locations)
 }
@@ -66,6 +70,8 @@ fn draw_over<F: Files>(
         HoldsName (F.holds files.old) other.now →
         result ≢ Err Halt.ReadFault }
 {
+    steps_chain::<Brand>();
+    calls_inside_end::<Answer>();
     let tables = load_tables(alloc, files, Input::Tables, tables, locations)?;
     let other = load_tables(alloc, files, Input::Other, other, locations)?;
     draw_tables(alloc, &tables, &other, locations)
