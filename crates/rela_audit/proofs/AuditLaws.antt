@@ -24,9 +24,9 @@ use Rattle.rela_inputs.specs.Specified.{SameSpecified, Specified}
 use Rattle.rela_inputs.specs.declared.reading.Halt.{Halt}
 use Rattle.rela_inputs.specs.declared.refusal.Input.TheVariants.{Locations, Before, After as AfterChange, Spec, Certificate}
 use Rattle.rela_inputs.specs.declared.refusal.Refusal.{Refusal}
-use Rattle.rela_inputs.proofs.GivenLaws.{stopped, continued}
 use Rattle.rela_audit.specs.Audits.{AnswersAudit, Audits, AuditsText, SameAudits, answer_to, limit, subject_of}
 use Rattle.rela_audit.proofs.PlanLaws.{classes_same}
+use Rattle.rela_audit.proofs.Points.{StepsChain, audited_change, audited_text}
 
 -- checks that no file can tell apart are equal
 abbrev pub SameIsOne : Type 0
@@ -111,7 +111,7 @@ audited_so : (change : Loaded) (text : List ℕ) (x : Answer) → AnswersAudit c
 unfolding AuditsText
 audited_so change text x answers = (x, answers, refl)
 
-module _ (told steady : Bool) (holds : Option FilesByName) (before after locations spec certificate : List ℕ) where
+module _ (told steady : Bool) (law : StepsChain told steady) (holds : Option FilesByName) (before after locations spec certificate : List ℕ) where
   abbrev Change : Result Loaded Refusal → Type 0
   Change = Loads (BytesOf holds before Before) (BytesOf holds after AfterChange) (BytesOf holds locations Locations) (BytesOf holds spec Spec)
 
@@ -126,16 +126,16 @@ module _ (told steady : Bool) (holds : Option FilesByName) (before after locatio
 
   pub change_stopped : (halt : Halt) → IsGiven told steady SameLoaded Change (Err halt) → IsGiven told steady SameAudits Audited (Err halt)
   unfolding Audits
-  change_stopped halt given = stopped told steady SameLoaded SameAudits Change Next halt given
+  change_stopped halt given = (law (audited_change holds before after locations spec certificate)).stopped halt given
 
   text_alone : (change : Loaded) (halt : Halt) → IsGiven told steady Equals Text (Err halt) → IsGiven told steady SameAudits (Next change) (Err halt)
-  text_alone change halt text = stopped told steady Equals SameAudits Text (AuditsText change) halt text
+  text_alone change halt text = (law (audited_text holds certificate change)).stopped halt text
 
   pub text_stopped : (change : Loaded) (halt : Halt) → IsGiven told steady SameLoaded Change (Ok change) → IsGiven told steady Equals Text (Err halt)
       → IsGiven told steady SameAudits Audited (Err halt)
   unfolding Audits
   text_stopped change halt given text =
-      continued told steady SameLoaded SameAudits Change Next change (Err halt) given (text_alone change halt text).told_by
+      (law (audited_change holds before after locations spec certificate)).continued change (Err halt) given (text_alone change halt text).told_by
       (λ t other same x steps. (text_alone other halt text).alone t x steps)
 
   next_agrees : SameIsOne → PlanIsOne → (change other : Loaded) (text : List ℕ) (answer : Answer) (y : Result (List ℕ) Refusal) (x : Result Answer Refusal) → SameLoaded change other
@@ -149,5 +149,5 @@ module _ (told steady : Bool) (holds : Option FilesByName) (before after locatio
       → AnswersAudit change text answer → IsGiven told steady SameAudits Audited (Ok answer)
   unfolding Audits
   audited one_for_all one_plan change text answer given bytes answers =
-      continued told steady SameLoaded SameAudits Change Next change (Ok answer) given (Ok text, bytes.told_by, audited_so change text answer answers)
+      (law (audited_change holds before after locations spec certificate)).continued change (Ok answer) given (Ok text, bytes.told_by, audited_so change text answer answers)
       (λ t other same x steps. next_agrees one_for_all one_plan change other text answer steps.0 x same answers (bytes.alone t steps.0 steps.1) steps.2)

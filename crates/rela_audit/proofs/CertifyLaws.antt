@@ -9,28 +9,25 @@ use Rattle.rela_inputs.specs.Loaded.{Loaded, Loads, SameLoaded}
 use Rattle.rela_inputs.specs.declared.reading.Halt.{Halt}
 use Rattle.rela_inputs.specs.declared.refusal.Input.TheVariants.{Locations, Before, After as AfterChange, Spec}
 use Rattle.rela_inputs.specs.declared.refusal.Refusal.{Refusal}
-use Rattle.rela_inputs.proofs.GivenLaws.{stopped, continued}
 use Rattle.rela_audit.specs.Audits.{subject_of}
 use Rattle.rela_audit.specs.Certifies.{AnswersCertificate, Certifies, CertifiesLoaded, SameCertificates}
 use Rattle.rela_audit.proofs.AuditLaws.{SameIsOne, layout_same}
+use Rattle.rela_audit.proofs.Points.{StepsChain, certified_change}
 
 certified_so : (change : Loaded) (states : ℕ) (answer : Answer) → AnswersCertificate (subject_of change) states answer → CertifiesLoaded change states (Ok answer)
 unfolding CertifiesLoaded
 certified_so change states answer certified = (answer, certified, refl)
 
-module _ (told steady : Bool) (holds : Option FilesByName) (before after locations spec : List ℕ) (states : ℕ) where
+module _ (told steady : Bool) (law : StepsChain told steady) (holds : Option FilesByName) (before after locations spec : List ℕ) (states : ℕ) where
   abbrev Change : Result Loaded Refusal → Type 0
   Change = Loads (BytesOf holds before Before) (BytesOf holds after AfterChange) (BytesOf holds locations Locations) (BytesOf holds spec Spec)
-
-  abbrev Next : Loaded → Result Answer Refusal → Type 0
-  Next change = CertifiesLoaded change states
 
   abbrev Certified : Result Answer Refusal → Type 0
   Certified = Certifies holds before after locations spec states
 
   pub change_stopped : (halt : Halt) → IsGiven told steady SameLoaded Change (Err halt) → IsGiven told steady (SameCertificates states) Certified (Err halt)
   unfolding Certifies
-  change_stopped halt given = stopped told steady SameLoaded (SameCertificates states) Change Next halt given
+  change_stopped halt given = (law (certified_change holds before after locations spec states)).stopped halt given
 
   certificates_agree : SameIsOne → (change other : Loaded) (answer : Answer) (r : Result Answer Refusal) → SameLoaded change other → AnswersCertificate (subject_of change) states answer
       → CertifiesLoaded other states r → Agrees steady (SameCertificates states) (Ok answer) r
@@ -49,5 +46,5 @@ module _ (told steady : Bool) (holds : Option FilesByName) (before after locatio
       → IsGiven told steady (SameCertificates states) Certified (Ok answer)
   unfolding Certifies
   certified one_for_all change answer given answers =
-      continued told steady SameLoaded (SameCertificates states) Change Next change (Ok answer) given (certified_so change states answer answers)
+      (law (certified_change holds before after locations spec states)).continued change (Ok answer) given (certified_so change states answer answers)
       (λ t other same x steps. certificates_agree one_for_all change other answer x same answers steps)

@@ -1,3 +1,4 @@
 pub mod PlanLaws
+pub mod Points
 pub mod AuditLaws
 pub mod CertifyLaws

@@ -13,11 +13,12 @@ ghost use Rattle.rela_snapshot.specs.PairsLocated.{ArePairsLocated};
 use rela_cert::{Audit, audit};
 use rela_inputs::{
     Answer, Halt, Input, Loaded, MET, UNDECIDED, VIOLATED, load_change, read_input,
-    same_checks_are_equal,
+    same_checks_are_equal, steps_chain,
 };
 use rela_io::Files;
 use rela_plan::plans_are_equal;
 use std::alloc::{AllocError, Global};
+use std::marker::Brand;
 
 /// Loads the change in the files of these names, as [`load_change`] does, then reads the
 /// certificate in the file of the last name, and audits it. Time and space: those of decoding the
@@ -49,10 +50,11 @@ pub fn audit_files<F: Files>(
         HoldsName (F.holds files.old) certificate.now →
         result ≢ Err Halt.ReadFault }
 {
-    let loaded = load_change(alloc, files, before, after, locations, spec)?;
-    let text = read_input(alloc, files, Input::Certificate, certificate)?;
+    steps_chain::<Brand>();
     same_checks_are_equal();
     plans_are_equal();
+    let loaded = load_change(alloc, files, before, after, locations, spec)?;
+    let text = read_input(alloc, files, Input::Certificate, certificate)?;
     Ok(audit_loaded(alloc, &loaded, text.as_slice())?)
 }
 

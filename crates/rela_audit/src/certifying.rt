@@ -12,9 +12,10 @@ ghost use Rattle.rela_io.specs.Held.{HoldsName};
 ghost use Rattle.rela_snapshot.specs.PairsLocated.{ArePairsLocated};
 
 use rela_cert::certify;
-use rela_inputs::{Answer, Halt, Loaded, MET, load_change, same_checks_are_equal};
+use rela_inputs::{Answer, Halt, Loaded, MET, load_change, same_checks_are_equal, steps_chain};
 use rela_io::Files;
 use std::alloc::{AllocError, Global};
+use std::marker::Brand;
 
 /// Loads the change in the files of these names, as [`load_change`] does, and writes the
 /// certificate of its rows that are met. A row is left out where its check is violated, or where
@@ -48,8 +49,9 @@ pub fn certify_files<F: Files>(
         HoldsName (F.holds files.old) spec.now →
         result ≢ Err Halt.ReadFault }
 {
-    let loaded = load_change(alloc, files, before, after, locations, spec)?;
+    steps_chain::<Brand>();
     same_checks_are_equal();
+    let loaded = load_change(alloc, files, before, after, locations, spec)?;
     Ok(certify_loaded(alloc, &loaded, states)?)
 }
 
