@@ -1,5 +1,5 @@
 -- Sets that are numbered as they are found.
-use Rattle.std.proofs.Common.{◌≡◌, ◌≢◌, ℕ, ◌+◌, ◌<◌, ◌⊎◌, Bool, true, false, cond, ◌&&◌, nat_eq, List, [], ◌∷◌, ◌++◌, length, get_or, map, Option, None, Some, refl, sym, ap, subst, ◌∙◌, inl, inr, arith}
+use Rattle.std.proofs.Common.{◌≡◌, ◌≢◌, ℕ, ◌+◌, ◌<◌, ◌⊎◌, Bool, true, false, cond, ◌&&◌, nat_eq, List, [], ◌∷◌, ◌++◌, length, get_or, map, Option, None, Some, IfNone, IfSome, refl, sym, ap, subst, ◌∙◌, inl, inr, arith}
 use Rattle.std.specs.Cmp.Lexicographic.{pointwise}
 use Rattle.std.specs.declared.vec.Vec.{Vec}
 use Rattle.std.specs.List.{IsDistinct, list_any, position, slice_get}
@@ -77,7 +77,7 @@ module _ {A : Type 0} where
   ]
 
   -- a set that is found by its states
-  pub found_at : (keys : List (Vec ℕ A)) (n : ℕ) (set : List ℕ) → position (λ k. pointwise nat_eq set k.items) keys ≡ Some n → get_or (sets_of keys) n [] ≡ set
+  found_at : (keys : List (Vec ℕ A)) (n : ℕ) (set : List ℕ) → position (λ k. pointwise nat_eq set k.items) keys ≡ Some n → get_or (sets_of keys) n [] ≡ set
   found_at [] n set e = absurd (let none : None ≡ Some n = e in cc)
   found_at (k ∷ ks) n set e =
       let at = position-Some (λ (v : Vec ℕ A). pointwise nat_eq set v.items) (k ∷ ks) n k e in
@@ -91,10 +91,9 @@ module _ {A : Type 0} where
       let is : set ≡ (get_or (k ∷ ks) i k).items = sym same ∙ get_or-map (λ (v : Vec ℕ A). v.items) (k ∷ ks) i k [] within in
       false≢true (sym none ∙ list_any_at (λ (v : Vec ℕ A). pointwise nat_eq set v.items) (k ∷ ks) i k within (subst (λ s. pointwise nat_eq set s ≡ true) is (pointwise_same set)))
 
-  pub distinct_more : (keys : List (Vec ℕ A)) (sets : List (List ℕ)) (set : List ℕ) (found : Option ℕ) → sets_of keys ≡ sets → AreDistinct sets → is_some found ≡ list_any (λ k. pointwise nat_eq set k.items) keys
-      → ((n : ℕ) → ¬ (found ≡ Some n)) → AreDistinct (sets ++ set ∷ [])
-  distinct_more keys sets set (Some n) are distinct known none i j below within = absurd (none n refl)
-  distinct_more keys sets set None are distinct known none i j below within = elim (cases_lt j (length sets)) [
+  distinct_more : (keys : List (Vec ℕ A)) (sets : List (List ℕ)) (set : List ℕ) → sets_of keys ≡ sets → AreDistinct sets → false ≡ list_any (λ k. pointwise nat_eq set k.items) keys
+      → AreDistinct (sets ++ set ∷ [])
+  distinct_more keys sets set are distinct known i j below within = elim (cases_lt j (length sets)) [
     | inl old ↦ λ same. distinct i j below old
         (sym (get_or_append_left sets (set ∷ []) [] i (omega (arith, below, old))) ∙ same ∙ get_or_append_left sets (set ∷ []) [] j old)
     | inr last ↦
@@ -103,3 +102,20 @@ module _ {A : Type 0} where
         λ same. lacking keys set (sym known) i (omega (arith, first, ap length are))
         (ap (λ l. get_or l i []) are ∙ sym (get_or_append_left sets (set ∷ []) [] i first) ∙ same ∙ get_or_push sets set [] j (sym here))
   ]
+
+  -- what a look for a set by its states finds
+  pub found_if : (keys : List (Vec ℕ A)) (sets : List (List ℕ)) (set : List ℕ) (found : Option ℕ) → sets_of keys ≡ sets → found ≡ position (λ k. pointwise nat_eq set k.items) keys
+      → IfSome found (λ n. get_or sets n [] ≡ set)
+  found_if keys sets set (Some n) are is = subst (λ s. get_or s n [] ≡ set) are (found_at keys n set (sym is))
+  found_if keys sets set None are is = tt
+
+  pub lacking_if : (keys : List (Vec ℕ A)) (sets : List (List ℕ)) (set : List ℕ) (found : Option ℕ) → sets_of keys ≡ sets → AreDistinct sets
+      → is_some found ≡ list_any (λ k. pointwise nat_eq set k.items) keys → IfNone found (AreDistinct (sets ++ set ∷ []))
+  lacking_if keys sets set (Some n) are distinct known = tt
+  lacking_if keys sets set None are distinct known = distinct_more keys sets set are distinct known
+
+  -- a set that is read at its number
+  pub read_at : (keys : List (Vec ℕ A)) (n : ℕ) (key : Vec ℕ A) (items set : List ℕ) → n < length keys → key ≡ get_or keys n key → items ≡ key.items → pointwise nat_eq items set ≡ true
+      → get_or (sets_of keys) n [] ≡ set
+  read_at keys n key items set within at are same =
+      get_or-map (λ (v : Vec ℕ A). v.items) keys n key [] within ∙ ap (λ v. v.items) (sym at) ∙ sym are ∙ same_from_pointwise items set same

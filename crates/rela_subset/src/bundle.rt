@@ -7,6 +7,7 @@ ghost use Rattle.rela_nfa.specs.Stored.{move_of};
 ghost use Rattle.rela_subset.specs.Deterministic.{takes};
 ghost use Rattle.rela_subset.specs.Expansion.{IsPutIn};
 
+use crate::places::note;
 use rela_labels::LabelSet;
 use rela_nfa::Edge;
 use std::alloc::{AllocError, Global};
@@ -90,17 +91,6 @@ fn place_to<L: LabelSet>(places: &[usize], edges: &[Edge<L>], to: usize) -> Opti
     let place = places.get(to).copied()?;
     let edge = edges.get(place)?;
     if edge.to == to { Some(place) } else { None }
-}
-
-/// Notes the place for the end.
-fn note(places: &mut Vec<usize>, to: usize, place: usize) -> Result<(), AllocError> {
-    if places.len() <= to {
-        places.resize(to.saturating_add(1), 0)?;
-    }
-    if let Some(noted) = places.get_mut(to) {
-        *noted = place;
-    }
-    Ok(())
 }
 
 /// The letters of the edge's label and of the other.

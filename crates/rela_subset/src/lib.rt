@@ -12,6 +12,7 @@ mod expansion;
 mod letter_edge;
 mod opposite;
 mod outgoing;
+mod places;
 mod search;
 mod silent;
 mod spreading;

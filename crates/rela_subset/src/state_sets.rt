@@ -1,18 +1,21 @@
 //! Sets of states, and their numbers.
-ghost use Rattle.std.specs.Prelude.{◌≡◌, ◌⊎◌, ℕ, ◌+◌, ◌^◌, ◌<◌, ◌≤◌, List, [], ◌∷◌, ◌++◌, IfOk, IfErr, IsErrOf, length, slice_index_or};
+ghost use Rattle.std.specs.Prelude.{◌≡◌, ◌⊎◌, ℕ, ◌+◌, ◌^◌, ◌<◌, ◌≤◌, List, [], ◌∷◌, ◌++◌, IfNone, IfOk, IfErr, IfSome, IsErrOf, length, map, slice_index_or};
 ghost use Rattle.rela_subset.specs.Sets.{AreDistinct};
 
+use crate::places::note;
 use indexmap::IndexSet;
 use rela_nfa::BuildError;
-use std::alloc::Global;
+use std::alloc::{AllocError, Global};
 use std::marker::Model;
 
-/// Sets of states, each a list in ascending order, numbered as they are found. Contracts see them
-/// as the list of these lists.
+/// Sets of states, each a list in ascending order, numbered as they are found. Sets of one state
+/// are looked up by it, and others by their hash. Contracts see them as the list of these lists.
 #[derive(Drop)]
 pub(crate) struct StateSets {
     /// The lists, in the order of their numbers, and a hash table of these.
     sets: IndexSet<Vec<usize>>,
+    /// For each state a number: that of the set of it alone, if that set is among them.
+    alone: Vec<usize>,
 }
 
 impl Model for StateSets {
@@ -33,6 +36,7 @@ impl StateSets {
     {
         StateSets {
             sets: IndexSet::new(alloc),
+            alone: Vec::new(alloc),
         }
     }
 
@@ -55,7 +59,8 @@ impl StateSets {
 
     /// The number of the set, a copy of which is put behind the others where it isn't among them.
     /// `Limit` where it isn't and there are `limit` already, and `Memory` where there isn't memory
-    /// for it: neither puts anything in. Time: linear in the set, in expectation. A set that is
+    /// for it: neither puts anything in. Time: linear in the set, in expectation, and a step for
+    /// each state below that of a set of one where there was none so high before. A set that is
     /// among them takes no memory.
     pub(crate) fn number(
         &mut self,
@@ -76,14 +81,63 @@ impl StateSets {
         ensures room { IsErrOf result BuildError.Memory → length self.old < limit }
         ensures bounded { IfErr result (λ e. e ≡ BuildError.Limit → limit < 2 ^ 63) }
     {
-        if let Some(number) = self.sets.get_index_of(set) {
+        if let Some(number) = self.known(set) {
             return Ok(number);
         }
         if self.sets.len() >= limit {
             return Err(BuildError::Limit);
         }
-        let set = Vec::from_slice(alloc, set)?;
-        let (number, _) = self.sets.insert_full(set)?;
+        let copy = Vec::from_slice(alloc, set)?;
+        note_alone(&mut self.alone, set, self.sets.len())?;
+        let (number, _) = self.sets.insert_full(copy)?;
         Ok(number)
+    }
+
+    /// The number of the set, and `None` where it isn't among them. Time: constant for a set of one
+    /// state that is among them, and else linear in the set, in expectation.
+    fn known(&self, set: &[usize]) -> Option<usize>
+        ensures at { IfSome result (λ number. slice_index_or self.now number [] ≡ set.now) }
+        ensures within { IfSome result (λ number. number < length self.now) }
+        ensures lacking { IfNone result (AreDistinct (self.now ++ set.now ∷ [])) }
+    {
+        match known_alone(self.sets.as_slice(), &self.alone, set) {
+            Some(number) => Some(number),
+            None => self.sets.get_index_of(set),
+        }
+    }
+}
+
+/// The number of the set, if it has one state and is at the number that is noted for it.
+fn known_alone(sets: &[Vec<usize>], alone: &[usize], set: &[usize]) -> Option<usize>
+    ensures within { IfSome result (λ number. number < length sets.now) }
+    ensures at { IfSome result (λ number. slice_index_or (map (λ set. set.items) sets.now) number []
+        ≡ set.now) }
+{
+    let state = only_state(set)?;
+    let number = alone.get(state).copied()?;
+    let known = sets.get(number)?;
+    if known.as_slice() == set {
+        Some(number)
+    } else {
+        None
+    }
+}
+
+/// Notes the number for the state of the set, if it has one.
+fn note_alone(alone: &mut Vec<usize>, set: &[usize], number: usize) -> Result<(), AllocError> {
+    if let Some(state) = only_state(set) {
+        note(alone, state, number)?;
+    }
+    Ok(())
+}
+
+/// The state of the set, if it has one, and `None` where it has more or none.
+fn only_state(set: &[usize]) -> Option<usize>
+    ensures { IfSome result (λ state. set.now ≡ state ∷ []) }
+{
+    if set.len() == 1 {
+        set.first().copied()
+    } else {
+        None
     }
 }

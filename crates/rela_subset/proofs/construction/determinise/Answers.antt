@@ -20,7 +20,7 @@ new-dfa-requires g c =
     (deterministic g.L.LabelSet.letters (g.L.LabelSet.letters c.in_ok-over.over) 0 c.in_ok-finals.finals.items c.in_ok-edges.edges.items)
     c.in_ok-edges.ensures.explored c.in_ok-over.ensures.same refl c.in_ok-edges.ensures.each c.in_ok-finals.ensures.len c.in_ok-edges.ensures.distinct
 
-module _ (g : Rattle.rela_subset.proofs.construction.determinise.Given.Over) (c : goal.After-drop-sets-inside-5 g) where
+module _ (g : Rattle.rela_subset.proofs.construction.determinise.Given.Over) (c : goal.After-drop-sets-inside-6 g) where
   done : IsDeterminised c.args.a.now (g.L.LabelSet.letters c.args.over.now) c.args.limit c.new-dfa.result
   done =
       subst (IsDeterminised c.args.a.now (g.L.LabelSet.letters c.args.over.now) c.args.limit) (sym c.new-dfa.ensures)
