@@ -1,5 +1,5 @@
 //! The letters by which the same edges may be taken.
-ghost use Rattle.std.specs.Prelude.{◌≡◌, ℕ, ◌↔◌, true, Some, IfOk, IfSome, length, map};
+ghost use Rattle.std.specs.Prelude.{◌≡◌, ℕ, ◌↔◌, ◌&&◌, true, Some, IfOk, IfSome, length, map};
 ghost use Rattle.std.specs.List.{All};
 ghost use Rattle.std.specs.Option.{ForSome};
 ghost use Rattle.rela_labels.specs.Letters.{has};
@@ -104,10 +104,24 @@ fn cut<L: LabelSet>(alloc: Global, block: L, edge: &Edge<L>, letter: u32) -> Res
         None => Ok(block),
         Some(label) => {
             if label.contains(letter) {
-                block.meet(alloc, label)
+                common(alloc, block, label)
             } else {
                 block.minus(alloc, label)
             }
         }
     }
+}
+
+/// The letters that are in both sets. Where both are the same, as they often are if an automaton is
+/// deterministic, this is the block as it is, and takes no memory.
+fn common<L: LabelSet>(alloc: Global, block: L, label: &L) -> Result<L, AllocError>
+    requires { length (L.letters block) ≡ length (L.letters label.now) }
+    ensures size { IfOk result (λ both. length (L.letters both) ≡ length (L.letters block)) }
+    ensures both { IfOk result (λ both. (k : ℕ) → has (L.letters both) k
+        ≡ (has (L.letters block) k && has (L.letters label.now) k)) }
+{
+    if block.same(label) {
+        return Ok(block);
+    }
+    block.meet(alloc, label)
 }

@@ -180,7 +180,7 @@ impl<'a, L: LabelSet> Blocks<'a, L> {
         };
         let near = near(alloc, self.others, &self.rest, letter)?;
         let letters = narrowed(alloc, near, self.others, letter)?;
-        let rest = self.rest.minus(alloc, &letters)?;
+        let rest = left_without(alloc, &self.rest, &letters)?;
         self.least = rest.least();
         self.rest = rest;
         Ok(Some(Block { letter, letters }))
@@ -210,4 +210,18 @@ fn without<L: LabelSet>(alloc: Global, set: &L, edges: &[LetterEdge]) -> Result<
     }
     let letters = letters_of(alloc, set.size(), edges)?;
     set.minus(alloc, &letters)
+}
+
+/// The letters of the set that are not in the other. Where both are the same, as what is left and
+/// the last block are, there are none, and neither is copied.
+fn left_without<L: LabelSet>(alloc: Global, set: &L, other: &L) -> Result<L, AllocError>
+    requires { length (L.letters set.now) ≡ length (L.letters other.now) }
+    ensures size { IfOk result (λ rest. length (L.letters rest) ≡ length (L.letters set.now)) }
+    ensures first_only { IfOk result (λ rest. (k : ℕ) → has (L.letters rest) k
+        ≡ (has (L.letters set.now) k && not (has (L.letters other.now) k))) }
+{
+    if set.same(other) {
+        return L::none(alloc, set.size());
+    }
+    set.minus(alloc, other)
 }

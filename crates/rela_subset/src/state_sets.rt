@@ -85,7 +85,7 @@ impl StateSets {
             return Ok(number);
         }
         if self.sets.len() >= limit {
-            return Err(BuildError::Limit);
+            return self.found(set).ok_or(BuildError::Limit);
         }
         let copy = Vec::from_slice(alloc, set)?;
         note_alone(&mut self.alone, set, self.sets.len())?;
@@ -93,17 +93,27 @@ impl StateSets {
         Ok(number)
     }
 
-    /// The number of the set, and `None` where it isn't among them. Time: constant for a set of one
-    /// state that is among them, and else linear in the set, in expectation.
+    /// The number of the set, where it is among them: `None` says that it isn't, and no clause rests
+    /// on that. Time: constant for a set of one state, and else linear in the set, in expectation.
     fn known(&self, set: &[usize]) -> Option<usize>
+        ensures at { IfSome result (λ number. slice_index_or self.now number [] ≡ set.now) }
+        ensures within { IfSome result (λ number. number < length self.now) }
+    {
+        if only_state(set).is_some() {
+            known_alone(self.sets.as_slice(), &self.alone, set)
+        } else {
+            self.found(set)
+        }
+    }
+
+    /// The number of the set, and `None` where it isn't among them. Time: linear in the set, in
+    /// expectation.
+    fn found(&self, set: &[usize]) -> Option<usize>
         ensures at { IfSome result (λ number. slice_index_or self.now number [] ≡ set.now) }
         ensures within { IfSome result (λ number. number < length self.now) }
         ensures lacking { IfNone result (AreDistinct (self.now ++ set.now ∷ [])) }
     {
-        match known_alone(self.sets.as_slice(), &self.alone, set) {
-            Some(number) => Some(number),
-            None => self.sets.get_index_of(set),
-        }
+        self.sets.get_index_of(set)
     }
 }
 

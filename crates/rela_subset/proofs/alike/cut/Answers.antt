@@ -36,12 +36,12 @@ returns-then-contains-clause-alike g c =
     let block = letters c.args.block in
     let label = letters c.in-Some.label in
     let on : has label c.args.letter ≡ true = sym c.contains.ensures.has ∙ c.if-contains.true in
-    IfOk-weaker c.meet.result _ _ (λ part both k.
+    IfOk-weaker c.common.result _ _ (λ part both k.
     taken_by letters c.args.edge.now c.in-Some.label (has (letters part) k) (has block k) k c.args.letter c.in-Some.is
-    (met_alike (has (letters part) k) (has block k) (has label k) (has label c.args.letter) (both k) on)) c.meet.ensures.both
+    (met_alike (has (letters part) k) (has block k) (has label k) (has label c.args.letter) (both k) on)) c.common.ensures.both
 
-pub returns-clause-alike : goal.returns-clause-alike
-returns-clause-alike g c =
+pub returns-else-contains-clause-alike : goal.returns-else-contains-clause-alike
+returns-else-contains-clause-alike g c =
     let letters = g.L.LabelSet.letters in
     let block = letters c.args.block in
     let label = letters c.in-Some.label in
