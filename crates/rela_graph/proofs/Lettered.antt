@@ -8,12 +8,11 @@ use Rattle.rela_labels.specs.Letters.{has}
 use Rattle.rela_nfa.specs.Automaton.{Move, IsMove}
 use Rattle.rela_nfa.specs.Construction.{silent, single}
 use Rattle.rela_nfa.specs.Runs.{StepIn}
-use Rattle.rela_nfa.proofs.Chains.{single_only, single_has}
-use Rattle.rela_nfa.proofs.Moves.{Contains-nil, Contains-cons_cases, Contains-map, Contains-map_back, step_left, step_right, step_cases, no_step, silent_step, silent_step_only}
 use Rattle.rela_graph.specs.Lettering.{letter_at, read_between, by_letter, only_if, link_move}
 use Rattle.rela_graph.specs.Unrolled.{LeadOn}
 use Rattle.rela_graph.specs.declared.letters.Letters.{Letters}
 use Rattle.rela_graph.specs.declared.node.Link.{Link}
+use Rattle.rela_graph.proofs.Stepping.{Contains-nil, Contains-cons_cases, Contains-map, Contains-map_back, step_left, step_right, step_cases, no_step, silent_only, single_only, single_has}
 
 -- by an edge by one letter
 module _ (count k to : ℕ) (below : k < count) where
@@ -44,14 +43,9 @@ module _ (count k to : ℕ) (below : k < count) where
   }
 
 -- by a silent edge
-silent_only : (to : ℕ) (letter : Option ℕ) (q : ℕ) → StepIn (silent to ∷ []) letter q → (letter ≡ None) × (q ≡ to)
-silent_only to letter q step =
-    let only = silent_step_only (to ∷ []) letter q step in
-    (only.0, elim (Contains-cons_cases to [] q only.1) [ inl same ↦ sym same | inr none ↦ absurd (Contains-nil q none) ])
-
 silent_taken : (to : ℕ) (letter : Option ℕ) (q : ℕ) → (letter ≡ None) × (q ≡ to) → StepIn (silent to ∷ []) letter q
 silent_taken to letter q (reads, leads) =
-    subst (λ l. StepIn (silent to ∷ []) l q) (sym reads) (subst (λ n. StepIn (silent to ∷ []) None n) (sym leads) (silent_step (to ∷ []) to (0, omega arith, refl)))
+    subst (λ l. StepIn (silent to ∷ []) l q) (sym reads) (subst (λ n. StepIn (silent to ∷ []) None n) (sym leads) (0, omega arith, refl))
 
 silent_sized : (count states to : ℕ) → to < states → IsMove count states (silent to)
 silent_sized count states to leads = record { sized = λ set is. let never : None ≡ Some set = is in cc; leads = leads }

@@ -5,6 +5,7 @@ pub mod Ending
 pub mod Growing
 pub mod Arriving
 pub mod Squeezing
+pub mod Stepping
 pub mod Walking
 pub mod Ways
 pub mod Cycling

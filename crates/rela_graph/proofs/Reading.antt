@@ -3,16 +3,13 @@ use Rattle.std.proofs.Common.{◌≡◌, ◌≢◌, ℕ, zero, suc, ◌+◌, ◌
 use Rattle.std.specs.List.{All}
 use Rattle.std.specs.Option.{option_to_list}
 use Rattle.std.proofs.lemmas.Bool.{cases_eq, eq-eqb, ne_eqb}
-use Rattle.std.proofs.lemmas.List.{append-nil, map_push, get_or_append_left, get_or_at}
+use Rattle.std.proofs.lemmas.List.{append-nil, map_push, get_or_append_left, get_or-append-add, get_or_at}
 use Rattle.std.proofs.lemmas.List.Elements.{All-nil, All-cons, All-push}
 use Rattle.rela_names.specs.declared.level.Level.{Level}
 use Rattle.rela_labels.specs.Partition.{block_of}
 use Rattle.rela_nfa.specs.Automaton.{Automaton, IsFinal}
 use Rattle.rela_nfa.specs.Relabelling.{blocks_of}
 use Rattle.rela_nfa.specs.Runs.{StepIn, HasStep, Reach, Accepts}
-use Rattle.rela_nfa.proofs.Moves.{no_step}
-use Rattle.rela_nfa.proofs.Parts.{get_or_last}
-use Rattle.rela_nfa.proofs.Reaching.{reach_start, reach_step, reach_silent, reach_each}
 use Rattle.rela_graph.specs.Alone.{StandsAlone}
 use Rattle.rela_graph.specs.Lettering.{letter_at, read_between}
 use Rattle.rela_graph.specs.Paths.{Paths, Undelivered, Arrives, base, locations}
@@ -22,6 +19,7 @@ use Rattle.rela_graph.specs.declared.letters.Letters.{Letters}
 use Rattle.rela_graph.proofs.Arriving.{base_same, base_other, arrive_same, arrive_other}
 use Rattle.rela_graph.proofs.Blocked.{same_word}
 use Rattle.rela_graph.proofs.Flagged.{flag_within}
+use Rattle.rela_graph.proofs.Stepping.{no_step, reach_start, reach_step, reach_silent, reach_each}
 use Rattle.rela_graph.proofs.Unrolling.{IsReader}
 use Rattle.rela_graph.proofs.Walking.{ending, walk_back}
 use Rattle.rela_graph.proofs.Ways.{edge_node, walk_node}
@@ -263,12 +261,12 @@ module _ (g : Topology) (level : Level) (alphabet : List (List ℕ)) (blocks : L
 
   node_final : (n : ℕ) → n < count → get_or r.finals (1 + n) false ≡ get_or g.delivered n false
   node_final n below =
-      ap (λ l. get_or l (1 + n) false) built.finals ∙ get_or_last (false ∷ []) (g.delivered ++ true ∷ []) 1 n false refl
+      ap (λ l. get_or l (1 + n) false) built.finals ∙ get_or-append-add (false ∷ []) (g.delivered ++ true ∷ []) n false
       ∙ get_or_append_left g.delivered (true ∷ []) false n (omega (arith, below, is.delivered))
 
   last_final : IsFinal r (1 + count)
   last_final =
-      ap (λ l. get_or l (1 + count) false) built.finals ∙ get_or_last (false ∷ []) (g.delivered ++ true ∷ []) 1 count false refl
+      ap (λ l. get_or l (1 + count) false) built.finals ∙ get_or-append-add (false ∷ []) (g.delivered ++ true ∷ []) count false
       ∙ get_or_at g.delivered true [] false count is.delivered
 
   pub read_language : (w : List ℕ) → OfSymbols w → Accepts r (blocks_of blocks w) ↔ Paths g level alphabet w

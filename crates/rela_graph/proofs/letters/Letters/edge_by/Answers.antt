@@ -1,5 +1,5 @@
 use Rattle.std.proofs.Common.{Some, ap, ◌∙◌}
-use Rattle.rela_nfa.proofs.Chains.{letters_single}
+use Rattle.rela_graph.proofs.Stepping.{letters_single}
 use Rattle.rela_graph.proofs.letters.Letters.edge_by.Goals as goal
 
 pub returns : goal.returns
