@@ -14,7 +14,7 @@ ghost use Rattle.rela_snapshot.specs.Steps.{IsAnswer};
 
 use crate::name_table::NameTable;
 use crate::snapshot::{Flow, MAX_FLOWS, Snapshot};
-use rela_flows::FlowClass;
+use rela_flows::{FlowClass, prefixes_of_one_length_are_apart};
 use rela_graph::Graph;
 use std::alloc::{AllocError, AllocFailed, Global};
 use thiserror::Error;
@@ -237,6 +237,7 @@ fn pair_of(
             after: no_graph(alloc)?,
         });
     };
+    prefixes_of_one_length_are_apart();
     if before.class != after.class {
         return Err(PairError::FlowDiffers {
             row,
