@@ -1,16 +1,15 @@
 -- The paths of a graph whose locations are renamed one to one are the renamed paths.
-use Rattle.std.proofs.Common.{◌≡◌, ◌∙◌, ℕ, ◌+◌, ◌<◌, ◌≤◌, Bool, List, [], ◌∷◌, ◌++◌, length, get_or, map, refl, sym, ap, subst, inl, inr, arith}
+use Rattle.std.proofs.Common.{◌≡◌, ◌∙◌, ℕ, ◌+◌, ◌<◌, ◌≤◌, Bool, false, List, [], ◌∷◌, ◌++◌, length, get_or, map, refl, sym, ap, subst, inl, inr, arith}
 use Rattle.std.specs.Prelude.{slice_index}
 use Rattle.std.specs.List.{All, Contains}
-use Rattle.std.proofs.lemmas.Bool.{eq-eqb, ne_eqb, cases_eq}
-use Rattle.std.proofs.lemmas.List.{length-map, map-append, get_or-map}
+use Rattle.std.proofs.lemmas.Bool.{eq-eqb, ne_eqb, both_ways, cases_eq, cases_lt}
+use Rattle.std.proofs.lemmas.List.{length-map, map-append, get_or-map, get_or_past}
+use Rattle.std.proofs.lemmas.List.Elements.{All-contains}
 use Rattle.rela_names.specs.declared.level.Level.{Level}
 use Rattle.rela_graph.specs.Topology.{Topology, IsTopology, JoinsNodes, HasEdge, HasFlag, symbol_at}
 use Rattle.rela_graph.specs.Walk.{FollowsEdges, IsWalk, IsCyclic, IsDropNode}
 use Rattle.rela_graph.specs.Paths.{Paths, Arrives, IsEnding, locations, base, squeeze, squeeze_after}
 use Rattle.rela_graph.specs.declared.node.Link.{Link}
-use Rattle.rela_graph.proofs.Flagged.{flag_within}
-use Rattle.rela_graph.proofs.Ways.{edge_node}
 use Rattle.rela_shape.specs.Renamed.{AreWiredAlike}
 
 -- runs of equal symbols are renamed to runs of equal symbols
@@ -28,6 +27,16 @@ module _ (to : ℕ → ℕ) (one_to_one : (s t : ℕ) → to s ≡ to t → s �
   squeezed : (xs : List ℕ) → squeeze (map to xs) ≡ map to (squeeze xs)
   squeezed [] = refl
   squeezed (x ∷ xs) = ap (λ (r : List ℕ). to x ∷ r) (squeezed_after x xs)
+
+-- flags are of nodes, and edges lead to nodes
+flag_within : (flags : List Bool) (n : ℕ) → HasFlag flags n → n < length flags
+flag_within flags n flag = elim (cases_lt n (length flags)) [
+  | inl below ↦ below
+  | inr past ↦ absurd (both_ways _ (get_or_past flags n false past) flag)
+]
+
+edge_node : (g : Topology) → IsTopology g → (a b : ℕ) → HasEdge g a b → b < length g.nodes
+edge_node g is a b edge = (All-contains (JoinsNodes (length g.nodes)) g.edges (record { a = a; b = b }) is.joins edge).1
 
 -- what graphs that are wired alike have in common
 edge_there : (g h : Topology) → g.edges ≡ h.edges → (a b : ℕ) → HasEdge g a b → HasEdge h a b
