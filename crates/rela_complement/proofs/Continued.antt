@@ -2,10 +2,8 @@
 use Rattle.std.proofs.Common.{◌≡◌, ◌∙◌, ℕ, List, [], ◌∷◌, ◌++◌, refl, sym, ap, subst, append_assoc}
 use Rattle.std.specs.Option.{option_to_list}
 use Rattle.std.specs.Prelude.{Option, Some, None}
-use Rattle.std.proofs.lemmas.List.{append-nil}
 use Rattle.rela_nfa.specs.Automaton.{Automaton}
 use Rattle.rela_nfa.specs.Runs.{Step, HasStep, Follow, spelled, Reach, Accepts}
-use Rattle.rela_nfa.proofs.Reaching.{reach_step}
 
 module _ (a : Automaton) where
   -- a state between two parts of a word, and the edges of the second part
@@ -55,11 +53,22 @@ module _ (a : Automaton) where
       (λ later. between steps step.to q (k ∷ front) rest follows.1 later)
       (λ later. between steps step.to q front rest follows.1 later)
 
+  follow_append : (first second : List Step) (p state q : ℕ) → Follow a p first state → Follow a state second q → Follow a p (first ++ second) q
+  follow_append [] second p state q here leads = subst (λ (n : ℕ). Follow a n second q) (sym here) leads
+  follow_append (step ∷ first) second p state q reaches leads = (reaches.0, follow_append first second step.to state q reaches.1 leads)
+
+  spelled_append : (first second : List Step) → spelled (first ++ second) ≡ spelled first ++ spelled second
+  spelled_append [] second = refl
+  spelled_append (step ∷ first) second =
+      ap (λ (l : List ℕ). option_to_list step.letter ++ l) (spelled_append first second)
+      ∙ sym (append_assoc (option_to_list step.letter) (spelled first) (spelled second))
+
   reach_on : (steps : List Step) (p q : ℕ) (word : List ℕ) → Reach a p word → Follow a p steps q → Reach a q (word ++ spelled steps)
-  reach_on [] p q word reach here = subst (λ (n : ℕ). Reach a n (word ++ [])) here (subst (Reach a p) (sym (append-nil word)) reach)
-  reach_on (step ∷ steps) p q word reach follows =
-      subst (Reach a q) (append_assoc word (option_to_list step.letter) (spelled steps))
-      (reach_on steps step.to q (word ++ option_to_list step.letter) (reach_step a p step.to step.letter word reach follows.0) follows.1)
+  reach_on steps p q word (first, reaches, spells) leads = (
+    first ++ steps,
+    follow_append first steps a.start p q reaches leads,
+    spelled_append first steps ∙ ap (λ (l : List ℕ). l ++ spelled steps) spells,
+  )
 
   -- a word that is accepted with this end, and another that isn't, are told apart by a state
   pub told_by_end : (v w rest : List ℕ) → Accepts a (v ++ rest) → (¬ Accepts a (w ++ rest)) → (q : ℕ) × (Reach a q v × (¬ Reach a q w))

@@ -1,13 +1,29 @@
 -- The complement by the minimal automaton of a part.
-use Rattle.std.proofs.Common.{◌≡◌, ◌∙◌, ℕ, ◌↔◌, Bool, List, length, sym, ap, subst}
+use Rattle.std.proofs.Common.{◌≡◌, ◌∙◌, ℕ, ◌↔◌, Bool, true, List, [], ◌∷◌, ◌++◌, length, refl, sym, ap, subst}
+use Rattle.std.proofs.lemmas.List.Elements.{All-append}
+use Rattle.rela_labels.specs.Letters.{has}
 use Rattle.rela_nfa.specs.Automaton.{Automaton, IsAutomaton}
 use Rattle.rela_nfa.specs.Runs.{Reach, Accepts}
-use Rattle.rela_subset.specs.Deterministic.{Deterministic, IsAccepted, IsOver, LeadsTo, automaton_of, state_after}
+use Rattle.rela_subset.specs.Deterministic.{Deterministic, IsAccepted, IsFinal, IsOver, LeadsTo, automaton_of, led_from, next, state_after}
 use Rattle.rela_subset.specs.Subsets.{KeepsApart, ReachSame}
-use Rattle.rela_minimise.specs.Classes.{AcceptSame, AreAlike}
-use Rattle.rela_minimise.proofs.Alike.{alike_states}
+use Rattle.rela_minimise.specs.Classes.{AreAlike}
 use Rattle.rela_build.specs.Complement.{IsComplement}
 use Rattle.rela_complement.specs.Least.{IsLeast}
+
+led_append : (d : Deterministic) (word rest : List ℕ) (p : ℕ) → led_from d p (word ++ rest) ≡ led_from d (led_from d p word) rest
+led_append d [] rest p = refl
+led_append d (k ∷ word) rest p = led_append d word rest (next d p k)
+
+-- what follows words that lead to one state is accepted alike
+accepted_on : (d : Deterministic) (v w rest : List ℕ) → IsOver d.over w → IsOver d.over rest → state_after d v ≡ state_after d w → IsAccepted d (v ++ rest) → IsAccepted d (w ++ rest)
+accepted_on d v w rest w_over rest_over same accepted = (
+  All-append (λ k. has d.over k ≡ true) w rest w_over rest_over,
+  subst (IsFinal d) (led_append d v rest d.start ∙ ap (λ (q : ℕ). led_from d q rest) same ∙ sym (led_append d w rest d.start)) accepted.1,
+)
+
+alike_at : (d : Deterministic) (v w : List ℕ) → IsOver d.over v → IsOver d.over w → state_after d v ≡ state_after d w → AreAlike d v w
+alike_at d v w v_over w_over same rest rest_over =
+    (accepted_on d v w rest w_over rest_over same, accepted_on d w v rest v_over rest_over (sym same))
 
 -- the least one of a deterministic automaton whose states are the sets that words reach
 module _ (over : List Bool) (a : Automaton) (d m : Deterministic) (d_over : d.over ≡ over) (m_over : m.over ≡ d.over)
@@ -22,9 +38,7 @@ module _ (over : List Bool) (a : Automaton) (d m : Deterministic) (d_over : d.ov
   -- words that lead to one state are told apart by no continuation
   one_state : (v w : List ℕ) → IsOver over v → IsOver over w → state_after d v ≡ state_after d w → state_after m v ≡ state_after m w
   one_state v w v_over w_over same =
-      (classes v w (within v v_over) (within w w_over)).1
-      ((alike_states d v w (within v v_over) (within w w_over)).0
-      (subst (λ (q : ℕ). AcceptSame d (state_after d v) q) same (λ word over. (λ final. final, λ final. final))))
+      (classes v w (within v v_over) (within w w_over)).1 (alike_at d v w (within v v_over) (within w w_over) same)
 
   pub least : IsLeast over a m
   least = record {

@@ -7,13 +7,11 @@ use Rattle.rela_labels.specs.Partition.{block_of}
 use Rattle.rela_nfa.specs.Automaton.{Automaton, IsAutomaton}
 use Rattle.rela_nfa.specs.Relabelling.{IsRelabelled}
 use Rattle.rela_nfa.specs.Runs.{Reach, Accepts}
-use Rattle.rela_nfa.proofs.Relabelled.{relabelled_ok}
 use Rattle.rela_build.specs.Complement.{IsComplement}
-use Rattle.rela_build.proofs.LetterWords.{reached_letters}
 use Rattle.rela_subset.specs.Subsets.{AreApart, ReachSame, ReachSets}
 use Rattle.rela_complement.specs.Merging.{IsMerged}
 use Rattle.rela_complement.specs.Telling.{IsTold, TellsWords}
-use Rattle.rela_complement.proofs.OtherLetters.{Below, IsOver, accepts_by, over_back, over_below, over_on, reach_by}
+use Rattle.rela_complement.proofs.OtherLetters.{Below, IsOver, accepts_by, over_back, over_below, over_on, reach_by, reached_below, relabelled_ok}
 use Rattle.rela_complement.proofs.Pairs.{pairs_among, pairs_mapped}
 
 module _ (a : Automaton) (over : List Bool) (classes : List ℕ) (m : Automaton) (merged : List Bool) (is : IsMerged a over classes m merged) where
@@ -43,7 +41,7 @@ module _ (a : Automaton) (over : List Bool) (classes : List ℕ) (m : Automaton)
     r_ok = relabelled_ok classes s r spread c.automaton
 
     below : (q : ℕ) (w : List ℕ) → Reach r q w → Below (length classes) w
-    below q w reached = subst (λ (n : ℕ). Below n w) spread.letters (reached_letters r r_ok q w reached)
+    below q w reached = reached_below classes s r spread q w reached
 
     same : (v w : List ℕ) → IsOver over v → IsOver over w → ReachSame a v w → ReachSame m (f v) (f w)
     same v w v_over w_over alike q = (

@@ -1,15 +1,21 @@
 -- Labels that are unions of classes: read by the least letter of each class, and then by the class of each letter, they are as before.
-use Rattle.std.proofs.Common.{◌≡◌, ◌∙◌, ℕ, ◌^◌, ◌<◌, Bool, false, List, [], ◌∷◌, Option, None, Some, length, map, get_or, refl, sym, ap, arith}
+use Rattle.std.proofs.Common.{◌≡◌, ◌∙◌, ℕ, zero, suc, ◌+◌, ◌^◌, ◌<◌, Bool, false, List, [], ◌∷◌, Option, None, Some, length, map, get_or, refl, sym, ap, arith}
 use Rattle.std.specs.List.{All}
 use Rattle.std.specs.Option.{ForSome}
 use Rattle.std.proofs.lemmas.List.{ext_get_or, length-map}
 use Rattle.std.proofs.lemmas.List.Elements.{All-head, All-tail}
 use Rattle.rela_labels.specs.Letters.{has}
-use Rattle.rela_labels.specs.Partition.{IsLeastOf, block_of}
+use Rattle.rela_labels.specs.Partition.{IsLeastOf, block_count, block_of}
 use Rattle.rela_nfa.specs.Automaton.{Automaton, IsAutomaton, Move}
 use Rattle.rela_nfa.specs.Relabelling.{IsRelabelled, relabelled, relabelled_move}
 use Rattle.rela_complement.specs.Merging.{AreUnions, IsMerged, IsUnion}
 use Rattle.rela_complement.proofs.OtherLetters.{has_by}
+
+pub block_below : (partition : List ℕ) (s : ℕ) → s < length partition → block_of partition s < block_count partition
+unfolding block_count
+block_below [] s below = absurd (omega (arith, below))
+block_below (b ∷ others) zero below = omega arith
+block_below (b ∷ others) (suc s) below = omega (arith, block_below others s (omega (arith, below)))
 
 mapped_back : {X : Type 0} (f g : X → X) (xs : List X) → All (λ x. g (f x) ≡ x) xs → map g (map f xs) ≡ xs
 mapped_back f g [] each = refl

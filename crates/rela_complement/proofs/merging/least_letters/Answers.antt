@@ -1,5 +1,5 @@
 use Rattle.std.proofs.Common.{arith}
-use Rattle.rela_nfa.proofs.Relabelled.{block_below}
+use Rattle.rela_complement.proofs.MergedLetters.{block_below}
 use Rattle.rela_complement.proofs.merging.least_letters.Goals as goal
 
 pub returns-clause-counted : goal.returns-clause-counted

@@ -1,5 +1,5 @@
 use Rattle.std.proofs.Common.{refl}
-use Rattle.rela_nfa.proofs.Relabelled.{relabelled_ok}
+use Rattle.rela_complement.proofs.OtherLetters.{relabelled_ok}
 use Rattle.rela_complement.proofs.relabelled.relabelled.Goals as goal
 
 pub from_lists-requires-clause-automaton : goal.from_lists-requires-clause-automaton
