@@ -4,13 +4,12 @@ use Rattle.std.specs.List.{All, Contains, flat_map}
 use Rattle.std.specs.declared.vec.Vec.{Vec}
 use Rattle.std.proofs.lemmas.Bool.{cases_eq, cases_lt}
 use Rattle.std.proofs.lemmas.List.{get_or_append_left, get_or_past, get_or_push, get_or-set_other, get_or-set_same, length-map, length_push, take_more}
-use Rattle.std.proofs.lemmas.List.Elements.{All-contains, All-map, All-weaker, Contains-append_cases, Contains-append_left, Contains-append_right, Contains-get_or}
+use Rattle.std.proofs.lemmas.List.Elements.{All-contains, All-map, All-nil, All-weaker, Contains-append_cases, Contains-append_left, Contains-append_right, Contains-get_or}
 use Rattle.rela_trans.specs.Construction.{silent}
 use Rattle.rela_trans.specs.Machine.{Machine, Kind, IsFinal, IsMachine, IsMove, machine_states, moves_of}
 use Rattle.rela_trans.specs.Runs.{Does, Follow, Relates, Step, inputs, outputs}
 use Rattle.rela_trans.specs.declared.moves.Move.{Move}
 use Rattle.rela_trans.specs.declared.moves.MoveKind.TheVariants.{Silent}
-use Rattle.rela_trans.proofs.Accessors.{moves_ok}
 use Rattle.rela_letter_image.specs.Branches.{AreEnds, BySilents, GoOn, IsBranch, IsSilent, StandFor, ends_at, ends_of, kept_or, led_to, passed_on, passing}
 use Rattle.rela_letter_image.proofs.GrownSteps.{only_one}
 use Rattle.rela_letter_image.proofs.StepsGo.{Contains-map, Contains-map_back, first_in, from_flat_map, in_flat_map}
@@ -37,6 +36,13 @@ at_nil : {X Y : Type 0} (f : List X → List Y) → f [] ≡ [] → (xs : List (
 at_nil f none [] k = get_or_past [] k [] (omega arith) ∙ sym none ∙ ap f (sym (get_or_past [] k [] (omega arith)))
 at_nil f none (x ∷ xs) zero = refl
 at_nil f none (x ∷ xs) (suc k) = at_nil f none xs k
+
+-- the moves of a state lead to states, by sets of the right size
+moves_ok : (t : Machine) → IsMachine t → (p : ℕ) → All (IsMove t.letters (machine_states t)) (moves_of t p)
+moves_ok t ok p = elim (cases_lt p (machine_states t)) [
+  | inl below ↦ ok.moves p [] (omega (arith, ok.each))
+  | inr past ↦ subst (λ l. All (IsMove t.letters (machine_states t)) l) (sym (get_or_past t.moves p [] (omega (arith, ok.each)))) (All-nil (IsMove t.letters (machine_states t)))
+]
 
 module _ (t : Machine) (ok : IsMachine t) (ends : ℕ → List ℕ) (are : AreEnds t ends) where
   move_is : (p : ℕ) (m : Move (List Bool)) → Contains (moves_of t p) m → IsMove t.letters (machine_states t) m
