@@ -7,9 +7,9 @@ use Rattle.std.proofs.lemmas.List.{append-nil, get_or-take, get_or-drop, get_or_
 use Rattle.std.proofs.lemmas.List.Elements.{Contains-append_left, Contains-push, Contains-push_cases}
 use Rattle.rela_labels.specs.Letters.{has}
 use Rattle.rela_nfa.specs.StateSet.{Adds, Inserts}
-use Rattle.rela_nfa.proofs.Growing.{adds_both, adds_nothing}
 use Rattle.rela_subset.specs.Outgoing.{HasEnd, IsAlone}
 use Rattle.rela_subset.specs.declared.letter_edge.LetterEdge.{LetterEdge}
+use Rattle.rela_subset.proofs.Sets.{adds_both, adds_nothing}
 use Rattle.rela_subset.proofs.Targets.{Contains-nil}
 
 -- the edges by a letter stand together

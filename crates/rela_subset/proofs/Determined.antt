@@ -18,10 +18,10 @@ use Rattle.rela_subset.specs.Expansion.{IsExplored, IsOut, IsUpTo}
 use Rattle.rela_subset.specs.Sets.{AreDistinct, HasFinal, NextFrom, ReachedBy}
 use Rattle.rela_subset.specs.Subsets.{AreApart, KeepsApart, ReachSame, ReachSets}
 use Rattle.rela_subset.proofs.Ascending.{apart_lists, same_lists}
-use Rattle.rela_subset.proofs.LastLetters.{before_upto, upto_push, upto_transitive}
+use Rattle.rela_subset.proofs.LastLetters.{IsTransitive, before_upto, upto_push, upto_transitive}
 use Rattle.rela_subset.proofs.Reached.{reached_next}
 
-module _ (a : Automaton) (over : List Bool) (sets : List (List ℕ)) (d : Deterministic) (is : IsExplored a over sets d.edges)
+module _ (transitive : IsTransitive) (a : Automaton) (over : List Bool) (sets : List (List ℕ)) (d : Deterministic) (is : IsExplored a over sets d.edges)
     (over_is : d.over ≡ over) (start : d.start ≡ 0) (all : length d.edges ≡ length sets) (each : length d.finals ≡ length sets) (distinct : AreDistinct sets) where
   out_of : (q : ℕ) → q < length sets → IsOut a over sets is.words q (moves_of d q)
   out_of q below = is.out q (omega arith)
@@ -71,7 +71,7 @@ module _ (a : Automaton) (over : List Bool) (sets : List (List ℕ)) (d : Determ
       (stands_on rest (next d q k) (before ++ k ∷ []) (record {
         within = step.within;
         reached = reached_next a (get_or sets q []) (get_or sets (next d q k) []) k before stands.reached step.follows;
-        early = upto_transitive (get_or is.words (next d q k) []) (get_or is.words q [] ++ k ∷ []) (before ++ k ∷ []) step.early (upto_push (get_or is.words q []) before k stands.early);
+        early = upto_transitive transitive (get_or is.words (next d q k) []) (get_or is.words q [] ++ k ∷ []) (before ++ k ∷ []) step.early (upto_push (get_or is.words q []) before k stands.early);
       }) (All-tail (λ j. has over j ≡ true) k rest read))
 
   stands : (word : List ℕ) → IsOver over word → Stands (state_after d word) word
@@ -126,7 +126,7 @@ module _ (a : Automaton) (over : List Bool) (sets : List (List ℕ)) (d : Determ
       let early : IsUpTo (get_or is.words q []) word = subst (λ n. IsUpTo (get_or is.words n []) word) leads.1 at.early in (
         get_or is.words p [],
         word_leads p (omega arith),
-        before_upto (get_or is.words p []) (get_or is.words q []) word (is.found.ascending p q before within) early,
+        before_upto transitive (get_or is.words p []) (get_or is.words q []) word (is.found.ascending p q before within) early,
       )
 
   pub accepted : ((i : ℕ) → i < length sets → IsTrue (get_or d.finals i false) ↔ HasFinal a (get_or sets i [])) → (word : List ℕ) → IsAccepted d word ↔ (IsOver over word × Accepts a word)
@@ -181,16 +181,16 @@ pub record IsDeterminised (a : Automaton) (over : List Bool) (n : ℕ) (d : Dete
   pub arrival : IsByArrival d
   pub few : ¬ ReachSets a over (n + 1)
 
-pub determinised : (a : Automaton) (over : List Bool) (sets : List (List ℕ)) (d : Deterministic) (n : ℕ) → IsExplored a over sets d.edges → d.over ≡ over → d.start ≡ 0 → length d.edges ≡ length sets
+pub determinised : (transitive : IsTransitive) (a : Automaton) (over : List Bool) (sets : List (List ℕ)) (d : Deterministic) (n : ℕ) → IsExplored a over sets d.edges → d.over ≡ over → d.start ≡ 0 → length d.edges ≡ length sets
     → length d.finals ≡ length sets → AreDistinct sets → length sets ≤ n
     → ((i : ℕ) → i < length sets → IsTrue (get_or d.finals i false) ↔ HasFinal a (get_or sets i [])) → IsDeterminised a over n d
-determinised a over sets d n is over_is start all each distinct few finals = record {
-  language = accepted a over sets d is over_is start all each distinct finals;
-  same = same_state a over sets d is over_is start all each distinct;
-  apart = apart a over sets d is over_is start all each distinct;
-  reached = reachable a over sets d is over_is start all each distinct;
-  arrival = by_arrival a over sets d is over_is start all each distinct;
-  few = few_apart a over sets d is over_is start all each distinct n few;
+determinised transitive a over sets d n is over_is start all each distinct few finals = record {
+  language = accepted transitive a over sets d is over_is start all each distinct finals;
+  same = same_state transitive a over sets d is over_is start all each distinct;
+  apart = apart transitive a over sets d is over_is start all each distinct;
+  reached = reachable transitive a over sets d is over_is start all each distinct;
+  arrival = by_arrival transitive a over sets d is over_is start all each distinct;
+  few = few_apart transitive a over sets d is over_is start all each distinct n few;
 }
 
 -- one flag more

@@ -2,7 +2,6 @@
 use Rattle.std.proofs.Common.{◌≡◌, ℕ, ◌<◌, List, [], ◌∷◌, ◌++◌, length, refl, sym, ap, ◌∙◌, subst, inl, inr, arith}
 use Rattle.std.proofs.lemmas.List.{length_push}
 use Rattle.rela_names.specs.Shortlex.{IsBefore, IsSmaller}
-use Rattle.rela_names.proofs.ShortlexLaws.{before_transitive}
 use Rattle.rela_subset.specs.Expansion.{IsUpTo}
 
 smaller_push : (u v : List ℕ) (j k : ℕ) → length u ≡ length v → IsSmaller u v → IsSmaller (u ++ j ∷ []) (v ++ k ∷ [])
@@ -35,14 +34,27 @@ nil_before u k = inl (omega (arith, length_push u k))
 pub upto_push : (u v : List ℕ) (k : ℕ) → IsUpTo u v → IsUpTo (u ++ k ∷ []) (v ++ k ∷ [])
 upto_push u v k upto = elim upto [ inl same ↦ inl (ap (λ w. w ++ k ∷ []) same) | inr before ↦ inr (before_push u v k k before) ]
 
-pub upto_transitive : (u v w : List ℕ) → IsUpTo u v → IsUpTo v w → IsUpTo u w
-upto_transitive u v w first second = elim first [
-  | inl same ↦ subst (λ x. IsUpTo x w) (sym same) second
-  | inr before ↦ elim second [
-    | inl same ↦ inr (subst (λ x. IsBefore u x) same before)
-    | inr later ↦ inr (before_transitive u v w before later)
-  ]
-]
+-- the laws of the order
+abbrev pub IsTransitive : Type 0
+IsTransitive = (u v w : List ℕ) → IsBefore u v → IsBefore v w → IsBefore u w
 
-pub before_upto : (u v w : List ℕ) → IsBefore u v → IsUpTo v w → IsBefore u w
-before_upto u v w before upto = elim upto [ inl same ↦ subst (λ x. IsBefore u x) same before | inr later ↦ before_transitive u v w before later ]
+pub record IsOrder : Type 0 where
+  pub irreflexive : (u : List ℕ) → ¬ IsBefore u u
+  pub transitive : IsTransitive
+
+module _ (transitive : IsTransitive) where
+  pub upto_transitive : (u v w : List ℕ) → IsUpTo u v → IsUpTo v w → IsUpTo u w
+  upto_transitive u v w first second = elim first [
+    | inl same ↦ subst (λ x. IsUpTo x w) (sym same) second
+    | inr before ↦ elim second [
+      | inl same ↦ inr (subst (λ x. IsBefore u x) same before)
+      | inr later ↦ inr (transitive u v w before later)
+    ]
+  ]
+
+  pub before_upto : (u v w : List ℕ) → IsBefore u v → IsUpTo v w → IsBefore u w
+  before_upto u v w before upto = elim upto [ inl same ↦ subst (λ x. IsBefore u x) same before | inr later ↦ transitive u v w before later ]
+
+  -- what is not after a word is before what comes after that word
+  pub upto_before : (u v w : List ℕ) → IsUpTo u v → IsBefore v w → IsBefore u w
+  upto_before u v w upto before = elim upto [ inl same ↦ subst (λ x. IsBefore x w) (sym same) before | inr earlier ↦ transitive u v w earlier before ]

@@ -14,6 +14,7 @@ pub mod OutOfSets
 pub mod Placing
 pub mod Reached
 pub mod Searching
+pub mod Sets
 pub mod SetsFound
 pub mod SetsSpread
 pub mod Silents

@@ -7,19 +7,18 @@ use Rattle.std.proofs.lemmas.List.{append-nil, get_or-map, length-map, take_all,
 use Rattle.std.proofs.lemmas.List.Concat.{flat_map-append}
 use Rattle.std.proofs.lemmas.List.Elements.{All-contains, All-nil}
 use Rattle.rela_labels.specs.Letters.{has}
-use Rattle.rela_labels.proofs.LettersOfWords.{has_below}
 use Rattle.rela_nfa.specs.Automaton.{Automaton, IsAutomaton, IsMove, Move, moves_of, states}
 use Rattle.rela_nfa.specs.Reading.{SilentlyFrom}
 use Rattle.rela_nfa.specs.Runs.{StepIn}
 use Rattle.rela_nfa.specs.StateSet.{Adds, Lists}
 use Rattle.rela_nfa.specs.Stored.{move_of}
 use Rattle.rela_nfa.specs.declared.edge.Edge.{Edge}
-use Rattle.rela_nfa.proofs.Growing.{adds_all, adds_both}
 use Rattle.rela_subset.specs.Outgoing.{AreHeld, AreSortedOut, HasEnd, moves_from, Sorted}
 use Rattle.rela_subset.specs.Sets.{NextFrom, StepFrom}
 use Rattle.rela_subset.specs.Splitting.{Splitting}
 use Rattle.rela_subset.specs.declared.letter_edge.LetterEdge.{LetterEdge}
 use Rattle.rela_subset.proofs.Following.{lists_same, next_from}
+use Rattle.rela_subset.proofs.Sets.{adds_all, adds_both, has_below}
 use Rattle.rela_subset.proofs.Targets.{Contains-nil}
 use Rattle.rela_subset.proofs.SortingOut.{all_among, contains_flat, step_flat, step_sorted}
 

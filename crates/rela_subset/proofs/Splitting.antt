@@ -7,13 +7,13 @@ use Rattle.std.proofs.lemmas.List.{get_or-set_other, get_or-set_same, get_or_def
 use Rattle.std.proofs.lemmas.List.Elements.{All-contains}
 use Rattle.std.proofs.lemmas.List.Sorted.{IsNonDecreasingBy-drop}
 use Rattle.rela_labels.specs.Letters.{has}
-use Rattle.rela_labels.proofs.LettersOfWords.{has_below}
 use Rattle.rela_nfa.specs.Automaton.{Automaton, Move, moves_of}
 use Rattle.rela_subset.specs.Deterministic.{takes}
 use Rattle.rela_subset.specs.Expansion.{AreTakenAlike, IsAlike}
 use Rattle.rela_subset.specs.Outgoing.{AreSortedOut, HasEnd, IsAlone, moves_from}
 use Rattle.rela_subset.specs.Splitting.{IsLeastOf, letters_left}
 use Rattle.rela_subset.specs.declared.letter_edge.LetterEdge.{LetterEdge}
+use Rattle.rela_subset.proofs.Sets.{has_below}
 use Rattle.rela_subset.proofs.SortingOut.{all_among, all_flat, others_alike, single_alike}
 use Rattle.rela_subset.proofs.Targets.{Contains-cons_cases, Contains-head, Contains-nil, Contains-tail}
 

@@ -6,7 +6,6 @@ use Rattle.std.proofs.lemmas.List.{append-nil, append_assoc, get_or-take, length
 use Rattle.std.proofs.lemmas.List.Elements.{All-from_get_or, All-head, All-tail}
 use Rattle.rela_labels.specs.Letters.{has}
 use Rattle.rela_names.specs.Shortlex.{First, IsBefore}
-use Rattle.rela_names.proofs.ShortlexLaws.{before_irreflexive, before_transitive}
 use Rattle.rela_nfa.specs.Automaton.{Automaton}
 use Rattle.rela_nfa.specs.StateSet.{Lists}
 use Rattle.rela_subset.specs.Deterministic.{IsOver}
@@ -16,18 +15,14 @@ use Rattle.rela_subset.specs.Sets.{AreDistinct, ReachedBy}
 use Rattle.rela_subset.specs.Subsets.{IsUnwantedWord, IsWantedWord, ReachSetsBefore}
 use Rattle.rela_subset.proofs.Ascending.{same_lists}
 use Rattle.rela_subset.proofs.Finding.{found_sets, found_sets_words}
-use Rattle.rela_subset.proofs.LastLetters.{before_push, before_upto, nil_before, upto_push, upto_transitive}
+use Rattle.rela_subset.proofs.LastLetters.{IsOrder, before_push, before_upto, nil_before, upto_before, upto_push, upto_transitive}
 use Rattle.rela_subset.proofs.Reached.{reached_next}
 
--- what is not after a word is before what comes after that word
-upto_before : (u v w : List ℕ) → IsUpTo u v → IsBefore v w → IsBefore u w
-upto_before u v w upto before = elim upto [ inl same ↦ subst (λ x. IsBefore x w) (sym same) before | inr earlier ↦ before_transitive u v w earlier before ]
-
-not_both : (u v : List ℕ) → IsBefore u v → ¬ IsBefore v u
-not_both u v before after = before_irreflexive u (before_transitive u v u before after)
-
-module _ (a : Automaton) (over rest : List Bool) (sets words : List (List ℕ)) (left : ℕ) (is : AreFound a over sets words left)
+module _ (order : IsOrder) (a : Automaton) (over rest : List Bool) (sets words : List (List ℕ)) (left : ℕ) (is : AreFound a over sets words left)
     (out : (i letter : ℕ) → i < left → has over letter ≡ true → ((to : ℕ) × Arrives a sets words i letter to) ⊎ ((has rest letter ≡ true) × LeadsPast sets words i letter)) where
+  not_both : (u v : List ℕ) → IsBefore u v → ¬ IsBefore v u
+  not_both u v before after = order.irreflexive u (order.transitive u v u before after)
+
   -- the word leads to a set whose own word is not after it
   record Stands (word : List ℕ) : Type 0 where
     at : ℕ
@@ -53,7 +48,7 @@ module _ (a : Automaton) (over rest : List Bool) (sets words : List (List ℕ)) 
   -- what is before the word of a set with a letter more is before each word that leads there with that letter
   past_by : (i j k : ℕ) (word : List ℕ) → IsUpTo (get_or words i []) word → IsBefore (get_or words j []) (get_or words i [] ++ k ∷ []) → IsBefore (get_or words j []) (word ++ k ∷ [])
   past_by i j k word early before =
-      before_upto (get_or words j []) (get_or words i [] ++ k ∷ []) (word ++ k ∷ []) before (upto_push (get_or words i []) word k early)
+      before_upto order.transitive (get_or words j []) (get_or words i [] ++ k ∷ []) (word ++ k ∷ []) before (upto_push (get_or words i []) word k early)
 
   step : (word : List ℕ) (k : ℕ) → has over k ≡ true → Stands word ⊎ IsPast word → Stands (word ++ k ∷ []) ⊎ IsPast (word ++ k ∷ [])
   step word k read so_far = elim so_far [
@@ -63,7 +58,7 @@ module _ (a : Automaton) (over rest : List Bool) (sets words : List (List ℕ)) 
           at = to;
           within = arrives.within;
           reached = reached_next a (get_or sets stands.at []) (get_or sets to []) k word stands.reached arrives.follows;
-          early = upto_transitive (get_or words to []) (get_or words stands.at [] ++ k ∷ []) (word ++ k ∷ []) arrives.early (upto_push (get_or words stands.at []) word k stands.early);
+          early = upto_transitive order.transitive (get_or words to []) (get_or words stands.at [] ++ k ∷ []) (word ++ k ∷ []) arrives.early (upto_push (get_or words stands.at []) word k stands.early);
         })
         | inr (in_rest, past) ↦ inr (record {
           some = inr (k, in_rest);
@@ -79,7 +74,7 @@ module _ (a : Automaton) (over rest : List Bool) (sets words : List (List ℕ)) 
     ]
     | inr past ↦ inr (record {
       some = past.some;
-      after = λ j within. before_transitive (get_or words j []) word (word ++ k ∷ []) (past.after j within) (inl (omega (arith, length_push word k)));
+      after = λ j within. order.transitive (get_or words j []) word (word ++ k ∷ []) (past.after j within) (inl (omega (arith, length_push word k)));
     })
   ]
 
@@ -106,14 +101,14 @@ module _ (a : Automaton) (over rest : List Bool) (sets words : List (List ℕ)) 
         | inl later ↦ absurd (not_both (get_or words number []) (get_or words i []) (is.ascending number i later within) before)
         | inr not_later ↦
             let same : number ≡ i = omega arith in
-            absurd (before_irreflexive (get_or words i []) (subst (λ n. IsBefore (get_or words i []) (get_or words n [])) same before))
+            absurd (order.irreflexive (get_or words i []) (subst (λ n. IsBefore (get_or words i []) (get_or words n [])) same before))
       ]
     ]
 
     pub before_first : (number : ℕ) → IsFirstAt P sets number → (v : List ℕ) → IsOver over v → IsBefore v (get_or words number []) → IsUnwantedWord a P v
     before_first number first v read before = elim (standing v read) [
       | inl stands ↦
-          let earlier = in_order stands.at number stands.within (upto_before (get_or words stands.at []) v (get_or words number []) stands.early before) in
+          let earlier = in_order stands.at number stands.within (upto_before order.transitive (get_or words stands.at []) v (get_or words number []) stands.early before) in
           (get_or sets stands.at [], stands.reached, first.before stands.at earlier)
       | inr past ↦ absurd (not_both v (get_or words number []) before (past.after number first.within))
     ]

@@ -16,6 +16,7 @@ use crate::outgoing::Outgoing;
 use crate::silent::silent_part;
 use crate::state_sets::StateSets;
 use rela_labels::LabelSet;
+use rela_names::shortlex_is_transitive;
 use rela_nfa::{BuildError, Edge, Nfa, StateSet};
 use std::alloc::{AllocError, Global};
 
@@ -59,6 +60,7 @@ pub fn determinise<L: LabelSet>(
         ReachSets a.now (L.letters over.now) (limit + 1)) }
     ensures bounded { IfErr result (λ e. e ≡ BuildError.Limit → limit < 2 ^ 63) }
 {
+    shortlex_is_transitive();
     let mut sets = StateSets::new(alloc);
     let edges = explore_from_start(alloc, a, over, &mut sets, limit)?;
     let finals = finals(alloc, a, &sets)?;

@@ -14,7 +14,7 @@ use crate::spreading::spread;
 use crate::state_sets::StateSets;
 use crate::wanted::Wanted;
 use rela_labels::LabelSet;
-use rela_names::Word;
+use rela_names::{Word, shortlex_is_irreflexive, shortlex_is_transitive};
 use rela_nfa::{BuildError, Nfa, StateSet};
 use rela_pairs::within;
 use std::alloc::{AllocError, Global};
@@ -49,6 +49,8 @@ pub fn first_word<L: LabelSet, W: Wanted>(
         ReachSetsBefore a.now (L.letters over.now) (W.wants wanted.now) (limit + 1)) }
     ensures bounded { IfErr result (λ e. e ≡ BuildError.Limit → limit < 2 ^ 63) }
 {
+    shortlex_is_irreflexive();
+    shortlex_is_transitive();
     let mut sets = StateSets::new(alloc);
     let mut arrivals = Vec::new(alloc);
     let found = search_from_start(alloc, a, over, wanted, &mut sets, &mut arrivals, limit)?;
@@ -122,6 +124,8 @@ fn search<L: LabelSet, W: Wanted>(
     ensures bounded { IfErr result (λ e. e ≡ BuildError.Limit → limit < 2 ^ 63) }
     ensures count { visited.new.count ≡ visited.old.count }
 {
+    shortlex_is_irreflexive();
+    shortlex_is_transitive();
     if let Some(found) = first_wanted(wanted, sets, 0) {
         return Ok(Some(found));
     }

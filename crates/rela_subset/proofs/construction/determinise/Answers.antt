@@ -16,7 +16,7 @@ finals-requires g c =
 
 pub new-dfa-requires : goal.new-dfa-requires
 new-dfa-requires g c =
-    determined c.args.a.now (g.L.LabelSet.letters c.args.over.now) c.explore_from_start.new.sets
+    determined c.shortlex_is_transitive.ensures c.args.a.now (g.L.LabelSet.letters c.args.over.now) c.explore_from_start.new.sets
     (deterministic g.L.LabelSet.letters (g.L.LabelSet.letters c.in_ok-over.over) 0 c.in_ok-finals.finals.items c.in_ok-edges.edges.items)
     c.in_ok-edges.ensures.explored c.in_ok-over.ensures.same refl c.in_ok-edges.ensures.each c.in_ok-finals.ensures.len c.in_ok-edges.ensures.distinct
 
@@ -24,7 +24,7 @@ module _ (g : Rattle.rela_subset.proofs.construction.determinise.Given.Over) (c 
   done : IsDeterminised c.args.a.now (g.L.LabelSet.letters c.args.over.now) c.args.limit c.new-dfa.result
   done =
       subst (IsDeterminised c.args.a.now (g.L.LabelSet.letters c.args.over.now) c.args.limit) (sym c.new-dfa.ensures)
-      (determinised c.args.a.now (g.L.LabelSet.letters c.args.over.now) c.explore_from_start.new.sets
+      (determinised c.shortlex_is_transitive.ensures c.args.a.now (g.L.LabelSet.letters c.args.over.now) c.explore_from_start.new.sets
       (deterministic g.L.LabelSet.letters (g.L.LabelSet.letters c.in_ok-over.over) 0 c.in_ok-finals.finals.items c.in_ok-edges.edges.items) c.args.limit
       c.in_ok-edges.ensures.explored c.in_ok-over.ensures.same refl c.in_ok-edges.ensures.each c.in_ok-finals.ensures.len c.in_ok-edges.ensures.distinct c.in_ok-edges.ensures.few
       c.in_ok-finals.ensures.each)

@@ -58,7 +58,7 @@ returns-in_err-within-clause-limit g c =
     upto.1 in
     let e = err_from_is_err_and c.from_residual-in_err-within.result c.from_residual-in_err-within.ensures.1 in
     rw (e.1, e.2) (λ _.
-    sets_before c.args.a.now over upto.0 c.spread.new.sets searched.words (c.loop-number.number + 1) searched.found searched.out wants (c.args.limit + 1)
+    sets_before (record { irreflexive = c.shortlex_is_irreflexive.ensures; transitive = c.shortlex_is_transitive.ensures }) c.args.a.now over upto.0 c.spread.new.sets searched.words (c.loop-number.number + 1) searched.found searched.out wants (c.args.limit + 1)
     (omega (arith, c.in_err-within.ensures.limit.1, c.len-in-loop-number.ensures.len)) c.len-in-loop-number.ensures.distinct
     (more_unwanted c.args.a.now over upto.0 sets c.loop-number.arrivals.items c.loop-number.number c.loop-number.invariant.searched left c.spread.new.sets letters c.spread.new.arrivals.items arrived
     upto.1 wants c.loop-number.invariant.unwanted (length c.spread.new.sets)

@@ -1,6 +1,6 @@
 use Rattle.std.proofs.Common.{◌<◌, length, ap, sym, subst, ◌∙◌}
-use Rattle.rela_labels.proofs.LettersOfWords.{has_below}
 use Rattle.rela_subset.specs.Splitting.{Splitting}
+use Rattle.rela_subset.proofs.Sets.{has_below}
 use Rattle.rela_subset.proofs.Splitting.{alike_alone, length_left}
 use Rattle.rela_subset.proofs.blocks.Blocks.next.Goals as goal
 
