@@ -7,7 +7,7 @@ use Rattle.std.specs.List.{slice_split, before_first, after_first, list_all, pos
 use Rattle.std.specs.Option.{option_and_then}
 use Rattle.std.specs.Str.{bytes_eq}
 use Rattle.std.specs.Str.Parse.{digits_value}
-use Rattle.std.proofs.Common.{◌∙◌, ap, arith, inl, inr}
+use Rattle.std.proofs.Common.{◌∙◌, add-zero, ap, inl, inr, sym}
 use Rattle.std.proofs.lemmas.Bool.{cases_lt}
 use Rattle.std.proofs.lemmas.Nat.{mod-mul-add, pow_pos}
 use Rattle.rela_flows.specs.Fields.{bits_of, separator_of}
@@ -86,8 +86,8 @@ pub network_zeros : (width length address : ℕ) →
 network_zeros width length address =
     let size : ℕ = 2 ^ (width - length) in
     let whole : ℕ = network width length address in
-    let same : whole ≡ whole + 0 = omega arith in
-    ap (λ k. k % size) same ∙ mod-mul-add (address / size) size 0 (pow_pos (width - length))
+    ap (λ k. k % size) (sym (add-zero whole))
+    ∙ mod-mul-add (address / size) size 0 (pow_pos (width - length))
 
 -- the prefix of so many of an address's first bits, if it has so many
 abbrev pub ipv4_made : (a n : ℕ) → (32 < n) ⊎ (n ≤ 32) → (network 32 n a < 2 ^ 32) ⊎ (2 ^ 32
