@@ -55,7 +55,7 @@ fn relation(alloc: Global, form: &Form) -> Result<Transducer<Letters>, AllocErro
         Form::Returns => turning(alloc, 1, 0),
         Form::TurnsEach => {
             let turned = turning(alloc, 0, 1)?;
-            turned.star(alloc)
+            turned.into_star(alloc)
         }
     }
 }

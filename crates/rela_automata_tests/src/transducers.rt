@@ -64,27 +64,27 @@ struct Relates<'a>(Form, u32, &'a [u32], &'a [u32], bool);
 impl Relates<'_> {
     /// Whether the transducer that is made so of these two has the pair of words, and `None` where
     /// there is no memory to tell.
-    fn found(&self, alloc: Global, turned: &Machine, kept: &Machine) -> Option<bool>
-        requires turned { turned.now.letters ≡ 3 }
-        requires kept { kept.now.letters ≡ 3 }
+    fn found(&self, alloc: Global, turned: Machine, kept: Machine) -> Option<bool>
+        requires turned { turned.letters ≡ 3 }
+        requires kept { kept.letters ≡ 3 }
     {
         let Relates(form, _, u, v, _) = self;
         match form {
-            Form::Turned => are_related(alloc, turned, u, v),
+            Form::Turned => are_related(alloc, &turned, u, v),
             Form::Inverse => has_pair(alloc, turned.inverse(alloc), u, v),
-            Form::Star => has_pair(alloc, turned.star(alloc), u, v),
-            Form::Union => has_pair(alloc, turned.union(alloc, kept), u, v),
-            Form::Concat => has_pair(alloc, turned.concat(alloc, kept), u, v),
-            Form::Compose => has_pair(alloc, turned.compose(alloc, kept, 100), u, v),
+            Form::Star => has_pair(alloc, turned.into_star(alloc), u, v),
+            Form::Union => has_pair(alloc, turned.into_union(alloc, kept), u, v),
+            Form::Concat => has_pair(alloc, turned.into_concat(alloc, kept), u, v),
+            Form::Compose => has_pair(alloc, turned.compose(alloc, &kept, 100), u, v),
         }
     }
 
     /// Whether the answer is yes where this is the first of the two.
-    fn is_so_of(&self, alloc: Global, turned: &Machine) -> bool
-        requires { turned.now.letters ≡ 3 }
+    fn is_so_of(&self, alloc: Global, turned: Machine) -> bool
+        requires { turned.letters ≡ 3 }
     {
         match keeping(alloc, self.1) {
-            Ok(kept) => self.found(alloc, turned, &kept) == Some(self.4),
+            Ok(kept) => self.found(alloc, turned, kept) == Some(self.4),
             Err(_) => false,
         }
     }
@@ -101,7 +101,7 @@ fn keeping(alloc: Global, letter: u32) -> Result<Machine, AllocError>
 impl Question for Relates<'_> {
     fn is_so(&self, alloc: Global, zero: &Table, one: &Table) -> bool {
         match Transducer::product(alloc, zero, one) {
-            Ok(turned) => self.is_so_of(alloc, &turned),
+            Ok(turned) => self.is_so_of(alloc, turned),
             Err(_) => false,
         }
     }

@@ -3,7 +3,7 @@ use Rattle.std.proofs.Common.{◌≡◌, ℕ, ◌+◌, ◌<◌, ◌≤◌, ◌�
 use Rattle.std.specs.List.{All, Contains, range_with_len}
 use Rattle.std.specs.Option.{ForSome, option_to_list}
 use Rattle.std.proofs.lemmas.Bool.{cases_Bool, cases_lt, cond_both}
-use Rattle.std.proofs.lemmas.List.{append-nil, get_or_past}
+use Rattle.std.proofs.lemmas.List.{get_or_past}
 use Rattle.std.proofs.lemmas.List.Elements.{All-nil, All-cons, All-append, All-map, All-weaker, All-contains}
 use Rattle.std.proofs.lemmas.List.FromFn.{get_or-map-range_with_len, length-map-range_with_len}
 use Rattle.rela_nfa.proofs.Moves.{Contains-cons_cases, Contains-nil}
@@ -70,18 +70,6 @@ copied_ok a by exit n ok room within =
         (All-map (IsMove a.letters n) (shifted by) (moves_of a p)
         (All-weaker (IsMove a.letters (machine_states a)) (λ m. IsMove a.letters n (shifted by m)) (λ m is. record { sized = is.sized; leads = omega (arith, is.leads) }) (moves_of a p) (moves_ok a ok p)))
         (cond_both (get_or a.finals p false) _ _ (All (IsMove a.letters n)) (λ _. silent_ok a.letters n exit within) (λ _. All-nil (IsMove a.letters n)))
-
-pub leaving_with_exit : (a : Machine) (by q t : ℕ) → IsFinal a q → leaving a by (Some t) q ≡ map (shifted by) (moves_of a q) ++ silent t ∷ []
-leaving_with_exit a by q t final = ap (λ b. map (shifted by) (moves_of a q) ++ cond b (silent t ∷ []) []) final
-
-pub leaving_without_exit : (a : Machine) (by q : ℕ) → leaving a by None q ≡ map (shifted by) (moves_of a q)
-leaving_without_exit a by q =
-    cond_both (get_or a.finals q false) [] [] (λ l. map (shifted by) (moves_of a q) ++ l ≡ map (shifted by) (moves_of a q))
-    (λ _. append-nil (map (shifted by) (moves_of a q))) (λ _. append-nil (map (shifted by) (moves_of a q)))
-
-pub leaving_unless_final : (a : Machine) (by : ℕ) (exit : Option ℕ) (q : ℕ) → get_or a.finals q false ≡ false → leaving a by exit q ≡ map (shifted by) (moves_of a q)
-leaving_unless_final a by exit q other =
-    ap (λ b. map (shifted by) (moves_of a q) ++ cond b (map silent (option_to_list exit)) []) other ∙ append-nil (map (shifted by) (moves_of a q))
 
 -- only states have moves
 pub state_of_step : (read : ℕ → ℕ) (a : Machine) → IsMachine a → (p q : ℕ) (input output : List ℕ) → HasStep read a p input output q → p < machine_states a

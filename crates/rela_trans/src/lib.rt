@@ -3,7 +3,6 @@
 #![tactic(auto)]
 
 mod compose;
-mod copying;
 mod detours;
 mod image_edges;
 mod image_pairs;
@@ -14,7 +13,6 @@ mod laws;
 mod leading;
 mod moves;
 mod moving;
-mod operations;
 mod pruned;
 mod reading_finer;
 mod relabel;

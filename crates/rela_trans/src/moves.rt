@@ -1,6 +1,6 @@
 //! The moves of transducers.
-ghost use Rattle.std.specs.Prelude.{◌≡◌, ◌+◌, ◌<◌, ◌^◌, IfOk};
-ghost use Rattle.rela_trans.specs.Construction.{shifted, turned, turned_move};
+ghost use Rattle.std.specs.Prelude.{◌≡◌, IfOk};
+ghost use Rattle.rela_trans.specs.Construction.{turned, turned_move};
 ghost use Rattle.rela_trans.specs.Stored.{kind_of, move_of};
 
 use rela_labels::LabelSet;
@@ -29,18 +29,6 @@ pub struct Move<L> {
 }
 
 impl<L: LabelSet> MoveKind<L> {
-    /// A copy of the kind.
-    fn copy(&self, alloc: Global) -> Result<MoveKind<L>, AllocError>
-        ensures { IfOk result (λ kind. kind_of L.letters kind ≡ kind_of L.letters self.now) }
-    {
-        match self {
-            MoveKind::Silent => Ok(MoveKind::Silent),
-            MoveKind::In(set) => Ok(MoveKind::In(set.copy(alloc)?)),
-            MoveKind::Out(set) => Ok(MoveKind::Out(set.copy(alloc)?)),
-            MoveKind::Same(set) => Ok(MoveKind::Same(set.copy(alloc)?)),
-        }
-    }
-
     /// The kind that writes what this one reads, and reads what it writes.
     fn turned(&self, alloc: Global) -> Result<MoveKind<L>, AllocError>
         ensures { IfOk result (λ kind. kind_of L.letters kind
@@ -56,18 +44,6 @@ impl<L: LabelSet> MoveKind<L> {
 }
 
 impl<L: LabelSet> Move<L> {
-    /// A copy of the move that leads to a state `by` later.
-    pub(crate) fn shifted(&self, alloc: Global, by: usize) -> Result<Move<L>, AllocError>
-        requires { by + self.now.to < 2 ^ 64 }
-        ensures { IfOk result (λ edge. move_of L.letters edge
-            ≡ shifted by (move_of L.letters self.now)) }
-    {
-        Ok(Move {
-            kind: self.kind.copy(alloc)?,
-            to: by + self.to,
-        })
-    }
-
     /// The move that writes what this one reads, and reads what it writes.
     pub(crate) fn turned(&self, alloc: Global) -> Result<Move<L>, AllocError>
         ensures { IfOk result (λ edge. move_of L.letters edge

@@ -8,12 +8,25 @@ ghost use Rattle.rela_trans.specs.Relations.{PairJoins, PairRepeats};
 ghost use Rattle.rela_trans.specs.Runs.{ReachR, Relates};
 ghost use Rattle.rela_trans.specs.Stored.{move_of, moves_in};
 
-use crate::copying::silent_moves;
 use crate::moves::{Move, MoveKind};
 use crate::transducer::Transducer;
 use rela_labels::LabelSet;
 use std::alloc::{AllocError, Global};
 use std::mem::replace;
+
+/// A silent move to each of these states.
+fn silent_moves<L: LabelSet>(alloc: Global, ends: &[usize]) -> Result<Vec<Move<L>>, AllocError>
+    ensures { IfOk result (λ moves. map (move_of L.letters) moves.items ≡ map silent ends.now) }
+{
+    let mut moves = Vec::with_capacity(alloc, ends.len())?;
+    for to in ends {
+        moves.push(Move {
+            kind: MoveKind::Silent,
+            to: *to,
+        })?;
+    }
+    Ok(moves)
+}
 
 /// Lets each of the moves lead to a state `by` later.
 fn shift<L: LabelSet>(moves: &mut [Move<L>], by: usize)
@@ -80,9 +93,9 @@ impl<L: LabelSet> Transducer<L> {
         Ok(())
     }
 
-    /// The pairs of one relation or the other, as by [`union`](Transducer::union), of transducers
-    /// that are let go. Time: linear in the states and the moves of both; space: linear in the
-    /// states. No move is copied.
+    /// The pairs of one relation or the other. State 0 is a start of its own; the states of `self`
+    /// come after it, and then those of `other`. Both are let go, and no move is copied. Time:
+    /// linear in the states and the moves of both; space: linear in the states.
     pub fn into_union(
         self,
         alloc: Global,
@@ -120,9 +133,9 @@ impl<L: LabelSet> Transducer<L> {
         })
     }
 
-    /// A pair of `self` followed by one of `other`, as by [`concat`](Transducer::concat), of
-    /// transducers that are let go. Time: linear in the states and the moves of both; space: linear
-    /// in the states. No move is copied.
+    /// A pair of `self` followed by one of `other`. The states of `self` come first, and then those
+    /// of `other`. Both are let go, and no move is copied. Time: linear in the states and the moves
+    /// of both; space: linear in the states.
     pub fn into_concat(
         self,
         alloc: Global,
@@ -158,9 +171,9 @@ impl<L: LabelSet> Transducer<L> {
         })
     }
 
-    /// Any number of pairs of `self`, one after the other, as by [`star`](Transducer::star), of a
-    /// transducer that is let go. Time: linear in the states and the moves; space: linear in the
-    /// states. No move is copied.
+    /// Any number of pairs of `self`, one after the other. State 0 is a start of its own, to which
+    /// no move leads; the states of `self` come after it. `self` is let go, and no move is copied.
+    /// Time: linear in the states and the moves; space: linear in the states.
     pub fn into_star(self, alloc: Global) -> Result<Transducer<L>, AllocError>
         ensures letters { IfOk result (λ t. t.letters ≡ self.letters) }
         ensures states { IfOk result (λ t. machine_states t ≡ 1 + machine_states self) }

@@ -3,7 +3,7 @@ use Rattle.std.proofs.lemmas.List.{get_or_default, map_push, take_all}
 use Rattle.rela_trans.specs.Construction.{silent}
 use Rattle.rela_trans.specs.Stored.{move_of}
 use Rattle.rela_trans.proofs.OneMore.{once_more}
-use Rattle.rela_trans.proofs.copying.silent_moves.Goals as goal
+use Rattle.rela_trans.proofs.moving.silent_moves.Goals as goal
 
 pub loop-to-preserved : goal.loop-to-preserved
 loop-to-preserved g c =
