@@ -40,6 +40,8 @@ impl Hasher for Recorder {
         0
     }
 
+    // Where it stands in the caller, the length of what is fed is known: mostly 4 bytes or one.
+    #[inline(always)]
     fn write(&mut self, bytes: &[u8]) {
         if bytes.len() <= self.left && self.kept.extend_from_slice(bytes).is_ok() {
             self.left -= bytes.len();

@@ -78,7 +78,7 @@ fn numbers_of(alloc: Global, places: &[Symbol]) -> Result<Vec<u32>, AllocError>
     requires { length places.now < 2 ^ 32 }
     ensures { IfOk result (λ numbers. AreNumbered places.now numbers.items) }
 {
-    let mut seen = IndexSet::new(alloc);
+    let mut seen = IndexSet::with_capacity(alloc, places.len())?;
     let mut numbers = Vec::with_capacity(alloc, places.len())?;
     for place in places {
         let (number, _) = seen.insert_full(*place)?;
