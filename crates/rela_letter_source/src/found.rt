@@ -6,7 +6,7 @@ use crate::configuration::Configuration;
 use indexmap::IndexSet;
 use rela_letter_nfa::MAX_STATES;
 use rela_pairs::BuildError;
-use std::alloc::Global;
+use std::alloc::{AllocError, Global};
 use std::marker::Model;
 
 /// The configurations that were found, numbered from 0 in the order in which they came, and looked
@@ -29,13 +29,12 @@ impl Model for Found {
 }
 
 impl Found {
-    /// No configuration.
-    pub(crate) fn new(alloc: Global) -> Found
-        ensures { result ≡ [] }
+    /// No configuration, and room for so many.
+    pub(crate) fn with_capacity(alloc: Global, room: usize) -> Result<Found, AllocError>
+        ensures { IfOk result (λ found. found ≡ []) }
     {
-        Found {
-            all: IndexSet::new(alloc),
-        }
+        let all = IndexSet::with_capacity(alloc, room)?;
+        Ok(Found { all })
     }
 
     /// The configurations, in the order of their numbers.

@@ -52,7 +52,7 @@ impl Growing {
         ensures parts { IfOk result (λ growing. growing.parts ≡ no_parts) }
     {
         let room = shape.lefts.min(most).min(MOST_ROOM);
-        let found = Found::new(alloc);
+        let found = Found::with_capacity(alloc, room)?;
         let built = CountedBuilder::with_capacity(alloc, most, room, room, room)?;
         Ok(Growing {
             shape,
