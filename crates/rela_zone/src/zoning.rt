@@ -14,8 +14,8 @@ ghost use Rattle.rela_zone.specs.Zones.{IsZoneAnswer, SameZones, ShowsZone, Zone
 
 use rela_engine::{zone_text, zone_texts_are_one};
 use rela_inputs::{
-    Answer, Asked, Halt, Input, MET, Reason, UNDECIDED, load_locations, load_spec, refused,
-    same_checks_are_equal,
+    Answer, Asked, Halt, Input, MET, Reason, UNDECIDED, calls_inside_end, load_locations,
+    load_spec, refused, same_checks_are_equal, steps_chain,
 };
 use rela_io::Files;
 use rela_locations::Locations;
@@ -23,6 +23,7 @@ use rela_names::Alphabet;
 use rela_nfa::BuildError;
 use rela_translate::Check;
 use std::alloc::{AllocError, Global};
+use std::marker::Brand;
 
 /// Reads the locations and the specification in the files of these names, in this order, and writes
 /// the zone of the check of this name. No construction for it has more than `states` states: where
@@ -51,9 +52,11 @@ pub fn show_zone<F: Files>(
         HoldsName (F.holds files.old) spec.now →
         result ≢ Err Halt.ReadFault }
 {
+    steps_chain::<Brand>();
+    same_checks_are_equal();
+    calls_inside_end::<Answer>();
     let locations = load_locations(alloc, files, locations)?;
     let asked = load_spec(alloc, files, spec, &locations)?;
-    same_checks_are_equal();
     zone_asked_for(alloc, &locations, &asked, name, states)
 }
 
@@ -76,6 +79,7 @@ fn zone_asked_for(
         (ShowsZone locations.now name.now states (specified_by asked.now)) (seen answer_by result) }
     ensures status { IfOk result (λ answer. IsOutcomeStatus answer.status) }
 {
+    steps_chain::<Brand>();
     let check = check_named(&asked.checks, name)?;
     let alphabet = locations.alphabet(asked.level);
     zone_texts_are_one();
