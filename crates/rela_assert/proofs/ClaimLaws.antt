@@ -1,5 +1,5 @@
 -- What an assertion file gives, and what `rir` does, from what their steps give.
-use Rattle.std.proofs.Common.{◌≡◌, ◌≢◌, ◌∙◌, ℕ, Bool, true, List, map, Option, Result, Ok, Err, refl, sym, ap, subst}
+use Rattle.std.proofs.Common.{◌≡◌, ◌≢◌, ◌∙◌, ◌⊎◌, ℕ, inl, inr, Bool, true, List, map, Option, Result, Ok, Err, refl, sym, ap, subst}
 use Rattle.std.specs.Prelude.{IfOk, IfErr}
 use Rattle.std.specs.List.{All}
 use Rattle.rela_assertions.specs.Rows.{AreRowsOf, IsClaimAt}
@@ -19,7 +19,7 @@ use Rattle.rela_inputs.specs.Answer.{Answer}
 use Rattle.rela_assert.specs.AssertReports.{ReportsAssertions, ReportsClaims, ReportsOver, SameAssertReports}
 use Rattle.rela_assert.specs.Asserted.{Asserted, Asserts, IsAsserted, ReadsClaims, SameAsserted}
 use Rattle.rela_inputs.specs.Given.{Equals, Agrees, IsGiven, IsRead, seen}
-use Rattle.rela_inputs.specs.Halts.{spec_halt}
+use Rattle.rela_inputs.specs.Halts.{refused}
 use Rattle.rela_inputs.specs.Inputs.{BytesOf, Gives, ReadsNetwork}
 use Rattle.rela_inputs.specs.Paired.{GivesPairs}
 use Rattle.rela_same_flows.specs.SameFlows.{SamePairs}
@@ -27,17 +27,21 @@ use Rattle.rela_inputs.specs.Specifications.{ReadsAssertions, refused_text}
 use Rattle.rela_inputs.specs.declared.reading.Halt.{Halt}
 use Rattle.rela_inputs.specs.declared.reading.Halt.TheVariants.{Memory}
 use Rattle.rela_inputs.specs.declared.refusal.Input.TheVariants as input
+use Rattle.rela_inputs.specs.declared.refusal.Reason.TheVariants.{Specification}
 use Rattle.rela_inputs.specs.declared.refusal.Refusal.{Refusal}
 use Rattle.rela_assert.proofs.ClaimReports.{RightRowsAgree, SameGraphsAreAlike, SameSetsAreEqual, claims_agree}
-use Rattle.rela_inputs.proofs.GivenLaws.{continued, continued_equal, memory_given, stopped}
-use Rattle.rela_inputs.proofs.TreeLaws.{text_refused}
+use Rattle.rela_assert.proofs.Points.{StepsChain, at_claims, at_file, at_locations, at_pairs}
 
 -- ---- the claims of a text
+
+-- memory is wanted, or else the input is refused for what is wrong with its text
+abbrev pub MemoryOrRefused : SpecError → Halt → Type 0
+MemoryOrRefused e halt = ((e ≡ spec.Memory) × (halt ≡ Memory)) ⊎ ((e ≢ spec.Memory) × (halt ≡ refused input.Assertions (Specification e)))
 
 same_claims : (a b : List Claimed) → ◌≡◌ {A = Result (List Claimed) SpecError} (Ok a) (Ok b) → a ≡ b
 same_claims a b e = cc
 
-module _ (network : Network) (file : AssertFile) where
+module _ (law : StepsChain true true) (network : Network) (file : AssertFile) where
   asserts_alone : (asserted : Asserted) → IsAsserted network file asserted → (x : Result Asserted Refusal) → Asserts network file x → Agrees true SameAsserted (Ok asserted) x
   asserts_alone asserted is (Ok other) asserts = record {
     level = is.level ∙ sym asserts.level;
@@ -60,7 +64,7 @@ module _ (network : Network) (file : AssertFile) where
       → IsRead SameAsserted (ReadsClaims network bytes) r
   unfolding ReadsClaims
   claims_of_tree bytes r reads asserts = record {
-    given = continued_equal true true SameAsserted (ReadsAssertions bytes) (Asserts network) file r reads.given asserts.given;
+    given = (law (at_file bytes network)).settled file r (λ other same. same) reads.given asserts.given;
     halts = asserts.halts;
   }
 
@@ -76,18 +80,24 @@ module _ (network : Network) (file : AssertFile) where
       })
 
   -- a tree whose names aren't found
-  pub no_claims : (bytes : List ℕ) (e : SpecError) (halt : Halt) → IsRead Equals (ReadsAssertions bytes) (Ok file) → halt ≡ spec_halt input.Assertions e
+  pub no_claims : (bytes : List ℕ) (e : SpecError) (halt : Halt) → IsRead Equals (ReadsAssertions bytes) (Ok file) → MemoryOrRefused e halt
       → (e ≢ spec.Memory → claims_of network file ≡ Err e) → IsRead SameAsserted (ReadsClaims network bytes) (Err halt)
-  no_claims bytes e halt reads is fault =
-      claims_of_tree bytes (Err halt) reads
-      (text_refused SameAsserted (Asserts network file) input.Assertions e halt is (λ real. record { error = e; fault = fault real; real = real; is = refl })
-      (λ real. refused_alone e (fault real)))
+  no_claims bytes e halt reads (inl (same, memory)) fault =
+      claims_of_tree bytes (Err halt) reads (rw memory (record { given = record { told_by = tt; alone = λ t x asserts. tt }; halts = tt }))
+  no_claims bytes e halt reads (inr (real, is)) fault =
+      claims_of_tree bytes (Err halt) reads (rw is (record {
+        given = record {
+          told_by = record { error = e; fault = fault real; real = real; is = refl };
+          alone = λ t x asserts. rw (refused_alone e (fault real) x asserts) refl;
+        };
+        halts = refl;
+      }))
 
 -- a text without a tree
-pub no_tree_no_claims : (network : Network) (bytes : List ℕ) (halt : Halt) → IsRead {A = AssertFile} Equals (ReadsAssertions bytes) (Err halt) → IsRead SameAsserted (ReadsClaims network bytes) (Err halt)
+pub no_tree_no_claims : StepsChain true true → (network : Network) (bytes : List ℕ) (halt : Halt) → IsRead {A = AssertFile} Equals (ReadsAssertions bytes) (Err halt) → IsRead SameAsserted (ReadsClaims network bytes) (Err halt)
 unfolding ReadsClaims
-no_tree_no_claims network bytes halt reads = record {
-  given = stopped true true Equals SameAsserted (ReadsAssertions bytes) (Asserts network) halt reads.given;
+no_tree_no_claims law network bytes halt reads = record {
+  given = (law (at_file bytes network)).stopped halt reads.given;
   halts = reads.halts;
 }
 
@@ -110,7 +120,7 @@ claims_reported states network pairs flows asserted names claims rows text statu
     subst (λ (cs : List Claim). AreRowsOf (alphabet_of asserted.level network) asserted.level states pairs cs rows) all by_pairs in
     (rows, by_claims, report_is (alphabet_of asserted.level network) rows text status (subst (λ (ns : List (List ℕ)). text ≡ assertions_text ns rows) named is_text) is_status)
 
-module _ (told steady : Bool) (holds : Option FilesByName) (before after assertions : List ℕ) (states : ℕ) where
+module _ (told steady : Bool) (law : StepsChain told steady) (holds : Option FilesByName) (before after assertions : List ℕ) (states : ℕ) where
   abbrev Pairs : Network → Result (List FlowPair) Refusal → Type 0
   Pairs network = GivesPairs network (BytesOf holds before input.Before) (BytesOf holds after input.After)
 
@@ -125,16 +135,16 @@ module _ (told steady : Bool) (holds : Option FilesByName) (before after asserti
 
   pub pairs_stopped : (network : Network) (halt : Halt) → IsGiven told steady SamePairs (Pairs network) (Err halt) → IsGiven told steady SameAssertReports (Over network) (Err halt)
   unfolding ReportsOver
-  pairs_stopped network halt pairs = stopped told steady SamePairs SameAssertReports (Pairs network) (Then network) halt pairs
+  pairs_stopped network halt pairs = (law (at_pairs holds before after assertions states network)).stopped halt pairs
 
   claims_alone : (network : Network) (pairs : List FlowPair) (halt : Halt) → IsGiven told steady SameAsserted (Claims network) (Err halt) → IsGiven told steady SameAssertReports (Then network pairs) (Err halt)
-  claims_alone network pairs halt claims = stopped told steady SameAsserted SameAssertReports (Claims network) (ReportsClaims states network pairs) halt claims
+  claims_alone network pairs halt claims = (law (at_claims holds assertions states network pairs)).stopped halt claims
 
   pub claims_stopped : (network : Network) (pairs : List FlowPair) (halt : Halt) → IsGiven told steady SamePairs (Pairs network) (Ok pairs)
       → IsGiven told steady SameAsserted (Claims network) (Err halt) → IsGiven told steady SameAssertReports (Over network) (Err halt)
   unfolding ReportsOver
   claims_stopped network pairs halt paired claims =
-      continued told steady SamePairs SameAssertReports (Pairs network) (Then network) pairs (Err halt) paired (claims_alone network pairs halt claims).told_by
+      (law (at_pairs holds before after assertions states network)).continued pairs (Err halt) paired (claims_alone network pairs halt claims).told_by
       (λ t others same x steps. (claims_alone network others halt claims).alone t x steps)
 
   last_alone : SameGraphsAreAlike → SameSetsAreEqual → RightRowsAgree → (network : Network) (pairs others : List FlowPair) (asserted : Asserted) (answer : Answer) (x : Result Answer Refusal) (y : Result Asserted Refusal)
@@ -146,7 +156,7 @@ module _ (told steady : Bool) (holds : Option FilesByName) (before after asserti
       → IsGiven told steady SameAsserted (Claims network) (Ok asserted) → ReportsClaims states network pairs asserted (Ok answer) → IsGiven told steady SameAssertReports (Over network) (Ok answer)
   unfolding ReportsOver
   reported alike equal agree network pairs asserted answer paired claims reports =
-      continued told steady SamePairs SameAssertReports (Pairs network) (Then network) pairs (Ok answer) paired (Ok asserted, claims.told_by, reports)
+      (law (at_pairs holds before after assertions states network)).continued pairs (Ok answer) paired (Ok asserted, claims.told_by, reports)
       (λ t others same x steps. last_alone alike equal agree network pairs others asserted answer x steps.0 same reports (claims.alone t steps.0 steps.1) steps.2)
 
   -- the report, or want of memory
@@ -154,9 +164,11 @@ module _ (told steady : Bool) (holds : Option FilesByName) (before after asserti
       → IfOk r (λ answer. ReportsClaims states network pairs asserted (Ok (view answer))) → IfErr r (λ halt. halt ≡ Memory) → IsGiven told steady SamePairs (Pairs network) (Ok pairs)
       → IsGiven told steady SameAsserted (Claims network) (Ok asserted) → IsGiven told steady SameAssertReports (Over network) (seen view r)
   reported_or_memory alike equal agree network pairs asserted A view (Ok answer) reports memory paired claims = reported alike equal agree network pairs asserted (view answer) paired claims reports
-  reported_or_memory alike equal agree network pairs asserted A view (Err halt) reports memory paired claims = memory_given told steady SameAssertReports (Over network) view (Err halt) memory
+  reported_or_memory alike equal agree network pairs asserted A view (Err halt) reports memory paired claims =
+      let same : halt ≡ Memory = memory in
+      rw same (record { told_by = tt; alone = λ t x steps. tt })
 
-module _ (told steady : Bool) (holds : Option FilesByName) (before after locations assertions : List ℕ) (states : ℕ) where
+module _ (told steady : Bool) (law : StepsChain told steady) (holds : Option FilesByName) (before after locations assertions : List ℕ) (states : ℕ) where
   abbrev Places : Result Network Refusal → Type 0
   Places = Gives (BytesOf holds locations input.Locations) ReadsNetwork
 
@@ -165,12 +177,12 @@ module _ (told steady : Bool) (holds : Option FilesByName) (before after locatio
 
   pub locations_stopped : (halt : Halt) → IsGiven told steady Equals Places (Err halt) → IsGiven told steady SameAssertReports Reported (Err halt)
   unfolding ReportsAssertions
-  locations_stopped halt given = stopped told steady Equals SameAssertReports Places (ReportsOver holds before after assertions states) halt given
+  locations_stopped halt given = (law (at_locations holds before after locations assertions states)).stopped halt given
 
   pub over : (network : Network) (r : Result Answer Halt) → IsGiven told steady Equals Places (Ok network) → IsGiven told steady SameAssertReports (ReportsOver holds before after assertions states network) r
       → IsGiven told steady SameAssertReports Reported r
   unfolding ReportsAssertions
-  over network r given next = continued_equal told steady SameAssertReports Places (ReportsOver holds before after assertions states) network r given next
+  over network r given next = (law (at_locations holds before after locations assertions states)).settled network r (λ other same. same) given next
 
 -- the claims are such as can be decided
 pub are_claims : (network : Network) (level : Level) (claims : List Claim) → All (ListsPathSymbols (record { network = network; level = level })) claims → All NamesByClasses claims

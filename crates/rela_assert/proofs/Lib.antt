@@ -1,2 +1,3 @@
 pub mod ClaimLaws
 pub mod ClaimReports
+pub mod Points

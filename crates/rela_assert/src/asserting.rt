@@ -16,12 +16,13 @@ ghost use Rattle.rela_inputs.specs.declared.refusal.Input.TheVariants as input;
 use crate::claiming::Asserted;
 use crate::loading::load_claims;
 use rela_assertions::{right_rows_agree, rows_of, status, text};
-use rela_inputs::{Answer, Halt, load_locations, load_pairs, same_checks_are_equal};
+use rela_inputs::{Answer, Halt, load_locations, load_pairs, same_checks_are_equal, steps_chain};
 use rela_io::Files;
 use rela_locations::Locations;
 use rela_same_flows::same_graphs_same_paths;
 use rela_snapshot::FlowPair;
 use std::alloc::Global;
+use std::marker::Brand;
 
 /// Reads the locations, the snapshot before, the snapshot after and the assertions in the files of
 /// these names, in this order, and makes the report: what is told of each assertion for each flow.
@@ -53,6 +54,7 @@ pub fn report_assertions<F: Files>(
         HoldsName (F.holds files.old) assertions.now →
         result ≢ Err Halt.ReadFault }
 {
+    steps_chain::<Brand>();
     let locations = load_locations(alloc, files, locations)?;
     report_over(alloc, files, before, after, &locations, assertions, states)
 }
@@ -83,11 +85,12 @@ fn report_over<F: Files>(
         HoldsName (F.holds files.old) assertions.now →
         result ≢ Err Halt.ReadFault }
 {
-    let pairs = load_pairs(alloc, files, before, after, locations)?;
-    let (pairs, asserted) = claims_behind(alloc, files, assertions, locations, pairs)?;
+    steps_chain::<Brand>();
     same_graphs_same_paths();
     same_checks_are_equal();
     right_rows_agree();
+    let pairs = load_pairs(alloc, files, before, after, locations)?;
+    let (pairs, asserted) = claims_behind(alloc, files, assertions, locations, pairs)?;
     report_claims(alloc, locations, &pairs, &asserted, states)
 }
 

@@ -7,10 +7,11 @@ ghost use Rattle.rela_assert.specs.Asserted.{ReadsClaims, SameAsserted, asserted
 ghost use Rattle.rela_inputs.specs.Given.{IsRead, seen};
 
 use rela_claims::{Claim, resolve};
-use rela_inputs::{Halt, Input, read_assertions, spec_halt};
+use rela_inputs::{Halt, Input, read_assertions, spec_halt, steps_chain, texts_are_refused};
 use rela_locations::Locations;
 use rela_names::Level;
 use std::alloc::Global;
+use std::marker::Brand;
 
 /// What an assertion file asks for: claims over the locations of one level.
 #[derive(Drop)]
@@ -36,6 +37,8 @@ pub fn read_claims(alloc: Global, text: &[u8], locations: &Locations) -> Result<
     ensures claims { IfOk result (λ asserted.
         All (IsClaimAt (alphabet_of asserted.level locations.now)) asserted.claims.items) }
 {
+    steps_chain::<Brand>();
+    texts_are_refused();
     let file = read_assertions(alloc, text)?;
     match resolve(alloc, &file, locations) {
         Ok(claims) => Ok(Asserted {

@@ -10,10 +10,11 @@ ghost use Rattle.rela_inputs.specs.Reading.{Ends};
 ghost use Rattle.rela_assert.specs.Asserted.{ReadsClaims, SameAsserted, asserted_by};
 
 use crate::claiming::{Asserted, read_claims};
-use rela_inputs::{Halt, Input, read_input};
+use rela_inputs::{Halt, Input, calls_inside_end, read_input, steps_chain};
 use rela_io::Files;
 use rela_locations::Locations;
 use std::alloc::Global;
+use std::marker::Brand;
 
 /// What the assertion file of this name asks for over these locations.
 ///
@@ -39,6 +40,8 @@ pub fn load_claims<F: Files>(
     ensures same_holds { F.holds files.new ≡ F.holds files.old }
     ensures same_steady { F.steady files.new ≡ F.steady files.old }
 {
+    steps_chain::<Brand>();
+    calls_inside_end::<Asserted>();
     let text = read_input(alloc, files, Input::Assertions, name)?;
     read_claims(alloc, text.as_slice(), locations)
 }
