@@ -46,7 +46,7 @@ use Rattle.rela_inputs.specs.declared.reading.Halt.{Halt}
 use Rattle.rela_inputs.specs.declared.reading.Halt.TheVariants.{Memory}
 use Rattle.rela_inputs.specs.declared.refusal.Input.TheVariants as input
 use Rattle.rela_inputs.specs.declared.refusal.Refusal.{Refusal}
-use Rattle.rela_inputs.proofs.GivenLaws.{continued, continued_equal, memory_given, read_given, stopped}
+use Rattle.rela_check.proofs.Points.{StepsChain, at_asked, at_locations, at_pairs, at_written}
 
 -- ---- violated rows have their sources in zones
 
@@ -178,7 +178,7 @@ module _ (same_names : SameNames) (rows_agree : RowsAgree) (states : ℕ) (chang
 
 -- ---- the steps
 
-module _ (told steady : Bool) (holds : Option FilesByName) (before after spec : List ℕ) (states : ℕ) where
+module _ (told steady : Bool) (law : StepsChain told steady) (holds : Option FilesByName) (before after spec : List ℕ) (states : ℕ) where
   abbrev Pairs : Network → Result (List FlowPair) Refusal → Type 0
   Pairs network = GivesPairs network (BytesOf holds before input.Before) (BytesOf holds after input.After)
 
@@ -199,29 +199,29 @@ module _ (told steady : Bool) (holds : Option FilesByName) (before after spec : 
 
   pub pairs_stopped : (network : Network) (halt : Halt) → IsGiven told steady SamePairs (Pairs network) (Err halt) → IsGiven told steady SameBlamed (Over network) (Err halt)
   unfolding BlamesOver
-  pairs_stopped network halt pairs = stopped told steady SamePairs SameBlamed (Pairs network) (Later network) halt pairs
+  pairs_stopped network halt pairs = (law (at_pairs holds before after spec states network)).stopped halt pairs
 
   written_alone : (network : Network) (pairs : List FlowPair) (halt : Halt) → IsGiven told steady Equals Writes (Err halt) → IsGiven told steady SameBlamed (Later network pairs) (Err halt)
-  written_alone network pairs halt writes = stopped told steady Equals SameBlamed Writes (Then network pairs) halt writes
+  written_alone network pairs halt writes = (law (at_written holds spec states network pairs)).stopped halt writes
 
   pub written_stopped : (network : Network) (pairs : List FlowPair) (halt : Halt) → IsGiven told steady SamePairs (Pairs network) (Ok pairs)
       → IsGiven told steady Equals Writes (Err halt) → IsGiven told steady SameBlamed (Over network) (Err halt)
   unfolding BlamesOver
   written_stopped network pairs halt paired writes =
-      continued told steady SamePairs SameBlamed (Pairs network) (Later network) pairs (Err halt) paired (written_alone network pairs halt writes).told_by
+      (law (at_pairs holds before after spec states network)).continued pairs (Err halt) paired (written_alone network pairs halt writes).told_by
       (λ t others same x steps. (written_alone network others halt writes).alone t x steps)
 
   asked_alone : (network : Network) (pairs : List FlowPair) (written : Written) (halt : Halt) → IsGiven told steady Equals Writes (Ok written)
       → IsRead SameSpecified (AsksFor network written.file) (Err halt) → IsGiven told steady SameBlamed (Later network pairs) (Err halt)
   asked_alone network pairs written halt writes asks =
-      continued_equal told steady SameBlamed Writes (Then network pairs) written (Err halt) writes
-      (stopped told steady SameSpecified SameBlamed (AsksFor network written.file) (Last network pairs written) halt (read_given told steady SameSpecified (AsksFor network written.file) (Err halt) asks))
+      (law (at_written holds spec states network pairs)).settled written (Err halt) (λ other same. same) writes
+      ((law (at_asked states network pairs written)).stopped halt ((law (at_asked states network pairs written)).first_read (Err halt) asks))
 
   pub asked_stopped : (network : Network) (pairs : List FlowPair) (written : Written) (halt : Halt) → IsGiven told steady SamePairs (Pairs network) (Ok pairs)
       → IsGiven told steady Equals Writes (Ok written) → IsRead SameSpecified (AsksFor network written.file) (Err halt) → IsGiven told steady SameBlamed (Over network) (Err halt)
   unfolding BlamesOver
   asked_stopped network pairs written halt paired writes asks =
-      continued told steady SamePairs SameBlamed (Pairs network) (Later network) pairs (Err halt) paired (asked_alone network pairs written halt writes asks).told_by
+      (law (at_pairs holds before after spec states network)).continued pairs (Err halt) paired (asked_alone network pairs written halt writes asks).told_by
       (λ t others same x steps. (asked_alone network others written halt writes asks).alone t x steps)
 
   module _ (same_names : SameNames) (rows_agree : RowsAgree) (network : Network) (pairs : List FlowPair) (written : Written) (specified : Specified) (answer : Answer) (reports : ReportsBlamed states written (change_of network pairs specified) (Ok answer)) where
@@ -240,8 +240,8 @@ module _ (told steady : Bool) (holds : Option FilesByName) (before after spec : 
         → IsRead SameSpecified (AsksFor network written.file) (Ok specified) → IsGiven told steady SameBlamed (Over network) (Ok answer)
     unfolding BlamesOver
     reported paired writes asks =
-        let asked = read_given told steady SameSpecified (AsksFor network written.file) (Ok specified) asks in
-        continued told steady SamePairs SameBlamed (Pairs network) (Later network) pairs (Ok answer) paired (Ok written, writes.told_by, (Ok specified, asked.told_by, reports))
+        let asked = (law (at_asked states network pairs written)).first_read (Ok specified) asks in
+        (law (at_pairs holds before after spec states network)).continued pairs (Ok answer) paired (Ok written, writes.told_by, (Ok specified, asked.told_by, reports))
         (λ t others same x steps. on_written others x steps.0 (writes.alone t steps.0 steps.1) steps.2
         (λ after. last_alone others same x after.0 (asked.alone t after.0 after.1) after.2))
 
@@ -252,9 +252,10 @@ module _ (told steady : Bool) (holds : Option FilesByName) (before after spec : 
   reported_or_memory same_names rows_agree network pairs written specified A view (Ok answer) reports memory paired writes asks =
       reported same_names rows_agree network pairs written specified (view answer) reports paired writes asks
   reported_or_memory same_names rows_agree network pairs written specified A view (Err halt) reports memory paired writes asks =
-      memory_given told steady SameBlamed (Over network) view (Err halt) memory
+      let same : halt ≡ Memory = memory in
+      rw same (record { told_by = tt; alone = λ t x steps. tt })
 
-module _ (told steady : Bool) (holds : Option FilesByName) (before after locations spec : List ℕ) (states : ℕ) where
+module _ (told steady : Bool) (law : StepsChain told steady) (holds : Option FilesByName) (before after locations spec : List ℕ) (states : ℕ) where
   abbrev Places : Result Network Refusal → Type 0
   Places = Gives (BytesOf holds locations input.Locations) ReadsNetwork
 
@@ -263,12 +264,12 @@ module _ (told steady : Bool) (holds : Option FilesByName) (before after locatio
 
   pub locations_stopped : (halt : Halt) → IsGiven told steady Equals Places (Err halt) → IsGiven told steady SameBlamed Blamed (Err halt)
   unfolding Blames
-  locations_stopped halt given = stopped told steady Equals SameBlamed Places (BlamesOver holds before after spec states) halt given
+  locations_stopped halt given = (law (at_locations holds before after locations spec states)).stopped halt given
 
   pub over : (network : Network) (r : Result Answer Halt) → IsGiven told steady Equals Places (Ok network) → IsGiven told steady SameBlamed (BlamesOver holds before after spec states network) r
       → IsGiven told steady SameBlamed Blamed r
   unfolding Blames
-  over network r given next = continued_equal told steady SameBlamed Places (BlamesOver holds before after spec states) network r given next
+  over network r given next = (law (at_locations holds before after locations spec states)).settled network r (λ other same. same) given next
 
 -- ---- with the zones or without
 

@@ -20,7 +20,9 @@ ghost use Rattle.rela_inputs.specs.Specified.{AsksFor, IsSpecified, SameSpecifie
 
 use rela_blame::{alternatives_stay_as_many, zones};
 use rela_change_report::same_changes_agree;
-use rela_inputs::{Answer, Asked, Halt, Written, ask, load_locations, load_pairs, load_written};
+use rela_inputs::{
+    Answer, Asked, Halt, Written, ask, load_locations, load_pairs, load_written, steps_chain,
+};
 use rela_io::Files;
 use rela_locations::Locations;
 use rela_report::{status, text_blamed};
@@ -28,6 +30,7 @@ use rela_rows::rows_of;
 use rela_snapshot::FlowPair;
 use rela_translate::changed_paths_are_in_the_zone;
 use std::alloc::Global;
+use std::marker::Brand;
 
 /// Loads the change in the files of these names, as [`rela_inputs::load_change`] does, and makes the
 /// report, with the zone of each violated row. `states` is the state limit of each verdict.
@@ -57,6 +60,7 @@ pub fn report_blamed<F: Files>(
         HoldsName (F.holds files.old) spec.now →
         result ≢ Err Halt.ReadFault }
 {
+    steps_chain::<Brand>();
     let locations = load_locations(alloc, files, locations)?;
     blame_over(alloc, files, before, after, &locations, spec, states)
 }
@@ -87,10 +91,11 @@ fn blame_over<F: Files>(
         HoldsName (F.holds files.old) spec.now →
         result ≢ Err Halt.ReadFault }
 {
+    steps_chain::<Brand>();
+    same_changes_agree();
     let pairs = load_pairs(alloc, files, before, after, locations)?;
     let (pairs, written) = written_behind(alloc, files, spec, pairs)?;
     let (pairs, written, asked) = asked_behind(alloc, locations, written, pairs)?;
-    same_changes_agree();
     blame(alloc, locations, &pairs, &asked, &written, states)
 }
 

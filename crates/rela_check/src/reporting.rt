@@ -9,9 +9,10 @@ ghost use Rattle.rela_inputs.specs.Reading.{Ends};
 ghost use Rattle.rela_io.specs.Held.{HoldsName};
 
 use rela_change_report::{report_on, same_changes_agree};
-use rela_inputs::{Answer, Halt, load_change};
+use rela_inputs::{Answer, Halt, load_change, steps_chain};
 use rela_io::Files;
 use std::alloc::Global;
+use std::marker::Brand;
 
 /// Loads the change in the files of these names, as [`load_change`] does, and makes the report.
 /// `states` is the state limit of each verdict.
@@ -41,7 +42,8 @@ pub fn report<F: Files>(
         HoldsName (F.holds files.old) spec.now →
         result ≢ Err Halt.ReadFault }
 {
-    let loaded = load_change(alloc, files, before, after, locations, spec)?;
+    steps_chain::<Brand>();
     same_changes_agree();
+    let loaded = load_change(alloc, files, before, after, locations, spec)?;
     Ok(report_on(alloc, &loaded, states)?)
 }
