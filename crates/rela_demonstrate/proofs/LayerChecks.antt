@@ -41,14 +41,13 @@ use Rattle.rela_translate.specs.declared.body.Change.TheVariants as change
 use Rattle.rela_translate.specs.declared.body.Core.{Core}
 use Rattle.rela_translate.specs.declared.body.Core.TheVariants as core
 use Rattle.rela_rir.specs.Size.{nodes_of_rel, depth_of_rel}
-use Rattle.rela_rir.proofs.SizeForms.{size_forms}
-use Rattle.rela_translate.proofs.TermForms.{path_class, path_star, terms_unit, terms_then, terms_else}
 use Rattle.rela_translate.specs.Terms.{Terms, path_of, unit_terms, layer_terms, terms_of}
 use Rattle.rela_translate.specs.Zones.{drop_symbol}
 use Rattle.rela_translate.specs.declared.body.Core.TheOpen as C
 use Rattle.rela_rir.specs.declared.term.PathTerm.{PathTerm}
 use Rattle.rela_rir.specs.declared.term.PathTerm.TheVariants as P
 use Rattle.rela_rir.specs.declared.term.RelTerm.TheVariants as R
+use Rattle.rela_demonstrate.proofs.Forms.{Sizes, path_class, path_star, terms_unit, terms_then, terms_else}
 
 -- ---- the forms that the specification has
 
@@ -161,17 +160,65 @@ module _ (l : ℕ) where
   abbrev large : Terms → Bool
   large t = nat_lt 20000 (nodes_of_rel t.before + nodes_of_rel t.after)
 
-  kept_shallow : is_deep l (kept 0) ≡ false
-  kept_shallow = ap deep kept_terms ∙ simp size_forms
+  kept_shallow : Sizes → is_deep l (kept 0) ≡ false
+  kept_shallow sizes = ap deep kept_terms ∙ simp (
+    sizes.depth_of_class,
+    sizes.depth_of_one,
+    sizes.depth_of_union,
+    sizes.depth_of_star,
+    sizes.depth_of_complement,
+    sizes.depth_of_concat,
+    sizes.depth_of_identity,
+    sizes.depth_of_product,
+    sizes.depth_of_rel_union,
+    sizes.depth_of_rel_concat,
+    sizes.depth_of_compose,
+  )
 
-  kept_few : large (terms_of l (kept 0)) ≡ false
-  kept_few = ap large kept_terms ∙ simp size_forms
+  kept_few : Sizes → large (terms_of l (kept 0)) ≡ false
+  kept_few sizes = ap large kept_terms ∙ simp (
+    sizes.nodes_of_class,
+    sizes.nodes_of_one,
+    sizes.nodes_of_union,
+    sizes.nodes_of_star,
+    sizes.nodes_of_complement,
+    sizes.nodes_of_concat,
+    sizes.nodes_of_identity,
+    sizes.nodes_of_product,
+    sizes.nodes_of_rel_union,
+    sizes.nodes_of_rel_concat,
+    sizes.nodes_of_compose,
+  )
 
-  cut_shallow : is_deep l cut ≡ false
-  cut_shallow = ap deep cut_terms ∙ simp size_forms
+  cut_shallow : Sizes → is_deep l cut ≡ false
+  cut_shallow sizes = ap deep cut_terms ∙ simp (
+    sizes.depth_of_class,
+    sizes.depth_of_one,
+    sizes.depth_of_union,
+    sizes.depth_of_star,
+    sizes.depth_of_complement,
+    sizes.depth_of_concat,
+    sizes.depth_of_identity,
+    sizes.depth_of_product,
+    sizes.depth_of_rel_union,
+    sizes.depth_of_rel_concat,
+    sizes.depth_of_compose,
+  )
 
-  cut_few : large (terms_of l cut) ≡ false
-  cut_few = ap large cut_terms ∙ simp size_forms
+  cut_few : Sizes → large (terms_of l cut) ≡ false
+  cut_few sizes = ap large cut_terms ∙ simp (
+    sizes.nodes_of_class,
+    sizes.nodes_of_one,
+    sizes.nodes_of_union,
+    sizes.nodes_of_star,
+    sizes.nodes_of_complement,
+    sizes.nodes_of_concat,
+    sizes.nodes_of_identity,
+    sizes.nodes_of_product,
+    sizes.nodes_of_rel_union,
+    sizes.nodes_of_rel_concat,
+    sizes.nodes_of_compose,
+  )
 
 -- ---- b of the last layer is a device
 
@@ -220,9 +267,9 @@ module _ (place : Place) where
   first_done : Sofar
   first_done = record at_first { checks = record { name = codes "c1"; at_most = false; when = flows.Not flow_seven; classes = record { negated = true; members = [] } ∷ []; body = kept 0 } ∷ [] }
 
-  first_step : with_item place at_first first_check ≡ Ok first_done
+  first_step : Sizes → with_item place at_first first_check ≡ Ok first_done
   unfolding with_item first_done
-  first_step = rw (stays place nothing_numbered, kept_shallow (locations_at place), kept_few (locations_at place)) refl
+  first_step sizes = rw (stays place nothing_numbered, kept_shallow (locations_at place) sizes, kept_few (locations_at place) sizes) refl
 
 -- ---- the second check
 
@@ -305,7 +352,7 @@ symbols_few n few lists =
     let range : length (range_with_len 0 (path_symbols_at place)) ≡ path_symbols_at place = length-range_with_len 0 (path_symbols_at place) in
     omega (arith, few, locations, all, listed', range)
 
-module _ (n : ℕ) (some : 1 ≤ n) (few : n ≤ 200) where
+module _ (sizes : Sizes) (n : ℕ) (some : 1 ≤ n) (few : n ≤ 200) where
   abbrev there : Place
   there = record { network = network n; level = level.Device }
 
@@ -321,11 +368,11 @@ module _ (n : ℕ) (some : 1 ≤ n) (few : n ≤ 200) where
 
   second_step : with_item there (first_done there) (second_check n) ≡ Ok second_done
   unfolding with_item first_done second_done
-  second_step = rw (cut_done n some, cut_shallow (locations_at there), cut_few (locations_at there), symbols_fit) refl
+  second_step = rw (cut_done n some, cut_shallow (locations_at there) sizes, cut_few (locations_at there) sizes, symbols_fit) refl
 
   expands : expanded (network n) (specification n) ≡ Ok second_done.checks
   unfolding expanded
-  expands = rw (first_step there, second_step) refl
+  expands = rw (first_step there sizes, second_step) refl
 
   -- nothing of the specification is refused
   pub not_refused : (e : SpecError) → ¬ (expanded (network n) (specification n) ≡ Err e)

@@ -1,4 +1,4 @@
--- What the texts of the layered input are loaded as, and the report on it.
+-- What the texts of the layered input are loaded as.
 use Rattle.std.proofs.Common.{◌≡◌, ◌∙◌, ◌≤◌, ℕ, inl, true, List, Result, Ok, Err, refl, sym, ap, subst}
 use Rattle.std.specs.List.{All}
 use Rattle.std.specs.Result.{IsErrAnd}
@@ -23,10 +23,7 @@ use Rattle.rela_snapshot.specs.declared.pairing.PairError.TheVariants as pair
 use Rattle.rela_snapshot.specs.declared.snapshot.Flow.{Flow}
 use Rattle.rela_spec.specs.declared.tree.SpecFile.{SpecFile}
 use Rattle.rela_translate.specs.Checked.{Checked as Check}
-use Rattle.rela_words.specs.Words.{default_states}
-use Rattle.rela_inputs.specs.Answer.{Answer}
-use Rattle.rela_change_report.specs.Reports.{Reports, SameReports}
-use Rattle.rela_demonstrate.specs.Demos.{AreLayered, Demos, IsLayered, LoadsLayered, OrMemory}
+use Rattle.rela_demonstrate.specs.Demos.{AreLayered, IsLayered, LoadsLayered, OrMemory}
 use Rattle.rela_inputs.specs.Given.{Agrees, Equals, IsRead, seen}
 use Rattle.rela_inputs.specs.Inputs.{IsListedAs, ReadsNetwork, load_of}
 use Rattle.rela_inputs.specs.Loaded.{Loaded, SameLoaded}
@@ -38,7 +35,7 @@ use Rattle.rela_inputs.specs.declared.reading.Halt.{Halt}
 use Rattle.rela_inputs.specs.declared.reading.Halt.TheVariants.{Refused, ReadFault, Memory}
 use Rattle.rela_inputs.specs.declared.refusal.Input.TheVariants.{Locations}
 use Rattle.rela_inputs.specs.declared.refusal.Refusal.{Refusal}
-use Rattle.rela_inputs.proofs.GivenLaws.{continued, memory_read, stopped}
+use Rattle.rela_demonstrate.proofs.Forms.{Sizes}
 use Rattle.rela_demonstrate.proofs.LayerChecks.{not_refused}
 
 -- what has a value is refused for want of memory alone
@@ -169,36 +166,18 @@ module _ (n : ℕ) where
     halts = tt;
   }
 
-  asked_memory : 1 ≤ n → n ≤ 200 → (halt : Halt) → IsRead SameSpecified Asks (Err halt) → halt ≡ Memory
-  asked_memory some few (Refused refusal) read = absurd (not_refused n some few read.given.told_by.error read.given.told_by.fault)
-  asked_memory some few ReadFault read = absurd read.halts
-  asked_memory some few Memory read = refl
+  asked_memory : Sizes → 1 ≤ n → n ≤ 200 → (halt : Halt) → IsRead SameSpecified Asks (Err halt) → halt ≡ Memory
+  asked_memory sizes some few (Refused refusal) read = absurd (not_refused sizes n some few read.given.told_by.error read.given.told_by.fault)
+  asked_memory sizes some few ReadFault read = absurd read.halts
+  asked_memory sizes some few Memory read = refl
 
-  pub asked_read : {A : Type 0} (view : A → Specified) (r : Result A Halt) → 1 ≤ n → n ≤ 200 → IsRead SameSpecified Asks (seen view r)
+  pub asked_read : {A : Type 0} (view : A → Specified) (r : Result A Halt) → Sizes → 1 ≤ n → n ≤ 200 → IsRead SameSpecified Asks (seen view r)
       → OrMemory (λ a. IsSpecified (layers.network n) (specification n) (view a)) r
-  asked_read view (Ok a) some few read = read.given.told_by
-  asked_read view (Err halt) some few read = asked_memory some few halt read
+  asked_read view (Ok a) sizes some few read = read.given.told_by
+  asked_read view (Err halt) sizes some few read = asked_memory sizes some few halt read
 
   -- want of memory, passed on, settles nothing
   pub layered_passed : {A : Type 0} (view : A → Loaded) (r : Result A Halt) (halt : Halt) → IsErrAnd r (λ e. e ≡ halt) → halt ≡ Memory → IsRead SameLoaded (LoadsLayered n) (seen view r)
   layered_passed view (Ok a) halt passed memory = absurd passed
-  layered_passed view (Err e) halt passed memory = memory_read SameLoaded (LoadsLayered n) e (passed ∙ memory)
-
-  -- ---- the report
-
-  pub demo_stopped : (halt : Halt) → IsRead SameLoaded (LoadsLayered n) (Err halt) → IsRead SameReports (Demos n) (Err halt)
-  unfolding Demos
-  demo_stopped halt read = record {
-    given = stopped true true SameLoaded SameReports (LoadsLayered n) (Reports default_states) halt read.given;
-    halts = read.halts;
-  }
-
-  -- the report on what was loaded is that on all that is the same
-  pub demo_reported : (loaded : Loaded) (answer : Answer) → IsRead SameLoaded (LoadsLayered n) (Ok loaded) → Reports default_states loaded (Ok answer)
-      → ((other : Loaded) → SameLoaded loaded other → (x : Result Answer Refusal) → Reports default_states other x → Agrees true SameReports (Ok answer) x)
-      → IsRead SameReports (Demos n) (Ok answer)
-  unfolding Demos
-  demo_reported loaded answer read reports alone = record {
-    given = continued true true SameLoaded SameReports (LoadsLayered n) (Reports default_states) loaded (Ok answer) read.given reports (λ t other same x steps. alone other same x steps);
-    halts = tt;
-  }
+  layered_passed view (Err e) halt passed memory =
+      rw (passed ∙ memory) (record { given = record { told_by = tt; alone = λ t x there. tt }; halts = tt })

@@ -1,2 +1,4 @@
+pub mod Forms
 pub mod LayerChecks
 pub mod LayerLaws
+pub mod Points

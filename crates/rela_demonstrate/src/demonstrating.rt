@@ -21,12 +21,14 @@ use rela_change_report::{report_on, same_changes_agree};
 use rela_demo::{DemoInput, flows_do_not_differ, generate};
 use rela_inputs::{
     Answer, Asked, Halt, Input, Loaded, ask, loads_are_the_same, pair_flows, read_locations,
-    read_snapshot, read_tree,
+    read_snapshot, read_tree, steps_chain,
 };
 use rela_locations::Locations;
+use rela_rir::{sizes_of_path_terms, sizes_of_rel_terms};
 use rela_snapshot::FlowPair;
 use rela_words::DEFAULT_STATES;
 use std::alloc::Global;
+use std::marker::Brand;
 
 /// Makes the input of so many layers, and the report on its change. Nothing of it is refused.
 ///
@@ -39,8 +41,9 @@ pub fn demonstrate(alloc: Global, layers: u32) -> Result<Answer, Halt>
     ensures report { IsRead SameReports (Demos layers) (seen answer_by result) }
     ensures status { IfOk result (λ answer. IsOutcomeStatus answer.status) }
 {
-    let loaded = load_layered(alloc, layers)?;
+    steps_chain::<Brand>();
     same_changes_agree();
+    let loaded = load_layered(alloc, layers)?;
     Ok(report_on(alloc, &loaded, DEFAULT_STATES)?)
 }
 
@@ -146,6 +149,8 @@ fn read_checks(alloc: Global, input: &DemoInput, locations: &Locations) -> Resul
     ensures levels { IfOk result (λ asked.
         All (λ check. check.level ≡ asked.level) asked.checks.items) }
 {
+    sizes_of_path_terms();
+    sizes_of_rel_terms();
     let file = read_tree(alloc, input.spec())?;
     ask(alloc, &file, locations)
 }

@@ -1,8 +1,7 @@
-use Rattle.std.proofs.Common.{Ok, Err}
+use Rattle.std.proofs.Common.{Ok, Err, IfOk}
 use Rattle.rela_names.specs.declared.level.Level.{Level}
 use Rattle.rela_locations.specs.Network.{alphabet_of}
 use Rattle.rela_snapshot.specs.PairsLocated.{ArePairsLocated}
-use Rattle.rela_inputs.proofs.GivenLaws.{if_ok_each}
 use Rattle.rela_demonstrate.proofs.LayerLaws.{memory_passed, flows_listed, pairs_read}
 use Rattle.rela_demonstrate.proofs.demonstrating.read_pairs.Goals as goal
 
@@ -24,5 +23,8 @@ returns-clause-layered c = λ n here is.
 
 pub returns-clause-located : goal.returns-clause-located
 returns-clause-located c =
-    if_ok_each (λ (level : Level) pairs. ArePairsLocated (alphabet_of level c.args.locations.now) level pairs.items) c.pair_flows.result
-    (λ level. c.pair_flows.ensures.located (alphabet_of level c.args.locations.now) level (c.in_ok-before.ensures.located level) (c.in_ok-after.ensures.located level))
+    let names = λ (level : Level). alphabet_of level c.args.locations.now in
+    (elim c.pair_flows.result as (λ r. ((level : Level) → IfOk r (λ pairs. ArePairsLocated (names level) level pairs.items))
+    → IfOk r (λ pairs. (level : Level) → ArePairsLocated (names level) level pairs.items))
+    [ Ok pairs ↦ λ each. each | Err halt ↦ λ each. tt ])
+    (λ level. c.pair_flows.ensures.located (names level) level (c.in_ok-before.ensures.located level) (c.in_ok-after.ensures.located level))
