@@ -4,42 +4,42 @@ use rela_labels::WideSet;
 
 /// A move that reads nothing.
 #[derive(Debug, Drop)]
-pub(crate) struct AloneMove {
+pub struct AloneMove {
     /// The letters of which it writes one; `None` where it writes nothing.
-    pub(crate) written: Option<WideSet>,
+    pub written: Option<WideSet>,
     /// The number of the state to which it leads.
-    pub(crate) to: usize,
+    pub to: usize,
 }
 
 /// A move that reads a letter of a set.
 #[derive(Debug, Drop)]
-pub(crate) struct SetMove {
+pub struct SetMove {
     /// The letters of which it reads one.
-    pub(crate) set: WideSet,
+    pub set: WideSet,
     /// Whether it writes the letter that it read; else it writes nothing.
-    pub(crate) writes: bool,
+    pub writes: bool,
     /// The number of the state to which it leads.
-    pub(crate) to: usize,
+    pub to: usize,
 }
 
 /// A move that reads one letter, and no other.
 #[derive(Clone, Copy, Debug)]
-pub(crate) struct LetterMove {
+pub struct LetterMove {
     /// The number of the state to which it leads.
-    pub(crate) to: usize,
+    pub to: usize,
     /// The letter.
-    pub(crate) letter: u32,
+    pub letter: u32,
     /// Whether it writes the letter that it read; else it writes nothing.
-    pub(crate) writes: bool,
+    pub writes: bool,
 }
 
 /// The moves that leave a state.
 #[derive(Debug, Drop)]
-pub(crate) struct StateMoves {
+pub struct StateMoves {
     /// Those that read nothing.
-    pub(crate) alone: Vec<AloneMove>,
+    pub alone: Vec<AloneMove>,
     /// Those that read a letter of several, or of none.
-    pub(crate) by_set: Vec<SetMove>,
+    pub by_set: Vec<SetMove>,
     /// Those that read one letter alone.
-    pub(crate) by_letter: Vec<LetterMove>,
+    pub by_letter: Vec<LetterMove>,
 }

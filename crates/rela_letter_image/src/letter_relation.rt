@@ -107,7 +107,7 @@ impl LetterRelation {
     }
 
     /// The state from which runs begin.
-    pub(crate) fn start(&self) -> usize
+    pub fn start(&self) -> usize
         ensures start { result ≡ self.now.start }
         ensures machine { IsMachine self.now }
     {
@@ -115,7 +115,7 @@ impl LetterRelation {
     }
 
     /// Whether the state is final.
-    pub(crate) fn is_final(&self, q: usize) -> bool
+    pub fn is_final(&self, q: usize) -> bool
         requires { q < machine_states self.now }
         ensures { IsTrue result ↔ IsFinal self.now q }
     {
@@ -123,7 +123,7 @@ impl LetterRelation {
     }
 
     /// The moves that leave the state.
-    pub(crate) fn moves(&self, q: usize) -> &StateMoves
+    pub fn moves(&self, q: usize) -> &StateMoves
         requires { q < machine_states self.now }
         ensures moves { all_moves self.now.letters result.now ≡ moves_of self.now q }
         ensures below { AreLettersOf self.now.letters result.now }

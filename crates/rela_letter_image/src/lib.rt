@@ -16,4 +16,5 @@ mod product;
 
 pub use imaging::letter_image;
 pub use letter_by_letter::by_letters;
+pub use letter_moves::{AloneMove, LetterMove, SetMove, StateMoves};
 pub use letter_relation::LetterRelation;
