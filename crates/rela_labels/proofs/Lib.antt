@@ -4,6 +4,7 @@ pub mod AscendingLists
 pub mod BlocksInOrder
 pub mod KeysInOrder
 pub mod LettersOfWords
+pub mod LoneLetters
 pub mod MovedKeys
 pub mod OneWord
 pub mod ReachedSymbols

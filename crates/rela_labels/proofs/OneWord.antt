@@ -1,6 +1,6 @@
 -- Letters below 64 as the bits of one word.
 use Rattle.std.proofs.Common.{◌≡◌, ℕ, ◌*◌, ◌%◌, ◌^◌, ◌<◌, ◌≤◌, ◌↔◌, ◌==◌, Bool, true, false, not, ◌&&◌, ◌||◌, IsTrue, inl, inr, arith, refl, sym, ap, subst, ◌∙◌, bit_and, bit_or}
-use Rattle.std.proofs.lemmas.Bool.{cases_lt, cases_eq, eq-eqb, eqb-true, ne_eqb}
+use Rattle.std.proofs.lemmas.Bool.{cases_lt, cases_eq, eq-eqb, eqb-true, ne_eqb, false≢true}
 use Rattle.std.proofs.lemmas.Nat.Bits.{bit_at-zero, bit_at_above, bit_at_set_same, bit_at_set_other, bit_at-trailing_zeros, bit_at-lt, same_from_bits_below}
 use Rattle.std.specs.Int.{bit_at, bit_not, trailing_zeros, w64}
 use Rattle.rela_labels.specs.declared.letters.Letters.{Letters}
@@ -11,6 +11,14 @@ use Rattle.rela_labels.proofs.WordBits.{meet_bits, minus_bitwise, same_digit}
 -- a word has no bit from 64 on
 pub none_above : (word k : ℕ) → word < 2 ^ 64 → 64 ≤ k → word_has word k ≡ false
 none_above word k fits above = ap (λ b. b == 1) (bit_at_above word 64 k fits above)
+
+-- a letter whose bit is 1 is below 64
+pub below_word : (word k : ℕ) → word < 2 ^ 64 → word_has word k ≡ true → k < 64
+below_word word k fits there =
+    elim (cases_lt k 64) [
+      | inl below ↦ below
+      | inr above ↦ absurd (false≢true (sym (none_above word k fits above) ∙ there))
+    ]
 
 pub set_bits : (word letter : ℕ) → letter < 64 → (k : ℕ) → word_has (bit_or word (1 * 2 ^ letter % 2 ^ 64)) k ≡ (word_has word k || letter == k)
 set_bits word letter within k =

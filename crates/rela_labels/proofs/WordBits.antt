@@ -3,6 +3,7 @@ use Rattle.std.proofs.Common.{◌≡◌, ◌≢◌, ℕ, ◌+◌, ◌-◌, ◌*�
 use Rattle.std.proofs.lemmas.Bool.{cases_lt, cases_eq, eq-eqb, ne_eqb, false≢true}
 use Rattle.std.proofs.lemmas.Grind.{same_number_lists}
 use Rattle.std.proofs.lemmas.List.{get_or_past, get_or-set_other, get_or-set_same}
+use Rattle.std.proofs.lemmas.Nat.{and_le_l}
 use Rattle.std.proofs.lemmas.Nat.Bits.{shr_and_one, bit_at-zero, bit_at_and, bit_at_or, bit_at_not, bit_at_set_same, bit_at_set_other, bit_at-trailing_zeros, bit_at-lt, same_from_bits_below}
 use Rattle.std.specs.Int.{bit_at, bit_not, trailing_zeros, w64}
 use Rattle.rela_labels.specs.Words.{bit_of, word_has}
@@ -220,3 +221,26 @@ not_only_bit words letter i word fits word_fits is differ only =
     differ (same_from_bits_below 64 (get_or words i 0) word fits word_fits (λ b within.
     same_digit (bit_at (get_or words i 0) b) (bit_at word b) (bit_at-lt (get_or words i 0) b) (bit_at-lt word b)
     (sym (bit_at_place words i b within) ∙ only (64 * i + b) ∙ sym (is b within))))
+
+-- words that have no letter in both
+pub no_shared_bit : (words other : List ℕ) (i : ℕ) → length words ≤ i
+    → ((j : ℕ) → j < i → bit_and (get_or words j 0) (get_or other j 0) ≡ 0) → (k : ℕ) → (bit_of words k && bit_of other k) ≡ false
+unfolding bit_of
+no_shared_bit words other i all zeros k =
+    elim (cases_lt (k / 64) (length words)) [
+      | inl before ↦
+          sym (meet_bits (get_or words (k / 64) 0) (get_or other (k / 64) 0) (k % 64))
+          ∙ ap (λ word. word_has word (k % 64)) (zeros (k / 64) (omega arith)) ∙ ap (λ b. b == 1) (bit_at-zero (k % 64))
+      | inr past ↦ ap (λ v. v && bit_of other k) (past_words words k past)
+    ]
+
+pub shared_bit : (words other : List ℕ) (i : ℕ) → get_or words i 0 < 2 ^ 64 → bit_and (get_or words i 0) (get_or other i 0) ≢ 0
+    → ((k : ℕ) → (bit_of words k && bit_of other k) ≡ false) → ⊥
+shared_bit words other i fits some none =
+    let both = bit_and (get_or words i 0) (get_or other i 0) in
+    let below : both ≤ get_or words i 0 = and_le_l (get_or words i 0) (get_or other i 0) in
+    let lowest = bit_at-trailing_zeros w64 both (omega arith) (omega arith) in
+    let b = trailing_zeros w64 both in
+    false≢true (sym (none (64 * i + b)) ∙ ap (λ v. v && bit_of other (64 * i + b)) (bit_at_place words i b lowest.0)
+    ∙ ap (λ v. word_has (get_or words i 0) b && v) (bit_at_place other i b lowest.0)
+    ∙ sym (meet_bits (get_or words i 0) (get_or other i 0) b) ∙ ap (λ v. v == 1) lowest.1)

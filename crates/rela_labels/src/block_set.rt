@@ -2,7 +2,10 @@
 ghost use Rattle.std.specs.Prelude.{◌≡◌};
 
 use crate::label_set::LabelSet;
-use crate::words::{has_bit, join_words, least_bit, meet_words, minus_words, same_words, set_bit};
+use crate::words::{
+    disjoint_words, has_bit, join_words, least_bit, meet_words, minus_words, only_bit, same_words,
+    set_bit,
+};
 use std::alloc::{AllocError, Global};
 use std::marker::Model;
 
@@ -92,8 +95,16 @@ impl<const W: usize> LabelSet for BlockSet<W> {
         least_bit(&self.words).is_none()
     }
 
+    fn is_disjoint(&self, other: &BlockSet<W>) -> bool {
+        disjoint_words(&self.words, &other.words)
+    }
+
     fn least(&self) -> Option<u32> {
         least_bit(&self.words)
+    }
+
+    fn only(&self) -> Option<u32> {
+        only_bit(&self.words)
     }
 
     fn same(&self, other: &BlockSet<W>) -> bool {

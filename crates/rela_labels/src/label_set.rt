@@ -1,5 +1,5 @@
 //! What a set of letters is, whatever holds it.
-ghost use Rattle.std.specs.Prelude.{◌≡◌, ◌≢◌, ℕ, ◌<◌, ◌↔◌, ◌&&◌, ◌||◌, Bool, true, false, not, IsTrue, List, length, IfOk, IfErr, OnOk, IfNone, IfSome, IsOk};
+ghost use Rattle.std.specs.Prelude.{◌≡◌, ◌≢◌, ℕ, ◌<◌, ◌↔◌, ◌==◌, ◌&&◌, ◌||◌, Bool, true, false, not, IsTrue, List, length, IfOk, IfErr, OnOk, IfNone, IfSome, IsOk};
 ghost use Rattle.rela_labels.specs.Letters.{has};
 
 use std::alloc::{AllocError, Global};
@@ -75,6 +75,12 @@ pub trait LabelSet: Drop {
     fn is_empty(&self) -> bool
         ensures { IsTrue result ↔ ((k : ℕ) → has (letters self.now) k ≡ false) };
 
+    /// Whether no letter is in both sets. It takes no memory.
+    fn is_disjoint(&self, other: &Self) -> bool
+        requires { length (letters self.now) ≡ length (letters other.now) }
+        ensures { IsTrue result ↔ ((k : ℕ) →
+            (has (letters self.now) k && has (letters other.now) k) ≡ false) };
+
     /// The least letter of the set, and `None` where it has none.
     fn least(&self) -> Option<u32>
         ensures none { IfNone result ((k : ℕ) → has (letters self.now) k ≡ false) }
@@ -82,6 +88,13 @@ pub trait LabelSet: Drop {
         ensures below { IfSome result (λ least. least < length (letters self.now)) }
         ensures least { IfSome result (λ least. (k : ℕ) → k < least →
             has (letters self.now) k ≡ false) };
+
+    /// The letter of the set, if it has just one, and else `None`. It takes no memory.
+    fn only(&self) -> Option<u32>
+        ensures only { IfSome result (λ only. (k : ℕ) → has (letters self.now) k ≡ (only == k)) }
+        ensures below { IfSome result (λ only. only < length (letters self.now)) }
+        ensures other { IfNone result ((only : ℕ) →
+            ¬ ((k : ℕ) → has (letters self.now) k ≡ (only == k))) };
 
     /// Whether the two sets have the same letters.
     fn same(&self, other: &Self) -> bool

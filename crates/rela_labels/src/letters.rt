@@ -4,8 +4,8 @@ ghost use Rattle.rela_labels.specs.WideSets.{has_letter, AreAlike, HaveFewWords,
 
 use crate::wide_members::Members;
 use crate::word::{
-    is_empty_word, is_in_word, is_same_word, join_word, least_of_word, meet_word, minus_word,
-    with_letter,
+    is_disjoint_word, is_empty_word, is_in_word, is_same_word, join_word, least_of_word, meet_word,
+    minus_word, only_of_word, with_letter,
 };
 use std::alloc::{AllocError, Global};
 
@@ -156,6 +156,19 @@ impl Letters {
         }
     }
 
+    /// Whether no letter is in both, where both are of one size.
+    pub(crate) fn is_disjoint(&self, other: &Letters) -> bool
+        requires { AreAlike self.now other.now }
+        ensures { IsTrue result ↔ ((k : ℕ) →
+            (has_letter self.now k && has_letter other.now k) ≡ false) }
+    {
+        match (self, other) {
+            (Letters::Few(word), Letters::Few(other)) => is_disjoint_word(*word, *other),
+            (Letters::Wide(members), Letters::Wide(others)) => members.is_disjoint(others),
+            _ => unreachable!(),
+        }
+    }
+
     /// The least letter, and `None` where there is none.
     pub(crate) fn least(&self) -> Option<u32>
         requires { HaveFewWords self.now }
@@ -167,6 +180,19 @@ impl Letters {
         match self {
             Letters::Few(word) => least_of_word(*word),
             Letters::Wide(members) => members.least(),
+        }
+    }
+
+    /// The letter, if there is just one, and else `None`.
+    pub(crate) fn only(&self) -> Option<u32>
+        requires { HaveFewWords self.now }
+        ensures only { IfSome result (λ only. (k : ℕ) → has_letter self.now k ≡ (only == k)) }
+        ensures other { IfNone result ((only : ℕ) →
+            ¬ ((k : ℕ) → has_letter self.now k ≡ (only == k))) }
+    {
+        match self {
+            Letters::Few(word) => only_of_word(*word),
+            Letters::Wide(members) => members.only(),
         }
     }
 

@@ -4,7 +4,8 @@ ghost use Rattle.rela_labels.specs.WideSets.{holds, AreFew, HaveOneSize, IsHeld}
 ghost use Rattle.rela_labels.specs.Words.{bit_of, IsWide};
 
 use crate::words::{
-    has_bit, is_only_bit, join_words, least_bit, meet_words, minus_words, same_words, set_bit,
+    disjoint_words, has_bit, is_only_bit, join_words, least_bit, meet_words, minus_words, only_bit,
+    same_words, set_bit,
 };
 use std::alloc::{AllocError, Global};
 
@@ -179,6 +180,23 @@ impl Members {
         self.least().is_none()
     }
 
+    /// Whether no letter is in both.
+    pub(crate) fn is_disjoint(&self, other: &Members) -> bool
+        requires { HaveOneSize self.now other.now }
+        ensures { IsTrue result ↔ ((k : ℕ) →
+            (holds self.now k && holds other.now k) ≡ false) }
+    {
+        match self {
+            Members::Nothing => true,
+            Members::One(letter) => !other.contains(*letter),
+            Members::Many(words) => match other {
+                Members::Nothing => true,
+                Members::One(letter) => !has_bit(words, *letter),
+                Members::Many(others) => disjoint_words(words, others),
+            },
+        }
+    }
+
     /// The least letter, and `None` where there is none.
     pub(crate) fn least(&self) -> Option<u32>
         requires { AreFew self.now }
@@ -190,6 +208,20 @@ impl Members {
             Members::Nothing => None,
             Members::One(letter) => Some(*letter),
             Members::Many(words) => least_bit(words),
+        }
+    }
+
+    /// The letter, if there is just one, and else `None`.
+    pub(crate) fn only(&self) -> Option<u32>
+        requires { AreFew self.now }
+        ensures only { IfSome result (λ only. (k : ℕ) → holds self.now k ≡ (only == k)) }
+        ensures other { IfNone result ((only : ℕ) →
+            ¬ ((k : ℕ) → holds self.now k ≡ (only == k))) }
+    {
+        match self {
+            Members::Nothing => None,
+            Members::One(letter) => Some(*letter),
+            Members::Many(words) => only_bit(words),
         }
     }
 

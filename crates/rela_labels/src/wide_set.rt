@@ -86,8 +86,16 @@ impl LabelSet for WideSet {
         self.letters.is_empty()
     }
 
+    fn is_disjoint(&self, other: &WideSet) -> bool {
+        self.letters.is_disjoint(&other.letters)
+    }
+
     fn least(&self) -> Option<u32> {
         self.letters.least()
+    }
+
+    fn only(&self) -> Option<u32> {
+        self.letters.only()
     }
 
     fn same(&self, other: &WideSet) -> bool {

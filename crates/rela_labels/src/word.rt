@@ -55,6 +55,28 @@ pub(crate) fn least_of_word(word: u64) -> Option<u32>
     }
 }
 
+/// The letter whose bit alone is 1, and `None` where more are or none is.
+pub(crate) fn only_of_word(word: u64) -> Option<u32>
+    ensures only { IfSome result (λ only. (k : ℕ) → word_has word k ≡ (only == k)) }
+    ensures other { IfNone result ((only : ℕ) → ¬ ((k : ℕ) → word_has word k ≡ (only == k))) }
+{
+    let Some(least) = least_of_word(word) else {
+        return None;
+    };
+    if is_same_word(word, with_letter(0, least)) {
+        Some(least)
+    } else {
+        None
+    }
+}
+
+/// Whether no letter's bit is 1 in both.
+pub(crate) fn is_disjoint_word(word: u64, other: u64) -> bool
+    ensures { IsTrue result ↔ ((k : ℕ) → (word_has word k && word_has other k) ≡ false) }
+{
+    is_empty_word(meet_word(word, other))
+}
+
 /// Whether no bit is 1.
 pub(crate) fn is_empty_word(word: u64) -> bool
     ensures { IsTrue result ↔ ((k : ℕ) → word_has word k ≡ false) }

@@ -80,6 +80,37 @@ pub(crate) fn same_words(words: &[u64], other: &[u64]) -> bool
     true
 }
 
+/// Whether no bit is 1 in both, of as many words.
+pub(crate) fn disjoint_words(words: &[u64], other: &[u64]) -> bool
+    requires { length words.now ≡ length other.now }
+    ensures { IsTrue result ↔ ((k : ℕ) →
+        (bit_of words.now k && bit_of other.now k) ≡ false) }
+{
+    for i in 0..words.len() {
+        if words[i] & other[i] != 0 {
+            return false;
+        }
+    }
+    true
+}
+
+/// The letter whose bit alone is 1, and `None` where more are or none is.
+pub(crate) fn only_bit(words: &[u64]) -> Option<u32>
+    requires { length words.now ≤ 2 ^ 26 }
+    ensures only { IfSome result (λ only. (k : ℕ) → bit_of words.now k ≡ (only == k)) }
+    ensures other { IfNone result ((only : ℕ) →
+        ¬ ((k : ℕ) → bit_of words.now k ≡ (only == k))) }
+{
+    let Some(least) = least_bit(words) else {
+        return None;
+    };
+    if is_only_bit(words, least) {
+        Some(least)
+    } else {
+        None
+    }
+}
+
 /// Whether the letter's bit is 1, and no other.
 pub(crate) fn is_only_bit(words: &[u64], letter: u32) -> bool
     ensures { IsTrue result ↔ ((k : ℕ) → bit_of words.now k ≡ (letter == k)) }
