@@ -1,43 +1,61 @@
 //! Why a specification's text is refused.
 
 use std::alloc::{AllocError, AllocFailed};
-use thiserror::Error;
+use std::error::Error;
+use std::fmt;
+use std::fmt::{Display, Formatter};
 
 /// The first fault of a specification. `at` counts the bytes of the text that stand before it.
-#[derive(Clone, Copy, Debug, PartialEq, Eq, Error)]
+#[derive(Clone, Copy, Debug, PartialEq, Eq)]
 pub enum SpecError {
     /// No token, comment or blank begins here.
-    #[error("no token begins at byte {at}")]
     BadToken { at: u32 },
     /// No specification begins with the tokens up to and with this one; at the end of the text, the
     /// text stops short.
-    #[error("unexpected token at byte {at}")]
     Syntax { at: u32 },
     /// No earlier item of its kind has the name that is referred to.
-    #[error("unknown name at byte {at}")]
     UnknownName { at: u32 },
     /// An earlier item has the same name.
-    #[error("repeated name at byte {at}")]
     RepeatedName { at: u32 },
     /// Too many brackets are open, or a check nests too deep once its references are replaced.
-    #[error("nested too deep at byte {at}")]
     TooDeep { at: u32 },
     /// There are too many checks, or a check is too large once its references are replaced.
-    #[error("too large at byte {at}")]
     TooLarge { at: u32 },
     /// The number is too great, or has a leading zero.
-    #[error("bad number at byte {at}")]
     BadNumber { at: u32 },
     /// The locations are named by a finer level than that of the specification.
-    #[error("a finer level at byte {at}")]
     FinerLevel { at: u32 },
     /// No location has the name.
-    #[error("unknown location at byte {at}")]
     UnknownLocation { at: u32 },
     /// Memory ran out.
-    #[error("out of memory")]
     Memory,
 }
+
+impl SpecError {
+    /// What is wrong, in words.
+    fn fault(self) -> &'static str {
+        match self {
+            SpecError::BadToken { .. } => "no token begins here",
+            SpecError::Syntax { .. } => "unexpected token",
+            SpecError::UnknownName { .. } => "unknown name",
+            SpecError::RepeatedName { .. } => "repeated name",
+            SpecError::TooDeep { .. } => "nested too deep",
+            SpecError::TooLarge { .. } => "too large",
+            SpecError::BadNumber { .. } => "bad number",
+            SpecError::FinerLevel { .. } => "a finer level",
+            SpecError::UnknownLocation { .. } => "unknown location",
+            SpecError::Memory => "out of memory",
+        }
+    }
+}
+
+impl Display for SpecError {
+    fn fmt<W: fmt::Write>(&self, f: &mut Formatter<W>) -> fmt::Result {
+        f.pad(self.fault())
+    }
+}
+
+impl Error for SpecError {}
 
 impl From<AllocError> for SpecError {
     ghost use Rattle.std.specs.Prelude.{◌≡◌};
