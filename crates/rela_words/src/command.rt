@@ -10,7 +10,7 @@ pub const MAX_STATES: usize = 4_000_000;
 pub const MAX_LAYERS: usize = 200;
 
 /// To check a change.
-#[derive(Debug, Drop)]
+#[derive(Drop)]
 pub struct Check {
     /// The name of the file with the snapshot before the change.
     pub before: String,
@@ -27,14 +27,14 @@ pub struct Check {
 }
 
 /// To write the canonical text of a specification.
-#[derive(Debug, Drop)]
+#[derive(Drop)]
 pub struct Fmt {
     /// The name of the file with the specification.
     pub spec: String,
 }
 
 /// To write the snapshot that forwarding tables give.
-#[derive(Debug, Drop)]
+#[derive(Drop)]
 pub struct Fib {
     /// The name of the file with the tables.
     pub tables: String,
@@ -45,7 +45,7 @@ pub struct Fib {
 }
 
 /// To write the automaton of the zone of a check.
-#[derive(Debug, Drop)]
+#[derive(Drop)]
 pub struct Zone {
     /// The name of the file with the locations.
     pub locations: String,
@@ -58,7 +58,7 @@ pub struct Zone {
 }
 
 /// To tell which assertions hold of a change.
-#[derive(Debug, Drop)]
+#[derive(Drop)]
 pub struct Rir {
     /// The name of the file with the snapshot before the change.
     pub before: String,
@@ -73,7 +73,7 @@ pub struct Rir {
 }
 
 /// To write a certificate of the rows of a change that are met.
-#[derive(Debug, Drop)]
+#[derive(Drop)]
 pub struct Certify {
     /// The name of the file with the snapshot before the change.
     pub before: String,
@@ -88,7 +88,7 @@ pub struct Certify {
 }
 
 /// To audit a certificate of a change.
-#[derive(Debug, Drop)]
+#[derive(Drop)]
 pub struct Audit {
     /// The name of the file with the snapshot before the change.
     pub before: String,
@@ -103,14 +103,14 @@ pub struct Audit {
 }
 
 /// To check the change of a layered input that is made.
-#[derive(Clone, Copy, Debug)]
+#[derive(Clone, Copy)]
 pub struct Demo {
     /// How many layers the input has, from 1 to [`MAX_LAYERS`].
     pub layers: usize,
 }
 
 /// What the words ask for.
-#[derive(Debug, Drop)]
+#[derive(Drop)]
 pub enum Command {
     /// `check [--states N] [--blame] BEFORE AFTER LOCATIONS SPEC`
     Check(Check),

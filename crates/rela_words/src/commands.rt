@@ -1,6 +1,6 @@
 //! Each command, read from the parts of its words.
 
-ghost use Rattle.std.specs.Prelude.{◌≡◌, IfOk, IfErr, codes, string_bytes, false, []};
+ghost use Rattle.std.specs.Prelude.{◌≡◌, IfOk, IfErr, codes, string_bytes};
 ghost use Rattle.rela_words.specs.Commands.{command_of};
 ghost use Rattle.rela_words.specs.Parts.{FitJust, FitNothing, parts_of};
 
@@ -8,7 +8,7 @@ use crate::command::{Audit, Certify, Check, Command, Demo, Fib, Fmt, MAX_LAYERS,
 use crate::errors::WordsError;
 use crate::number::number_of;
 use crate::parts::Parts;
-use std::alloc::Global;
+use std::alloc::{AllocError, Global};
 
 /// `check`: four operands, a state limit and the flag.
 ///
@@ -24,11 +24,13 @@ pub(crate) fn read_check(alloc: Global, parts: &Parts<'_>) -> Result<Command, Wo
     let Some([before, after, locations, spec]) = parts.operands() else {
         return Err(WordsError::Bad);
     };
+    let spec = String::from_str(alloc, spec)?;
+    let (before, after, locations) = copies(alloc, before, after, locations)?;
     Ok(Command::Check(Check {
-        before: String::from_str(alloc, before)?,
-        after: String::from_str(alloc, after)?,
-        locations: String::from_str(alloc, locations)?,
-        spec: String::from_str(alloc, spec)?,
+        before,
+        after,
+        locations,
+        spec,
         states,
         blame: parts.blame,
     }))
@@ -71,10 +73,11 @@ pub(crate) fn read_fib(alloc: Global, parts: &Parts<'_>) -> Result<Command, Word
     let Some([tables, other, locations]) = parts.operands() else {
         return Err(WordsError::Bad);
     };
+    let (tables, other, locations) = copies(alloc, tables, other, locations)?;
     Ok(Command::Fib(Fib {
-        tables: String::from_str(alloc, tables)?,
-        other: String::from_str(alloc, other)?,
-        locations: String::from_str(alloc, locations)?,
+        tables,
+        other,
+        locations,
     }))
 }
 
@@ -92,10 +95,11 @@ pub(crate) fn read_zone(alloc: Global, parts: &Parts<'_>) -> Result<Command, Wor
     let Some([locations, spec, name]) = parts.operands() else {
         return Err(WordsError::Bad);
     };
+    let (locations, spec, name) = copies(alloc, locations, spec, name)?;
     Ok(Command::Zone(Zone {
-        locations: String::from_str(alloc, locations)?,
-        spec: String::from_str(alloc, spec)?,
-        name: String::from_str(alloc, name)?,
+        locations,
+        spec,
+        name,
         states,
     }))
 }
@@ -114,11 +118,13 @@ pub(crate) fn read_rir(alloc: Global, parts: &Parts<'_>) -> Result<Command, Word
     let Some([before, after, locations, assertions]) = parts.operands() else {
         return Err(WordsError::Bad);
     };
+    let assertions = String::from_str(alloc, assertions)?;
+    let (before, after, locations) = copies(alloc, before, after, locations)?;
     Ok(Command::Rir(Rir {
-        before: String::from_str(alloc, before)?,
-        after: String::from_str(alloc, after)?,
-        locations: String::from_str(alloc, locations)?,
-        assertions: String::from_str(alloc, assertions)?,
+        before,
+        after,
+        locations,
+        assertions,
         states,
     }))
 }
@@ -138,11 +144,13 @@ pub(crate) fn read_certify(alloc: Global, parts: &Parts<'_>) -> Result<Command, 
     let Some([before, after, locations, spec]) = parts.operands() else {
         return Err(WordsError::Bad);
     };
+    let spec = String::from_str(alloc, spec)?;
+    let (before, after, locations) = copies(alloc, before, after, locations)?;
     Ok(Command::Certify(Certify {
-        before: String::from_str(alloc, before)?,
-        after: String::from_str(alloc, after)?,
-        locations: String::from_str(alloc, locations)?,
-        spec: String::from_str(alloc, spec)?,
+        before,
+        after,
+        locations,
+        spec,
         states,
     }))
 }
@@ -163,12 +171,15 @@ pub(crate) fn read_audit(alloc: Global, parts: &Parts<'_>) -> Result<Command, Wo
     let Some([before, after, locations, spec, certificate]) = parts.operands() else {
         return Err(WordsError::Bad);
     };
+    let spec = String::from_str(alloc, spec)?;
+    let certificate = String::from_str(alloc, certificate)?;
+    let (before, after, locations) = copies(alloc, before, after, locations)?;
     Ok(Command::Audit(Audit {
-        before: String::from_str(alloc, before)?,
-        after: String::from_str(alloc, after)?,
-        locations: String::from_str(alloc, locations)?,
-        spec: String::from_str(alloc, spec)?,
-        certificate: String::from_str(alloc, certificate)?,
+        before,
+        after,
+        locations,
+        spec,
+        certificate,
     }))
 }
 
@@ -191,4 +202,22 @@ pub(crate) fn read_demo(parts: &Parts<'_>) -> Result<Command, WordsError>
     };
     let layers = number_of(layers, MAX_LAYERS).ok_or(WordsError::Bad)?;
     Ok(Command::Demo(Demo { layers }))
+}
+
+/// Copies of three operands. The only error is want of memory.
+fn copies(
+    alloc: Global,
+    first: &str,
+    second: &str,
+    third: &str,
+) -> Result<(String, String, String), AllocError>
+    ensures first { IfOk result (λ made. string_bytes made.0 ≡ first.now) }
+    ensures second { IfOk result (λ made. string_bytes made.1 ≡ second.now) }
+    ensures third { IfOk result (λ made. string_bytes made.2 ≡ third.now) }
+{
+    Ok((
+        String::from_str(alloc, first)?,
+        String::from_str(alloc, second)?,
+        String::from_str(alloc, third)?,
+    ))
 }

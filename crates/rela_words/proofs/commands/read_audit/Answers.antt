@@ -6,8 +6,8 @@ use Rattle.rela_words.proofs.commands.read_audit.Goals as goal
 
 pub returns-clause-fits : goal.returns-clause-fits
 returns-clause-fits c =
-    audit_just (parts_of c.args.parts.now) (string_bytes c.in_ok-from_str.field-0) (string_bytes c.in_ok-from_str-2.field-0) (string_bytes c.in_ok-from_str-3.field-0) (string_bytes c.in_ok-from_str-4.field-0) (string_bytes c.in_ok-from_str-5.field-0)
+    audit_just (parts_of c.args.parts.now) (string_bytes c.in_ok-before.before) (string_bytes c.in_ok-before.after) (string_bytes c.in_ok-before.locations) (string_bytes c.in_ok-spec.spec) (string_bytes c.in_ok-certificate.certificate)
     (sym c.operands.ensures
-    ∙ five_words c.operands.result c.in-Some-len5.field-0 c.in-Some-len5.is (string_bytes c.in_ok-from_str.field-0) (string_bytes c.in_ok-from_str-2.field-0) (string_bytes c.in_ok-from_str-3.field-0) (string_bytes c.in_ok-from_str-4.field-0) (string_bytes c.in_ok-from_str-5.field-0)
-    _ _ _ _ _ c.in-Some-len5.len_at_least c.in-Some-len5.len_below c.in_ok-from_str.ensures.ok c.in_ok-from_str-2.ensures.ok c.in_ok-from_str-3.ensures.ok c.in_ok-from_str-4.ensures.ok c.in_ok-from_str-5.ensures.ok)
+    ∙ five_words c.operands.result c.in-Some-len5.field-0 c.in-Some-len5.is (string_bytes c.in_ok-before.before) (string_bytes c.in_ok-before.after) (string_bytes c.in_ok-before.locations) (string_bytes c.in_ok-spec.spec) (string_bytes c.in_ok-certificate.certificate)
+    _ _ _ _ _ c.in-Some-len5.len_at_least c.in-Some-len5.len_below c.in_ok-before.ensures.first c.in_ok-before.ensures.second c.in_ok-before.ensures.third c.in_ok-spec.ensures.ok c.in_ok-certificate.ensures.ok)
     (c.have_no_options.ensures.0 (first_of (search rules, grind arith)))

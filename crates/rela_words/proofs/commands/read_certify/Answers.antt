@@ -11,8 +11,8 @@ returns-in_err-states-clause-bad c = if_bad c.from_residual.result _
 
 pub returns-clause-fits : goal.returns-clause-fits
 returns-clause-fits c =
-    certify_just (parts_of c.args.parts.now) (string_bytes c.in_ok-from_str.field-0) (string_bytes c.in_ok-from_str-2.field-0) (string_bytes c.in_ok-from_str-3.field-0) (string_bytes c.in_ok-from_str-4.field-0) c.in_ok-states.states
+    certify_just (parts_of c.args.parts.now) (string_bytes c.in_ok-before.before) (string_bytes c.in_ok-before.after) (string_bytes c.in_ok-before.locations) (string_bytes c.in_ok-spec.spec) c.in_ok-states.states
     (sym c.operands.ensures
-    ∙ four_words c.operands.result c.in-Some-len4.field-0 c.in-Some-len4.is (string_bytes c.in_ok-from_str.field-0) (string_bytes c.in_ok-from_str-2.field-0) (string_bytes c.in_ok-from_str-3.field-0) (string_bytes c.in_ok-from_str-4.field-0)
-    _ _ _ _ c.in-Some-len4.len_at_least c.in-Some-len4.len_below c.in_ok-from_str.ensures.ok c.in_ok-from_str-2.ensures.ok c.in_ok-from_str-3.ensures.ok c.in_ok-from_str-4.ensures.ok)
+    ∙ four_words c.operands.result c.in-Some-len4.field-0 c.in-Some-len4.is (string_bytes c.in_ok-before.before) (string_bytes c.in_ok-before.after) (string_bytes c.in_ok-before.locations) (string_bytes c.in_ok-spec.spec)
+    _ _ _ _ c.in-Some-len4.len_at_least c.in-Some-len4.len_below c.in_ok-before.ensures.first c.in_ok-before.ensures.second c.in_ok-before.ensures.third c.in_ok-spec.ensures.ok)
     (just_read (λ n. IsLimitUpTo 4000000 (parts_of c.args.parts.now).limits n × (c.args.parts.now.blame ≡ false)) c.states_without_flag.result c.states_without_flag.ensures c.in_ok-states.states c.in_ok-states.ensures.ok_part)
