@@ -9,7 +9,7 @@ use crate::outside::Files;
 use std::marker::Model;
 
 /// A file that stands in memory.
-#[derive(Debug, Drop)]
+#[derive(Drop)]
 pub struct MemoryFile {
     /// The name that it is opened by.
     pub name: String,

@@ -6,7 +6,7 @@ use rela_names::{Name, Word};
 use std::alloc::{AllocError, Global};
 
 /// The snapshot on whose side a word is.
-#[derive(Clone, Copy, Debug, PartialEq, Eq)]
+#[derive(Clone, Copy)]
 pub enum Side {
     /// The image of the paths before the change has the word, and the other image lacks it.
     Before,
@@ -15,7 +15,7 @@ pub enum Side {
 }
 
 /// The verdict on a check for one flow.
-#[derive(Debug, Drop)]
+#[derive(Drop)]
 pub enum Row {
     /// The check is met: the images are equal, or the one after the change lies in the one before it
     /// where the check asks for no more.
@@ -62,7 +62,7 @@ fn copy_word(alloc: Global, word: &Word) -> Result<Word, AllocError>
 }
 
 /// A row of the report.
-#[derive(Debug, Drop)]
+#[derive(Drop)]
 pub enum ReportRow {
     /// A flow that no check selects.
     Unselected {

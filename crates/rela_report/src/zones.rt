@@ -1,7 +1,7 @@
 //! Which alternative of its check's body claimed the source of a violated row.
 
 /// An alternative of the body of a check, and where it stands.
-#[derive(Clone, Copy, Debug, PartialEq, Eq)]
+#[derive(Clone, Copy)]
 pub struct Zone {
     /// Its number among the alternatives of the body, from left to right and from 1 on.
     pub number: u32,
