@@ -1,12 +1,12 @@
 -- How the prefixes inside a cell are split, where they come in their order.
-use Rattle.std.proofs.Common.{◌≡◌, ◌≢◌, ◌∙◌, refl, sym, ap, subst, ℕ, zero, suc, ◌+◌, ◌-◌, ◌<◌, ◌≤◌, Bool, true, false, cond, eqb, ltb, List, [], ◌∷◌, ◌++◌, length, get_or, take, drop, Option, Some, None, IfSome, IfNone, arith}
+use Rattle.std.proofs.Common.{◌≡◌, ◌≢◌, ◌∙◌, refl, sym, ap, subst, ℕ, zero, suc, ◌+◌, ◌-◌, ◌<◌, ◌≤◌, Bool, true, false, cond, eqb, ltb, List, [], ◌∷◌, ◌++◌, length, get_or, take, drop, Option, Some, None, IfSome, IfNone, inl, inr, arith}
 use Rattle.std.specs.Prelude.{option_map, slice_get}
 use Rattle.std.specs.List.{All, AllWithin, Contains, filter}
 use Rattle.std.specs.List.Sorted.{IsNonDecreasingBy, IsPartitionPoint, IsPartitionedBy}
-use Rattle.std.proofs.lemmas.Bool.{eq-eqb, false_from_ne_true, eqb-true, lt-ltb, le-ltb}
-use Rattle.std.proofs.lemmas.List.{append-nil, get_or_default, get_or_append_left, get_or-append-add}
+use Rattle.std.proofs.lemmas.Bool.{cases_lt, eq-eqb, false_from_ne_true, eqb-true, lt-ltb, le-ltb}
+use Rattle.std.proofs.lemmas.List.{append-nil, get_or_default, get_or_append_left, get_or_push, get_or-append-add, length_push}
 use Rattle.std.proofs.lemmas.List.Elements.{All-contains, All-drop, All-head, All-more, All-tail, filter-append, Contains-append_left}
-use Rattle.std.proofs.lemmas.Option.{none-some, slice_get-get_or}
+use Rattle.std.proofs.lemmas.Option.{none-some, get_or_from_slice_get, slice_get-get_or, slice_get_read}
 use Rattle.std.proofs.lemmas.List.Sorted.{IsNonDecreasingBy-drop, IsPartitionedBy-ltb}
 use Rattle.rela_flows.specs.declared.prefix.Ipv4Prefix.{Ipv4Prefix}
 use Rattle.rela_prefixes.specs.declared.leaf.Halves.{Halves}
@@ -152,3 +152,20 @@ parted cell ns here longer low high count m parts run both rest halves first tot
       here = here_found cell.length ns here longer parts.here both same last;
       none = none_found cell.length ns here longer parts.here both none last;
     }
+
+-- ---- the places of prefixes in their list
+
+-- one prefix more with its place
+pub one_more_numbered : (prefixes : List Ipv4Prefix) (ns : List Numbered) (number : ℕ) (p : Ipv4Prefix) → length ns ≡ number → p ≡ get_or prefixes number p → ((k : ℕ) (q : Ipv4Prefix) → k < number → slice_get prefixes k ≡ Some q → slice_get ns k ≡ Some (record { prefix = q; number = k })) → (k : ℕ) (q : Ipv4Prefix) → k < number + 1 → slice_get prefixes k ≡ Some q → slice_get (ns ++ record { prefix = p; number = number } ∷ []) k ≡ Some (record { prefix = q; number = k })
+one_more_numbered prefixes ns number p many here before k q lt at =
+    let last : Numbered = record { prefix = p; number = number } in
+    let one : Numbered = record { prefix = q; number = k } in
+    let more : length (ns ++ last ∷ []) ≡ length ns + 1 = length_push ns last in
+    elim (cases_lt k number) [
+      | inl below ↦ slice_get_read (ns ++ last ∷ []) (length (ns ++ last ∷ [])) k one refl (omega (arith, more, many, lt)) (sym (get_or_append_left ns (last ∷ []) one k (omega (arith, many, below)) ∙ get_or_from_slice_get ns k one one (before k q below at)))
+      | inr above ↦
+          let same : number ≡ k = omega (arith, above, lt) in
+          let found : p ≡ q = here ∙ get_or_from_slice_get prefixes number q p (ap (slice_get prefixes) same ∙ at) in
+          let is : last ≡ one = rw (found, same) refl in
+          slice_get_read (ns ++ last ∷ []) (length (ns ++ last ∷ [])) k one refl (omega (arith, more, many, lt)) (sym (get_or_push ns last one k (many ∙ same) ∙ is))
+    ]
