@@ -1,6 +1,6 @@
 //! The rows of a certificate, gathered line by line.
 
-ghost use Rattle.std.specs.Prelude.{◌≡◌, [], ◌∷◌, ◌++◌, List, OnOk};
+ghost use Rattle.std.specs.Prelude.{[], ◌∷◌, ◌++◌, List, OnOk};
 ghost use Rattle.rela_certfile.specs.declared.item.Item.{Item};
 ghost use Rattle.rela_certfile.specs.Items.{Gathers};
 

@@ -4,7 +4,7 @@ use std::alloc::{AllocError, AllocFailed};
 use thiserror::Error;
 
 /// Why a text is not read as a certificate.
-#[derive(Clone, Copy, Debug, PartialEq, Eq, Error)]
+#[derive(Clone, Copy, Debug, Error)]
 pub enum CertificateError {
     /// No certificate begins with the lines up to and with this one, counted from 1. Where the text
     /// stops short, it is the line after the last.

@@ -1,6 +1,6 @@
 //! What one line of a row says, and where it may stand.
 
-ghost use Rattle.std.specs.Prelude.{◌≢◌, ◌≤◌, MatchOption, ◌≡◌, ◌<◌, ◌+◌, ◌^◌, ℕ, ◌↔◌, Some, IsSome};
+ghost use Rattle.std.specs.Prelude.{◌≢◌, ◌≤◌, MatchOption, ◌≡◌, ◌<◌, ◌+◌, ◌^◌, ◌↔◌, Some, IsSome};
 ghost use Rattle.rela_certfile.specs.Items.{Allowed, MayStep, after, item_line, start, with_row};
 ghost use Rattle.rela_certfile.specs.declared.item.Item.{Item};
 ghost use Rattle.rela_certfile.specs.declared.item.Item.TheVariants.{Complement, Images, Word};

@@ -1,6 +1,6 @@
 //! What the rows of a plan ask of a certificate that lists them.
 
-ghost use Rattle.std.specs.Prelude.{Some, [], ◌∷◌, ◌++◌, codes, MatchOption, OnOk, option_copied, ◌≡◌, ◌≢◌, ℕ, ◌+◌, ◌<◌, ◌≤◌, All, IfNone, IfSome, IsSome, IsTrue, ◌↔◌, length, map};
+ghost use Rattle.std.specs.Prelude.{Some, [], ◌∷◌, ◌++◌, codes, MatchOption, OnOk, option_copied, ◌≡◌, ◌≢◌, ℕ, ◌+◌, ◌<◌, ◌≤◌, All, IsSome, IsTrue, ◌↔◌, length, map};
 ghost use Rattle.std.specs.List.{AllPairs, slice_get, slice_index_or};
 ghost use Rattle.rela_names.specs.Name.{IsName};
 ghost use Rattle.rela_flows.specs.declared.planning.PlannedRow.TheVariants.{Checked};

@@ -1,6 +1,6 @@
 //! Cutting texts.
 
-ghost use Rattle.std.specs.Prelude.{◌≡◌, ◌≢◌, ◌∷◌, ◌++◌, All, List, ℕ, IfNone, IfSome, MatchOption, length};
+ghost use Rattle.std.specs.Prelude.{◌≡◌, ◌≢◌, ◌++◌, List, ℕ, MatchOption};
 ghost use Rattle.rela_certfile.specs.Cut.{IsCutAt, Lacks};
 
 /// What stands before the first byte of this value, and what stands behind it, or `None` where
