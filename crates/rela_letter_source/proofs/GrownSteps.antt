@@ -9,16 +9,12 @@ use Rattle.rela_letter_source.specs.Growth.{Fits}
 use Rattle.rela_pairs.specs.declared.shape.Shape.{Shape}
 use Rattle.rela_letter_source.specs.declared.configuration.Configuration.{Configuration}
 use Rattle.rela_trans.specs.Machine.{Machine, moves_of}
-use Rattle.rela_trans.specs.Stored.{kind_of}
 use Rattle.rela_trans.specs.declared.moves.Move.{Move}
-use Rattle.rela_trans.specs.declared.moves.MoveKind.{MoveKind}
-use Rattle.rela_trans.specs.declared.moves.MoveKind.TheVariants.{Silent, In, Out, Same}
 use Rattle.rela_letter_nfa.specs.Counted.{edge_to}
 use Rattle.rela_letter_source.specs.Growth.{Growth, HasEnd, Stand, Grows, IsFoundIn, with_parts}
 use Rattle.rela_letter_nfa.specs.declared.edge.LetterEdge.{LetterEdge}
-use Rattle.rela_letter_source.specs.Steps.{JointStep, alone_by, alone_steps, edge_steps, next_of, read_by, silent_steps, step_to, steps_from}
+use Rattle.rela_letter_source.specs.Steps.{JointStep, alone_steps, edge_steps, next_of, silent_steps, step_to, steps_from}
 use Rattle.rela_letter_source.specs.declared.next.Next.{Next}
-use Rattle.rela_letter_source.specs.declared.next.Reading.{Reading}
 use Rattle.rela_letter_source.proofs.StepsGo.{Contains-nil, Contains-cons_cases, first_in}
 
 -- a configuration keeps its number where more are found
@@ -201,21 +197,6 @@ module _ {X : Type 0} (xs : List X) (i : ℕ) (x : X) (below : i < length xs) (a
       let before = take i xs in
       grows_next (flat_map steps before) (steps x) (flat_map steps (take (i + 1) xs))
       (ap (flat_map steps) (take_more xs i x below ∙ ap (λ y. before ++ y ∷ []) at) ∙ flat_map-append steps before (x ∷ []) ∙ ap (λ l. flat_map steps before ++ l) (append-nil (steps x))) g h k
-
--- ---- moves by which nothing is added
-
-module _ {L : Type 0} (letters : L → List Bool) (kind : MoveKind L) (to : ℕ) (g : Growth) where
-  pub reads_alone : (next : Option Next) (x : Configuration) → ((set : L) × (kind ≡ In set)) ⊎ ((set : L) × (kind ≡ Same set)) → Grows (alone_by next x (kind_of letters kind) to) g g
-  reads_alone next x which = elim which [
-    | inl in_set ↦ subst (λ k. Grows (alone_by next x (kind_of letters k) to) g g) (sym in_set.1) (grows_none g)
-    | inr same ↦ subst (λ k. Grows (alone_by next x (kind_of letters k) to) g g) (sym same.1) (grows_none g)
-  ]
-
-  pub reads_nothing : (reading : Reading) → (kind ≡ Silent) ⊎ ((set : L) × (kind ≡ Out set)) → Grows (read_by reading (kind_of letters kind) to) g g
-  reads_nothing reading which = elim which [
-    | inl silent ↦ subst (λ k. Grows (read_by reading (kind_of letters k) to) g g) (sym silent) (grows_none g)
-    | inr out ↦ subst (λ k. Grows (read_by reading (kind_of letters k) to) g g) (sym out.1) (grows_none g)
-  ]
 
 -- ---- all steps from a configuration
 

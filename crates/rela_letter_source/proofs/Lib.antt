@@ -1,5 +1,6 @@
 mod BuiltStates
 mod FoundAt
 mod GrownSteps
+mod LaidOut
 mod SourceWords
 mod StepsGo

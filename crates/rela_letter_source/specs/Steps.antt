@@ -3,6 +3,9 @@ use Rattle.std.specs.Prelude.{ℕ, ◌+◌, Bool, List, [], ◌∷◌, ◌++◌,
 use Rattle.std.specs.List.{flat_map}
 use Rattle.rela_labels.specs.Letters.{has}
 use Rattle.rela_letter_image.specs.Coarse.{coarse_of}
+use Rattle.rela_letter_image.specs.LetterMoves.{set_move}
+use Rattle.rela_letter_image.specs.declared.letter_moves.LetterMove.{LetterMove}
+use Rattle.rela_letter_image.specs.declared.letter_moves.StateMoves.{StateMoves}
 use Rattle.rela_letter_nfa.specs.declared.edge.LetterEdge.{LetterEdge}
 use Rattle.rela_letter_nfa.specs.LetterAutomaton.{LetterAutomaton, silents_of, edges_of}
 use Rattle.rela_trans.specs.Machine.{Machine, Kind, moves_of}
@@ -77,6 +80,21 @@ read_by reading (In set) to = step_if (has set reading.coarse)
 read_by reading (Out set) to = []
 read_by reading (Same set) to = same_by reading.after reading set to
 
+-- how many letters have been written once the edge's letter is read, and written too if it is to be
+abbrev pub after_read : Reading → Bool → Option ℕ
+after_read reading writes = if writes then reading.after else Some reading.written
+
+-- the edge's letter is read by a move to this state, where so many letters have been written then
+abbrev pub read_to : Option ℕ → Reading → ℕ → List JointStep
+read_to None reading to = []
+read_to (Some after) reading to =
+    step_to (Some reading.edge.letter) (standing reading.edge.to to after) ∷ []
+
+-- what both do by the edge and a move to this state, if the move reads the edge's letter
+abbrev pub read_if : Bool → Reading → Bool → ℕ → List JointStep
+read_if is_read reading writes to =
+    if is_read then read_to (after_read reading writes) reading to else []
+
 -- ---- all steps
 
 abbrev pub alone_steps : Option Next → Configuration → List (Move (List Bool)) → List JointStep
@@ -84,6 +102,16 @@ alone_steps next x moves = flat_map (λ m. alone_by next x m.kind m.to) moves
 
 abbrev pub read_steps : Reading → List (Move (List Bool)) → List JointStep
 read_steps reading moves = flat_map (λ m. read_by reading m.kind m.to) moves
+
+-- what both do by the edge and moves each of which reads one letter
+abbrev pub letter_steps : Reading → List LetterMove → List JointStep
+letter_steps reading moves =
+    flat_map (λ m. read_if (nat_eq m.letter reading.coarse) reading m.writes m.to) moves
+
+-- what both do by the edge and the moves of a state
+abbrev pub laid_out_steps : Reading → StateMoves → List JointStep
+laid_out_steps reading state = read_steps reading (map set_move state.by_set.items)
+    ++ letter_steps reading state.by_letter.items
 
 -- the edge as it is read where n letters have been written
 abbrev pub reading_of : ℕ → List ℕ → Option Next → ℕ → LetterEdge → Reading

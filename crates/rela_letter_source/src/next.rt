@@ -1,7 +1,7 @@
 //! The letter that is to be written next, and the letters that are read.
 ghost use Rattle.std.specs.Prelude.{◌≡◌};
 ghost use Rattle.rela_letter_image.specs.Coarse.{coarse_of};
-ghost use Rattle.rela_letter_source.specs.Steps.{after_letter, next_of, reading_of};
+ghost use Rattle.rela_letter_source.specs.Steps.{after_letter, after_read, next_of, reading_of};
 
 use rela_letter_nfa::LetterEdge;
 
@@ -90,5 +90,17 @@ pub(crate) fn as_read(
         coarse: coarse_letter(coarse, letters, edge.letter),
         written,
         after: letters_after(next, edge.letter),
+    }
+}
+
+/// How many letters have been written after the edge's letter is read, and written too if `writes`
+/// says so; `None` where it is to be written and isn't the next one.
+pub(crate) fn written_after(edge: Reading, writes: bool) -> Option<usize>
+    ensures { result ≡ after_read edge writes }
+{
+    if writes {
+        edge.after
+    } else {
+        Some(edge.written)
     }
 }

@@ -6,11 +6,10 @@ ghost use Rattle.rela_names.specs.Shortlex.{First};
 ghost use Rattle.rela_letter_source.specs.Sources.{IsSourceOf};
 
 use crate::sources::sources;
-use rela_labels::LabelSet;
+use rela_letter_image::LetterRelation;
 use rela_letter_nfa::{LetterNfa, LetterNfaBuilder, Sought, first_difference};
 use rela_names::Word;
 use rela_pairs::{BuildError, pass_limit};
-use rela_trans::Transducer;
 use std::alloc::{AllocError, Global};
 
 /// An automaton that accepts no word.
@@ -30,10 +29,10 @@ fn nothing(alloc: Global) -> Result<LetterNfa, AllocError>
 ///   `most` edges and silent steps, or where more than `most` sets of its states are reached by
 ///   words that don't come after the first source.
 /// - `Memory` where there isn't memory for them.
-fn source_within<M: LabelSet>(
+fn source_within(
     alloc: Global,
     paths: &LetterNfa,
-    relation: &Transducer<M>,
+    relation: &LetterRelation,
     coarse: &[u32],
     word: &[u32],
     most: usize,
@@ -60,18 +59,19 @@ fn source_within<M: LabelSet>(
 /// reached by words that don't come after the first one.
 ///
 /// The automaton's states are triples: a state of the paths, one of the relation, and how many
-/// letters of `word` have been written. Time: for each triple that is found, the product of the
-/// numbers of edges and moves that leave its two states, each in constant time; then a search
-/// through sets of triples, up to the first word. Space: linear in the triples, the edges between
-/// them, and these sets.
+/// letters of `word` have been written. Time: for each triple that is found, a constant for each
+/// edge with each move that reads, where a move that reads one letter costs no more than that two
+/// numbers are compared, and for each move that reads nothing; then a search through sets of
+/// triples, up to the first word. Space: linear in the triples, the edges between them, and these
+/// sets.
 ///
 /// # Errors
 ///
 /// Only want of memory.
-pub fn first_source<M: LabelSet>(
+pub fn first_source(
     alloc: Global,
     paths: &LetterNfa,
-    relation: &Transducer<M>,
+    relation: &LetterRelation,
     coarse: &[u32],
     word: &[u32],
     most: usize,

@@ -2,40 +2,23 @@
 ghost use Rattle.std.specs.Prelude.{◌≡◌, ℕ, ◌<◌, ◌↔◌, None, Some, IsTrue, IfOk, OnOk, List, map};
 ghost use Rattle.std.specs.List.{All};
 ghost use Rattle.rela_letter_image.specs.Coarse.{coarse_of};
+ghost use Rattle.rela_letter_image.specs.LetterMoves.{AreLettersOf, LeadBelow, all_moves, alone_move, reading, set_move, writing};
 ghost use Rattle.rela_letter_nfa.specs.LetterAutomaton.{states};
 ghost use Rattle.rela_letter_nfa.specs.Runs.{Accepts};
 ghost use Rattle.rela_trans.specs.Machine.{machine_states};
-ghost use Rattle.rela_trans.specs.Stored.{kind_of, move_of};
 ghost use Rattle.rela_letter_source.specs.Growth.{AddsState, Fits, Grows};
 ghost use Rattle.rela_letter_source.specs.Product.{IsEnd};
 ghost use Rattle.rela_letter_source.specs.Sources.{IsSourceOf};
-ghost use Rattle.rela_letter_source.specs.Steps.{alone_by, alone_steps, edge_steps, read_by, read_steps, same_by, silent_steps, standing, step_if, step_to, steps_from, write_by};
+ghost use Rattle.rela_letter_source.specs.Steps.{after_read, alone_by, alone_steps, edge_steps, laid_out_steps, letter_steps, read_by, read_if, read_steps, read_to, silent_steps, step_if, step_to, steps_from, write_by};
 
 use crate::configuration::Configuration;
 use crate::growing::Growing;
-use crate::next::{Next, Reading, as_read, next_letter};
-use rela_labels::LabelSet;
+use crate::next::{Next, Reading, as_read, next_letter, written_after};
+use rela_labels::{LabelSet, WideSet};
+use rela_letter_image::{AloneMove, LetterMove, LetterRelation, SetMove, StateMoves};
 use rela_letter_nfa::{LetterEdge, LetterNfa};
 use rela_pairs::{BuildError, Shape};
-use rela_trans::{Move, MoveKind, Transducer};
 use std::alloc::Global;
-
-/// Adds an edge by the letter to the configuration, if it is to be added.
-fn add_edge_if(
-    growing: &mut Growing,
-    is_added: bool,
-    letter: u32,
-    to: Configuration,
-) -> Result<(), BuildError>
-    requires { Fits growing.old.shape to }
-    ensures { OnOk result (Grows (step_if is_added (step_to (Some letter) to))
-        growing.old growing.new) }
-{
-    if is_added {
-        return growing.add_edge(letter, to);
-    }
-    Ok(())
-}
 
 /// Adds a silent step to the configuration, if it is to be added.
 fn add_silent_if(growing: &mut Growing, is_added: bool, to: Configuration) -> Result<(), BuildError>
@@ -50,17 +33,16 @@ fn add_silent_if(growing: &mut Growing, is_added: bool, to: Configuration) -> Re
 
 /// Adds what is done by a move that reads nothing and writes a letter of the set: the next letter
 /// is written, if there is one and its coarse letter is in the set.
-fn add_written<M: LabelSet>(
+fn add_written(
     growing: &mut Growing,
-    set: &M,
+    set: &WideSet,
     next: Option<Next>,
     path: u32,
     machine: usize,
 ) -> Result<(), BuildError>
     requires left { path < growing.old.shape.lefts }
     requires right { machine < growing.old.shape.rights }
-    ensures { OnOk result (Grows (write_by next (M.letters set.now) path machine)
-        growing.old growing.new) }
+    ensures { OnOk result (Grows (write_by next set.now path machine) growing.old growing.new) }
 {
     let Some(next) = next else {
         return Ok(());
@@ -73,39 +55,38 @@ fn add_written<M: LabelSet>(
     add_silent_if(growing, set.contains(next.coarse), to)
 }
 
-/// Adds what the transducer does alone by the move: it reads nothing.
-fn add_alone<M: LabelSet>(
+/// Adds what the transducer does alone by the move.
+fn add_alone(
     growing: &mut Growing,
-    step: &Move<M>,
+    step: &AloneMove,
     x: Configuration,
     next: Option<Next>,
 ) -> Result<(), BuildError>
     requires left { x.path < growing.old.shape.lefts }
     requires right { step.now.to < growing.old.shape.rights }
-    ensures { OnOk result (Grows (alone_by next x (kind_of M.letters step.now.kind) step.now.to)
+    ensures { OnOk result (Grows (alone_by next x (writing step.now.written) step.now.to)
         growing.old growing.new) }
 {
-    match &step.kind {
-        MoveKind::Silent => growing.add_silent(Configuration {
+    match &step.written {
+        None => growing.add_silent(Configuration {
             path: x.path,
             machine: step.to,
             written: x.written,
         }),
-        MoveKind::Out(set) => add_written(growing, set, next, x.path, step.to),
-        MoveKind::In(_) | MoveKind::Same(_) => Ok(()),
+        Some(set) => add_written(growing, set, next, x.path, step.to),
     }
 }
 
 /// Adds what the transducer does alone by the moves.
-fn add_moves<M: LabelSet>(
+fn add_moves(
     growing: &mut Growing,
-    moves: &[Move<M>],
+    moves: &[AloneMove],
     x: Configuration,
     next: Option<Next>,
 ) -> Result<(), BuildError>
     requires left { x.path < growing.old.shape.lefts }
     requires rights { All (λ step. step.to < growing.old.shape.rights) moves.now }
-    ensures { OnOk result (Grows (alone_steps next x (map (move_of M.letters) moves.now))
+    ensures { OnOk result (Grows (alone_steps next x (map alone_move moves.now))
         growing.old growing.new) }
 {
     for step in moves {
@@ -114,103 +95,149 @@ fn add_moves<M: LabelSet>(
     Ok(())
 }
 
-/// Adds what both do by the edge and a move that reads a letter of the set and writes the same one:
-/// they go where it is the next letter.
-fn add_same<M: LabelSet>(
+/// Adds what both do by the edge and a move to this state, which reads the edge's letter. A move
+/// that writes it too can be taken where it is the letter that is to be written next.
+fn add_read(
     growing: &mut Growing,
-    reading: Reading,
-    set: &M,
+    edge: Reading,
+    writes: bool,
     machine: usize,
 ) -> Result<(), BuildError>
-    requires left { reading.edge.to < growing.old.shape.lefts }
+    requires left { edge.edge.to < growing.old.shape.lefts }
     requires right { machine < growing.old.shape.rights }
-    ensures { OnOk result (Grows (same_by reading.after reading (M.letters set.now) machine)
+    ensures { OnOk result (Grows (read_to (after_read edge writes) edge machine)
         growing.old growing.new) }
 {
-    let Some(after) = reading.after else {
+    let Some(written) = written_after(edge, writes) else {
         return Ok(());
     };
     let to = Configuration {
-        path: reading.edge.to,
+        path: edge.edge.to,
         machine,
-        written: after,
+        written,
     };
-    add_edge_if(
-        growing,
-        set.contains(reading.coarse),
-        reading.edge.letter,
-        to,
-    )
+    growing.add_edge(edge.edge.letter, to)
 }
 
-/// Adds what both do by the edge and the move, where the move reads the edge's letter.
-fn add_read<M: LabelSet>(
+/// Adds what both do by the edge and a move to this state, if the move reads the edge's letter.
+#[inline(always)]
+fn add_read_if(
     growing: &mut Growing,
-    reading: Reading,
-    step: &Move<M>,
+    is_read: bool,
+    edge: Reading,
+    writes: bool,
+    machine: usize,
 ) -> Result<(), BuildError>
-    requires left { reading.edge.to < growing.old.shape.lefts }
-    requires right { step.now.to < growing.old.shape.rights }
-    ensures { OnOk result (Grows (read_by reading (kind_of M.letters step.now.kind) step.now.to)
-        growing.old growing.new) }
+    requires left { edge.edge.to < growing.old.shape.lefts }
+    requires right { machine < growing.old.shape.rights }
+    ensures { OnOk result (Grows (read_if is_read edge writes machine) growing.old growing.new) }
 {
-    match &step.kind {
-        MoveKind::In(set) => {
-            let to = Configuration {
-                path: reading.edge.to,
-                machine: step.to,
-                written: reading.written,
-            };
-            add_edge_if(
-                growing,
-                set.contains(reading.coarse),
-                reading.edge.letter,
-                to,
-            )
-        }
-        MoveKind::Same(set) => add_same(growing, reading, set, step.to),
-        MoveKind::Silent | MoveKind::Out(_) => Ok(()),
-    }
-}
-
-/// Adds what both do by the edge and one of the moves.
-fn add_edge_moves<M: LabelSet>(
-    growing: &mut Growing,
-    reading: Reading,
-    moves: &[Move<M>],
-) -> Result<(), BuildError>
-    requires left { reading.edge.to < growing.old.shape.lefts }
-    requires rights { All (λ step. step.to < growing.old.shape.rights) moves.now }
-    ensures { OnOk result (Grows (read_steps reading (map (move_of M.letters) moves.now))
-        growing.old growing.new) }
-{
-    for step in moves {
-        add_read(growing, reading, step)?;
+    if is_read {
+        return add_read(growing, edge, writes, machine);
     }
     Ok(())
 }
 
+/// Adds what both do by the edge and the move, if the move's set has the coarse letter of the edge.
+fn add_by_set(growing: &mut Growing, edge: Reading, step: &SetMove) -> Result<(), BuildError>
+    requires left { edge.edge.to < growing.old.shape.lefts }
+    requires right { step.now.to < growing.old.shape.rights }
+    ensures { OnOk result (Grows (read_by edge (reading step.now.set step.now.writes) step.now.to)
+        growing.old growing.new) }
+{
+    let is_read = step.set.contains(edge.coarse);
+    add_read_if(growing, is_read, edge, step.writes, step.to)
+}
+
+/// Adds what both do by the edge and one of the moves.
+fn add_by_sets(growing: &mut Growing, edge: Reading, moves: &[SetMove]) -> Result<(), BuildError>
+    requires left { edge.edge.to < growing.old.shape.lefts }
+    requires rights { All (λ step. step.to < growing.old.shape.rights) moves.now }
+    ensures { OnOk result (Grows (read_steps edge (map set_move moves.now))
+        growing.old growing.new) }
+{
+    for step in moves {
+        add_by_set(growing, edge, step)?;
+    }
+    Ok(())
+}
+
+/// Adds what both do by the edge and one of the moves, each of which reads one letter.
+fn add_by_letters(
+    growing: &mut Growing,
+    edge: Reading,
+    moves: &[LetterMove],
+) -> Result<(), BuildError>
+    requires left { edge.edge.to < growing.old.shape.lefts }
+    requires rights { All (λ step. step.to < growing.old.shape.rights) moves.now }
+    ensures { OnOk result (Grows (letter_steps edge moves.now) growing.old growing.new) }
+{
+    for step in moves {
+        let is_read = step.letter == edge.coarse;
+        add_read_if(growing, is_read, edge, step.writes, step.to)?;
+    }
+    Ok(())
+}
+
+/// Adds what both do by the edge and one of the state's moves.
+fn add_edge_moves(
+    growing: &mut Growing,
+    edge: Reading,
+    moves: &StateMoves,
+) -> Result<(), BuildError>
+    requires left { edge.edge.to < growing.old.shape.lefts }
+    requires rights { LeadBelow growing.old.shape.rights moves.now }
+    ensures { OnOk result (Grows (laid_out_steps edge moves.now) growing.old growing.new) }
+{
+    add_by_sets(growing, edge, &moves.by_set)?;
+    add_by_letters(growing, edge, &moves.by_letter)
+}
+
 /// Adds what both do by one of the edges and one of the moves, of a transducer with this number of
 /// letters, where so many letters have been written.
-fn add_edges<M: LabelSet>(
+fn add_edges(
     growing: &mut Growing,
     edges: &[LetterEdge],
     letters: u32,
     coarse: &[u32],
     next: Option<Next>,
     written: usize,
-    moves: &[Move<M>],
+    moves: &StateMoves,
 ) -> Result<(), BuildError>
     requires lefts { All (λ edge. edge.to < growing.old.shape.lefts) edges.now }
-    requires rights { All (λ step. step.to < growing.old.shape.rights) moves.now }
+    requires rights { LeadBelow growing.old.shape.rights moves.now }
+    requires below { AreLettersOf letters moves.now }
     ensures { OnOk result (Grows (edge_steps letters coarse.now next written
-        (map (move_of M.letters) moves.now) edges.now) growing.old growing.new) }
+        (all_moves letters moves.now) edges.now) growing.old growing.new) }
 {
     for edge in edges {
-        let reading = as_read(letters, coarse, next, written, *edge);
-        add_edge_moves(growing, reading, moves)?;
+        let edge = as_read(letters, coarse, next, written, *edge);
+        add_edge_moves(growing, edge, moves)?;
     }
     Ok(())
+}
+
+/// Adds what both do by one of the edges and one of the moves, as by [`add_edges`]. Where no move
+/// reads, no edge is looked at.
+fn add_reads(
+    growing: &mut Growing,
+    edges: &[LetterEdge],
+    letters: u32,
+    coarse: &[u32],
+    next: Option<Next>,
+    written: usize,
+    moves: &StateMoves,
+) -> Result<(), BuildError>
+    requires lefts { All (λ edge. edge.to < growing.old.shape.lefts) edges.now }
+    requires rights { LeadBelow growing.old.shape.rights moves.now }
+    requires below { AreLettersOf letters moves.now }
+    ensures { OnOk result (Grows (edge_steps letters coarse.now next written
+        (all_moves letters moves.now) edges.now) growing.old growing.new) }
+{
+    if moves.by_set.is_empty() && moves.by_letter.is_empty() {
+        return Ok(());
+    }
+    add_edges(growing, edges, letters, coarse, next, written, moves)
 }
 
 /// Adds the states to which the automaton goes silently, while the transducer stays.
@@ -229,12 +256,12 @@ fn add_silents(growing: &mut Growing, ends: &[u32], x: Configuration) -> Result<
     Ok(())
 }
 
-/// Adds what the two do from the configuration. Time: the product of the numbers of edges and moves
-/// that leave its two states.
-fn add_steps<M: LabelSet>(
+/// Adds what the two do from the configuration. Time: the product of the numbers of edges and of
+/// moves that read, and a step for each move that reads nothing.
+fn add_steps(
     growing: &mut Growing,
     paths: &LetterNfa,
-    relation: &Transducer<M>,
+    relation: &LetterRelation,
     coarse: &[u32],
     word: &[u32],
     x: Configuration,
@@ -250,8 +277,8 @@ fn add_steps<M: LabelSet>(
     let next = next_letter(letters, coarse, word, x.written);
     let moves = relation.moves(x.machine);
     add_silents(growing, paths.silent(x.path), x)?;
-    add_moves(growing, moves, x, next)?;
-    add_edges(
+    add_moves(growing, &moves.alone, x, next)?;
+    add_reads(
         growing,
         paths.edges(x.path),
         letters,
@@ -263,12 +290,7 @@ fn add_steps<M: LabelSet>(
 }
 
 /// Whether both states are final, and all letters of the word have been written.
-fn is_end<M: LabelSet>(
-    paths: &LetterNfa,
-    relation: &Transducer<M>,
-    word: &[u32],
-    x: Configuration,
-) -> bool
+fn is_end(paths: &LetterNfa, relation: &LetterRelation, word: &[u32], x: Configuration) -> bool
     requires left { x.path < states paths.now }
     requires right { x.machine < machine_states relation.now }
     ensures { IsTrue result ↔ IsEnd paths.now relation.now word.now x }
@@ -277,10 +299,10 @@ fn is_end<M: LabelSet>(
 }
 
 /// Builds the state of the configuration: what the two do from it, and whether it is an end.
-fn add_state<M: LabelSet>(
+fn add_state(
     growing: &mut Growing,
     paths: &LetterNfa,
-    relation: &Transducer<M>,
+    relation: &LetterRelation,
     coarse: &[u32],
     word: &[u32],
     x: Configuration,
@@ -308,10 +330,10 @@ fn add_state<M: LabelSet>(
 /// - `Limit` where it would have more than `most` states, or more than `most` edges and silent
 ///   steps.
 /// - `Memory` where there isn't memory for it.
-pub(crate) fn sources<M: LabelSet>(
+pub(crate) fn sources(
     alloc: Global,
     paths: &LetterNfa,
-    relation: &Transducer<M>,
+    relation: &LetterRelation,
     coarse: &[u32],
     word: &[u32],
     most: usize,

@@ -10,7 +10,7 @@ use Rattle.rela_letter_source.proofs.SourceWords.{first_of_sources, none_of_sour
 use Rattle.rela_letter_source.proofs.source.source_within.Goals as goal
 
 pub returns-clause-first : goal.returns-clause-first
-returns-clause-first g c =
+returns-clause-first c =
     let a = c.in_ok-sources.sources in
     let b = c.in_ok-nothing.nothing in
     let t = c.args.relation.now in
@@ -20,7 +20,7 @@ returns-clause-first g c =
     first_of_sources (Accepts a) (Accepts b) (IsSourceOf (coarse_of t.letters c.args.coarse.now) c.args.paths.now t c.args.word.now) word c.in_ok-sources.ensures c.in_ok-nothing.ensures first
 
 pub returns-in_default-clause-none : goal.returns-in_default-clause-none
-returns-in_default-clause-none g c =
+returns-in_default-clause-none c =
     let a = c.in_ok-sources.sources in
     let b = c.in_ok-nothing.nothing in
     let t = c.args.relation.now in

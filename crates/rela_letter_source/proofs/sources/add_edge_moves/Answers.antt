@@ -1,13 +1,17 @@
-use Rattle.std.proofs.Common.{sym}
-use Rattle.rela_trans.specs.Stored.{move_of}
-use Rattle.rela_letter_source.specs.Steps.{read_by}
-use Rattle.rela_letter_source.proofs.GrownSteps.{grows_none, grows_more}
+use Rattle.std.proofs.Common.{◌++◌, map, subst}
+use Rattle.std.proofs.lemmas.Result.{on_ok_weaker}
+use Rattle.rela_letter_image.specs.LetterMoves.{set_move}
+use Rattle.rela_letter_source.specs.Growth.{Grows}
+use Rattle.rela_letter_source.specs.Steps.{letter_steps, read_steps}
+use Rattle.rela_letter_source.proofs.GrownSteps.{grows_both}
 use Rattle.rela_letter_source.proofs.sources.add_edge_moves.Goals as goal
 
-pub loop-step-init : goal.loop-step-init
-loop-step-init g c = grows_none c.args.growing.now
-
-pub loop-step-preserved : goal.loop-step-preserved
-loop-step-preserved g c =
-    grows_more c.args.moves.now c.loop-step.step-index c.step-item.result c.loop-step-test.true (sym c.step-item.is) c.args.growing.now c.loop-step.growing c.add_read.new.growing
-    (move_of g.M.LabelSet.letters) (λ m. read_by c.args.reading m.kind m.to) c.loop-step.invariant c.in_ok-add_read.ensures
+pub returns : goal.returns
+returns c =
+    let edge = c.args.edge in
+    let by_set = c.deref.result.now in
+    let by_letter = c.deref-2.result.now in
+    on_ok_weaker c.add_by_letters.result
+    (λ grows. subst (λ l. Grows l c.args.growing.now c.add_by_letters.new.growing)
+    (λ i. read_steps edge (map set_move (c.deref.ensures.value i)) ++ letter_steps edge (c.deref-2.ensures.value i))
+    (grows_both (read_steps edge (map set_move by_set)) (letter_steps edge by_letter) c.args.growing.now c.add_by_sets.new.growing c.add_by_letters.new.growing c.in_ok-add_by_sets.ensures grows)) c.add_by_letters.ensures

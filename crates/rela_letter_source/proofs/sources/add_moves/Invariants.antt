@@ -1,8 +1,8 @@
 use Rattle.std.proofs.Common.{map, take}
-use Rattle.rela_trans.specs.Stored.{move_of}
+use Rattle.rela_letter_image.specs.LetterMoves.{alone_move}
 use Rattle.rela_letter_source.specs.Growth.{Grows}
 use Rattle.rela_letter_source.specs.Steps.{alone_steps}
 use Rattle.rela_letter_source.proofs.sources.add_moves.Given as goal
 
 abbrev pub invariant-loop-step : goal.invariant-loop-step
-invariant-loop-step g l = Grows (alone_steps l.next l.x (map (move_of g.M.LabelSet.letters) (take l.step-index l.moves))) l.fn.growing l.growing
+invariant-loop-step l = Grows (alone_steps l.next l.x (map alone_move (take l.step-index l.moves))) l.fn.growing l.growing

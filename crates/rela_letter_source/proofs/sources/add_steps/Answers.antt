@@ -1,13 +1,22 @@
-use Rattle.std.proofs.Common.{map}
+use Rattle.std.proofs.Common.{◌∙◌, ap, map, subst}
 use Rattle.std.proofs.lemmas.Result.{on_ok_weaker}
-use Rattle.rela_trans.specs.Stored.{move_of}
+use Rattle.rela_letter_image.specs.LetterMoves.{all_moves, alone_move}
+use Rattle.rela_letter_source.specs.Growth.{Grows}
+use Rattle.rela_letter_source.specs.Steps.{alone_steps}
 use Rattle.rela_letter_source.proofs.GrownSteps.{grows_steps}
+use Rattle.rela_letter_source.proofs.LaidOut.{alone_all}
 use Rattle.rela_letter_source.proofs.sources.add_steps.Goals as goal
 
 pub returns : goal.returns
-returns g c =
-    on_ok_weaker c.add_edges.result
+returns c =
+    let letters = c.letters-letters.result in
+    let next = c.next_letter-next.result in
+    let x = c.args.x in
+    let state = c.moves-moves.result.now in
+    let alone = subst (λ l. Grows l c.add_silents.new.growing c.add_moves.new.growing)
+    (ap (λ l. alone_steps next x (map alone_move l)) c.deref.ensures.value ∙ alone_all next x letters state) c.in_ok-add_moves.ensures in
+    let moves_are = ap (λ n. all_moves n state) c.letters-letters.ensures.letters ∙ c.moves-moves.ensures.moves in
+    on_ok_weaker c.add_reads.result
     (λ reads.
-    grows_steps c.args.coarse.now c.args.word.now c.args.paths.now c.args.relation.now c.args.x c.letters-letters.result c.next_letter-next.result c.silent.result.now
-    (map (move_of g.M.LabelSet.letters) c.moves-moves.result.now) c.edges.result.now c.silent.ensures.silent c.moves-moves.ensures.moves c.edges.ensures.edges c.letters-letters.ensures.letters
-    c.next_letter-next.ensures c.args.growing.now c.add_silents.new.growing c.add_moves.new.growing c.add_edges.new.growing c.in_ok-add_silents.ensures c.in_ok-add_moves.ensures reads) c.add_edges.ensures
+    grows_steps c.args.coarse.now c.args.word.now c.args.paths.now c.args.relation.now x letters next c.silent.result.now (all_moves letters state) c.edges.result.now c.silent.ensures.silent moves_are c.edges.ensures.edges
+    c.letters-letters.ensures.letters c.next_letter-next.ensures c.args.growing.now c.add_silents.new.growing c.add_moves.new.growing c.add_reads.new.growing c.in_ok-add_silents.ensures alone reads) c.add_reads.ensures

@@ -16,7 +16,7 @@ one_read : (found read : List Configuration) (n m : ℕ) (none : Configuration) 
 one_read found read n m none same is below = slice_get-get_or found n none below ∙ (λ i. Some (get_or (sym same i) (sym is i) none))
 
 pub queue-preserved : goal.queue-preserved
-queue-preserved g c =
+queue-preserved c =
     let grown = c.queue.growing in
     let n = length grown.parts.finals in
     let none : Configuration = standing 0 0 0 in
@@ -26,13 +26,13 @@ queue-preserved g c =
     built_more c.args.coarse.now c.args.word.now c.args.paths.now c.args.relation.now grown c.add_state.new.growing x c.queue.invariant at c.in_ok-add_state.ensures
 
 pub finish-requires-clause-automaton : goal.finish-requires-clause-automaton
-finish-requires-clause-automaton g c =
+finish-requires-clause-automaton c =
     let grown = c.queue.growing in
     let done : length grown.found ≤ length grown.parts.finals = omega (arith, c.states-in-queue.ensures, c.queue-test.false, ap (λ (l : List Configuration). length l) c.found.ensures.found) in
     all_ok c.args.coarse.now c.args.word.now c.args.paths.now c.args.relation.now grown c.queue.invariant done
 
 pub returns : goal.returns
-returns g c =
+returns c =
     let grown = c.queue.growing in
     let coarse = c.args.coarse.now in
     let word = c.args.word.now in

@@ -3,7 +3,7 @@ use Rattle.rela_letter_source.proofs.BuiltStates.{AreBuilt}
 use Rattle.rela_letter_source.proofs.sources.sources.Given as goal
 
 abbrev pub invariant-queue : goal.invariant-queue
-invariant-queue g l = AreBuilt l.coarse l.word l.paths l.relation l.growing
+invariant-queue l = AreBuilt l.coarse l.word l.paths l.relation l.growing
 
 abbrev pub decreases-queue : goal.decreases-queue
-decreases-queue g l = 2 ^ 31 - length l.growing.parts.finals
+decreases-queue l = 2 ^ 31 - length l.growing.parts.finals

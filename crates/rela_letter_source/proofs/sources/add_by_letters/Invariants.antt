@@ -1,0 +1,7 @@
+use Rattle.std.proofs.Common.{take}
+use Rattle.rela_letter_source.specs.Growth.{Grows}
+use Rattle.rela_letter_source.specs.Steps.{letter_steps}
+use Rattle.rela_letter_source.proofs.sources.add_by_letters.Given as goal
+
+abbrev pub invariant-loop-step : goal.invariant-loop-step
+invariant-loop-step l = Grows (letter_steps l.edge (take l.step-index l.moves)) l.fn.growing l.growing

@@ -1,0 +1,13 @@
+use Rattle.std.proofs.Common.{sym}
+use Rattle.rela_letter_image.specs.LetterMoves.{set_move}
+use Rattle.rela_letter_source.specs.Steps.{read_by}
+use Rattle.rela_letter_source.proofs.GrownSteps.{grows_none, grows_more}
+use Rattle.rela_letter_source.proofs.sources.add_by_sets.Goals as goal
+
+pub loop-step-init : goal.loop-step-init
+loop-step-init c = grows_none c.args.growing.now
+
+pub loop-step-preserved : goal.loop-step-preserved
+loop-step-preserved c =
+    grows_more c.args.moves.now c.loop-step.step-index c.step-item.result c.loop-step-test.true (sym c.step-item.is) c.args.growing.now c.loop-step.growing c.add_by_set.new.growing
+    set_move (λ m. read_by c.args.edge m.kind m.to) c.loop-step.invariant c.in_ok-add_by_set.ensures
