@@ -81,7 +81,7 @@ pub(crate) fn follow<'a>(
     visited.clear();
     let rest = insert_ends(edges, letter, visited)?;
     close(both, visited)?;
-    visited.sort();
+    visited.sort()?;
     Ok(rest)
 }
 

@@ -75,7 +75,7 @@ fn search_from_starts(
 {
     both.insert_starts(visited)?;
     close(both, visited)?;
-    visited.sort();
+    visited.sort()?;
     let _ = sets.insert(alloc, visited.states())?;
     if both.is_sought(sought, visited.states()) {
         return Ok(true);

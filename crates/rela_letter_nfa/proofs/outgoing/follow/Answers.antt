@@ -17,4 +17,4 @@ returns-clause-next c =
     lists_same (Contains now) (NextBy u edges c.args.letter) c.sort.new.self.states
     (next_by u edges c.args.letter ends now
     (adds_all (HasEnd edges c.args.letter) ends (subst (λ l. Adds (HasEnd edges c.args.letter) l ends) c.clear.ensures.none c.in_ok-rest.ensures.adds)) c.in_ok-close.ensures.closed)
-    c.sort.ensures.sorted
+    c.in_ok-sort.ensures.sorted

@@ -12,7 +12,7 @@ returns-then-is_sought-clause-found c = λ _.
     let set = c.sort.new.self.states in
     let is : Lists (LeadsFrom (joined pair) (starts_of pair) []) set =
     start_reached (joined pair) (starts_of pair) c.args.visited.now.states c.insert_starts.new.visited.states c.close.new.visited.states set c.requires.none c.in_ok-insert_starts.ensures.adds
-    c.in_ok-close.ensures.closed c.sort.ensures.sorted in
+    c.in_ok-close.ensures.closed c.in_ok-sort.ensures.sorted in
     begun_found c.args.sought pair c.args.sets.now c.insert.new.self c.args.arrivals.now.items set c.states.result.now c.in_ok-insert.field-0 c.in_ok-insert.ensures c.requires.no_sets
     c.states.ensures.states c.requires.no_arrivals is (subst (IsSoughtSet c.args.sought pair) c.states-2.ensures.states (c.is_sought.ensures.0 c.if-is_sought.true))
 
@@ -22,7 +22,7 @@ returns-in_err-within-clause-limit c =
     let set = c.sort.new.self.states in
     let is : Lists (LeadsFrom (joined pair) (starts_of pair) []) set =
     start_reached (joined pair) (starts_of pair) c.args.visited.now.states c.insert_starts.new.visited.states c.close.new.visited.states set c.requires.none c.in_ok-insert_starts.ensures.adds
-    c.in_ok-close.ensures.closed c.sort.ensures.sorted in
+    c.in_ok-close.ensures.closed c.in_ok-sort.ensures.sorted in
     let e = err_from_is_err_and c.from_residual-in_err-within.result c.from_residual-in_err-within.ensures.1 in
     rw (e.1, e.2) (λ _. record {
       searched = (
@@ -44,7 +44,7 @@ search_on-requires-clause-searched c =
     let set = c.sort.new.self.states in
     let is : Lists (LeadsFrom (joined pair) (starts_of pair) []) set =
     start_reached (joined pair) (starts_of pair) c.args.visited.now.states c.insert_starts.new.visited.states c.close.new.visited.states set c.requires.none c.in_ok-insert_starts.ensures.adds
-    c.in_ok-close.ensures.closed c.sort.ensures.sorted in
+    c.in_ok-close.ensures.closed c.in_ok-sort.ensures.sorted in
     begun c.args.sought pair c.args.sets.now c.insert.new.self c.args.arrivals.now.items set c.states.result.now c.in_ok-insert.field-0 c.in_ok-insert.ensures c.requires.no_sets
     c.states.ensures.states c.requires.no_arrivals is
 
