@@ -348,3 +348,19 @@ none_in set none = false_from_ne_true (list_any (λ c. c) set) (λ any. let foun
 pub some_in : (set : List Bool) → (((k : ℕ) → has set k ≡ false) → ⊥) → list_any (λ c. c) set ≡ true
 some_in set some =
     true_from_ne_false (list_any (λ c. c) set) (λ none. some (λ k. false_from_ne_true (has set k) (λ here. false≢true (sym none ∙ any_letter set k here))))
+
+-- ---- whether two sets have a letter in common
+
+has_common_each : (s t : List Bool) (k : ℕ) → has (common s t) k ≡ (has s k && has t k)
+has_common_each s t k = elim (cases_lt k (length s)) [
+  | inl below ↦ has-common s t k below
+  | inr past ↦
+      get_or_past (common s t) k false (omega (arith, past, length-map-range_with_len (λ j. has s j && has t j) 0 (length s)))
+      ∙ sym (ap (λ v. v && has t k) (get_or_past s k false past))
+]
+
+pub none_common : (s t : List Bool) → ((k : ℕ) → (has s k && has t k) ≡ false) → list_any (λ c. c) (common s t) ≡ false
+none_common s t none = none_in (common s t) (λ k. has_common_each s t k ∙ none k)
+
+pub some_common : (s t : List Bool) → (((k : ℕ) → (has s k && has t k) ≡ false) → ⊥) → list_any (λ c. c) (common s t) ≡ true
+some_common s t some = some_in (common s t) (λ none. some (λ k. sym (has_common_each s t k) ∙ none k))

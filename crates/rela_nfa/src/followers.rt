@@ -37,18 +37,17 @@ impl<'a, L: LabelSet> Successors for Meeting<'a, L> {
 
     fn add_next(
         &self,
-        alloc: Global,
+        _alloc: Global,
         pair: Pair,
         followers: &mut Vec<Pair>,
     ) -> Result<(), AllocError> {
-        add_followers(alloc, followers, self.first, self.second, pair)
+        add_followers(followers, self.first, self.second, pair)
     }
 }
 
 /// Adds the pairs to which the two automata go together from a pair of their states: first where
 /// the first goes silently, then where the second does, and then where both go by a letter.
 fn add_followers<L: LabelSet>(
-    alloc: Global,
     followers: &mut Vec<Pair>,
     first: &Nfa<L>,
     second: &Nfa<L>,
@@ -67,7 +66,7 @@ fn add_followers<L: LabelSet>(
     add_left(followers, left, pair.right)?;
     add_right(followers, right, pair.left)?;
     for edge in left {
-        add_with(alloc, followers, edge, right)?;
+        add_with(followers, edge, right)?;
     }
     Ok(())
 }
@@ -127,7 +126,6 @@ fn add_right<L: LabelSet>(
 
 /// Adds the pair to which the two edges lead, where they have a letter in common.
 fn add_together<L: LabelSet>(
-    alloc: Global,
     followers: &mut Vec<Pair>,
     first: &Edge<L>,
     second: &Edge<L>,
@@ -139,7 +137,7 @@ fn add_together<L: LabelSet>(
         (move_of L.letters second.now).label (pair_of first.now.to second.now.to))) }
 {
     if let (Some(s), Some(t)) = (&first.label, &second.label) {
-        if !s.meet(alloc, t)?.is_empty() {
+        if !s.is_disjoint(t) {
             followers.push(Pair {
                 left: first.to,
                 right: second.to,
@@ -151,7 +149,6 @@ fn add_together<L: LabelSet>(
 
 /// Adds the pairs to which the edge leads together with each of the others.
 fn add_with<L: LabelSet>(
-    alloc: Global,
     followers: &mut Vec<Pair>,
     first: &Edge<L>,
     others: &[Edge<L>],
@@ -164,7 +161,7 @@ fn add_with<L: LabelSet>(
         (map (move_of L.letters) others.now))) }
 {
     for second in others {
-        add_together(alloc, followers, first, second)?;
+        add_together(followers, first, second)?;
     }
     Ok(())
 }

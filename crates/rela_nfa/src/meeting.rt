@@ -30,9 +30,8 @@ fn add_shared<L: LabelSet>(
         targets.now) }
 {
     if let (Some(s), Some(t)) = (&first.label, &second.label) {
-        let common = s.meet(alloc, t)?;
-        if !common.is_empty() {
-            add_directed(edges, Some(common), targets)?;
+        if !s.is_disjoint(t) {
+            add_directed(edges, Some(s.meet(alloc, t)?), targets)?;
         }
     }
     Ok(())
