@@ -5,7 +5,7 @@ ghost use Rattle.rela_lex.specs.declared.error.SpecError.TheVariants.{Memory};
 ghost use Rattle.rela_rirfile.specs.Depth.{deepest};
 ghost use Rattle.rela_rirfile.specs.ReadTrees.{read_tree, read_one_tree, read_two_trees};
 
-use crate::parsing::pairs::{boxed, paired};
+use crate::parsing::pairs::{closed_box, closed_boxes, paired};
 use crate::parsing::sets::two_sets;
 use crate::written::AssertExpr;
 use rela_lex::SpecError;
@@ -59,8 +59,7 @@ fn one_tree(alloc: Global, cursor: &mut Cursor, room: usize) -> Result<Boxed<Ass
 {
     let inner = cursor.open(b'(', room)?;
     let part = tree(alloc, cursor, inner)?;
-    let part = cursor.closed(part, b')')?;
-    Ok(Boxed::new(alloc, part)?)
+    closed_box(alloc, cursor, part)
 }
 
 /// What is asserted, twice, in brackets, where `room` more may be opened.
@@ -84,6 +83,5 @@ fn two_trees(
     let first = cursor.closed(first, b',')?;
     let second = tree(alloc, cursor, inner);
     let both = paired(first, second)?;
-    let both = cursor.closed(both, b')')?;
-    Ok(boxed(alloc, both)?)
+    closed_boxes(alloc, cursor, both)
 }

@@ -6,7 +6,7 @@ ghost use Rattle.rela_rirfile.specs.Depth.{set_depth, rel_depth};
 ghost use Rattle.rela_rirfile.specs.ReadTrees.{read_plain, read_set, read_rel, read_one_set, read_two_sets, read_set_and_rel, read_one_rel, read_two_rels};
 
 use crate::parsing::members::member;
-use crate::parsing::pairs::{boxed, paired};
+use crate::parsing::pairs::{closed_box, closed_boxes, paired};
 use crate::written::{PathExpr, RelExpr};
 use rela_lex::SpecError;
 use rela_names::Boxed;
@@ -128,8 +128,7 @@ fn one_set(alloc: Global, cursor: &mut Cursor, room: usize) -> Result<Boxed<Path
 {
     let inner = cursor.open(b'(', room)?;
     let part = set(alloc, cursor, inner)?;
-    let part = cursor.closed(part, b')')?;
-    Ok(Boxed::new(alloc, part)?)
+    closed_box(alloc, cursor, part)
 }
 
 /// Two sets, in brackets, where `room` more may be opened.
@@ -153,8 +152,7 @@ pub(crate) fn two_sets(
     let first = cursor.closed(first, b',')?;
     let second = set(alloc, cursor, inner);
     let both = paired(first, second)?;
-    let both = cursor.closed(both, b')')?;
-    Ok(boxed(alloc, both)?)
+    closed_boxes(alloc, cursor, both)
 }
 
 /// A set and a relation, in brackets, where `room` more may be opened.
@@ -178,8 +176,7 @@ fn set_and_rel(
     let first = cursor.closed(first, b',')?;
     let second = rel(alloc, cursor, inner);
     let both = paired(first, second)?;
-    let both = cursor.closed(both, b')')?;
-    Ok(boxed(alloc, both)?)
+    closed_boxes(alloc, cursor, both)
 }
 
 /// A relation, in brackets, where `room` more may be opened.
@@ -196,8 +193,7 @@ fn one_rel(alloc: Global, cursor: &mut Cursor, room: usize) -> Result<Boxed<RelE
 {
     let inner = cursor.open(b'(', room)?;
     let part = rel(alloc, cursor, inner)?;
-    let part = cursor.closed(part, b')')?;
-    Ok(Boxed::new(alloc, part)?)
+    closed_box(alloc, cursor, part)
 }
 
 /// Two relations, in brackets, where `room` more may be opened.
@@ -221,6 +217,5 @@ fn two_rels(
     let first = cursor.closed(first, b',')?;
     let second = rel(alloc, cursor, inner);
     let both = paired(first, second)?;
-    let both = cursor.closed(both, b')')?;
-    Ok(boxed(alloc, both)?)
+    closed_boxes(alloc, cursor, both)
 }
