@@ -12,19 +12,19 @@ use Rattle.rela_labels.specs.declared.wide_members.Members.TheVariants.{Nothing,
 abbrev pub holds : Members → ℕ → Bool
 holds Nothing k = false
 holds (One letter) k = letter == k
-holds (Many words) k = bit_of words.items k
+holds (Many words) k = bit_of words k
 
 -- each letter is below the size, and words are as many as the size takes
 abbrev pub IsHeld : ℕ → Members → Type 0
 IsHeld size Nothing = size < 2 ^ 32
 IsHeld size (One letter) = (letter < size) × (size < 2 ^ 32)
-IsHeld size (Many words) = IsWide size words.items
+IsHeld size (Many words) = IsWide size words
 
 -- words are few, so that each bit is a letter
 abbrev pub AreFew : Members → Type 0
 AreFew Nothing = Unit {0}
 AreFew (One letter) = Unit {0}
-AreFew (Many words) = length words.items ≤ 2 ^ 26
+AreFew (Many words) = length words ≤ 2 ^ 26
 
 -- where both are words, they are as many
 abbrev pub HaveOneSize : Members → Members → Type 0
@@ -32,7 +32,7 @@ HaveOneSize Nothing other = Unit {0}
 HaveOneSize (One letter) other = Unit {0}
 HaveOneSize (Many words) Nothing = Unit {0}
 HaveOneSize (Many words) (One letter) = Unit {0}
-HaveOneSize (Many words) (Many others) = length words.items ≡ length others.items
+HaveOneSize (Many words) (Many others) = length words ≡ length others
 
 -- whether the letter is there: in a word, whether its bit is 1
 abbrev pub has_letter : Letters → ℕ → Bool

@@ -5,6 +5,7 @@
 mod ascending;
 mod base;
 mod block_set;
+mod boxed_words;
 mod label_set;
 mod letters;
 mod numbering;

@@ -3,6 +3,7 @@ ghost use Rattle.std.specs.Prelude.{◌≡◌, ◌≢◌, ℕ, ◌^◌, ◌<◌,
 ghost use Rattle.rela_labels.specs.WideSets.{holds, AreFew, HaveOneSize, IsHeld};
 ghost use Rattle.rela_labels.specs.Words.{bit_of, IsWide};
 
+use crate::boxed_words::BoxedWords;
 use crate::words::{
     disjoint_words, has_bit, is_only_bit, join_words, least_bit, meet_words, minus_words, only_bit,
     same_words, set_bit,
@@ -18,7 +19,7 @@ pub(crate) enum Members {
     /// This letter alone.
     One(u32),
     /// The letters whose bits are 1: letter `k` is bit `k % 64` of word `k / 64`.
-    Many(Vec<u64>),
+    Many(BoxedWords),
 }
 
 impl Members {
@@ -29,7 +30,7 @@ impl Members {
         match self {
             Members::Nothing => false,
             Members::One(one) => *one == letter,
-            Members::Many(words) => has_bit(words, letter),
+            Members::Many(words) => has_bit(words.as_slice(), letter),
         }
     }
 
@@ -42,7 +43,7 @@ impl Members {
         match self {
             Members::Nothing => Ok(Members::Nothing),
             Members::One(letter) => Ok(Members::One(*letter)),
-            Members::Many(words) => Ok(Members::Many(Vec::from_slice(alloc, words)?)),
+            Members::Many(words) => many(alloc, Vec::from_slice(alloc, words.as_slice())?),
         }
     }
 
@@ -55,7 +56,7 @@ impl Members {
         match self {
             Members::Nothing => no_bits(alloc, size),
             Members::One(letter) => one_bit(alloc, size, *letter),
-            Members::Many(words) => Vec::from_slice(alloc, words),
+            Members::Many(words) => Vec::from_slice(alloc, words.as_slice()),
         }
     }
 
@@ -69,7 +70,7 @@ impl Members {
         ensures unchanged { IfErr result (λ _. self.new ≡ self.old) }
     {
         if let Members::Many(words) = self {
-            set_bit(words, letter);
+            words.set_bit(letter);
             return Ok(());
         }
         *self = self.with(alloc, size, letter)?;
@@ -92,7 +93,7 @@ impl Members {
         }
         let mut words = self.words(alloc, size)?;
         set_bit(&mut words, letter);
-        Ok(Members::Many(words))
+        many(alloc, words)
     }
 
     /// The letters that are in both.
@@ -113,11 +114,11 @@ impl Members {
             Members::One(letter) => Ok(one_if(*letter, other.contains(*letter))),
             Members::Many(words) => match other {
                 Members::Nothing => Ok(Members::Nothing),
-                Members::One(letter) => Ok(one_if(*letter, has_bit(words, *letter))),
+                Members::One(letter) => Ok(one_if(*letter, self.contains(*letter))),
                 Members::Many(others) => {
-                    let mut both = Vec::from_slice(alloc, words)?;
-                    meet_words(&mut both, others);
-                    Ok(Members::Many(both))
+                    let mut both = Vec::from_slice(alloc, words.as_slice())?;
+                    meet_words(&mut both, others.as_slice());
+                    many(alloc, both)
                 }
             },
         }
@@ -141,8 +142,8 @@ impl Members {
             Members::One(letter) => self.with(alloc, size, *letter),
             Members::Many(others) => {
                 let mut all = self.words(alloc, size)?;
-                join_words(&mut all, others);
-                Ok(Members::Many(all))
+                join_words(&mut all, others.as_slice());
+                many(alloc, all)
             }
         }
     }
@@ -164,10 +165,10 @@ impl Members {
             Members::Nothing => Ok(Members::Nothing),
             Members::One(letter) => Ok(one_if(*letter, !other.contains(*letter))),
             Members::Many(words) => {
-                let mut left = Vec::from_slice(alloc, words)?;
+                let mut left = Vec::from_slice(alloc, words.as_slice())?;
                 let others = other.words(alloc, size)?;
                 minus_words(&mut left, &others);
-                Ok(Members::Many(left))
+                many(alloc, left)
             }
         }
     }
@@ -191,8 +192,8 @@ impl Members {
             Members::One(letter) => !other.contains(*letter),
             Members::Many(words) => match other {
                 Members::Nothing => true,
-                Members::One(letter) => !has_bit(words, *letter),
-                Members::Many(others) => disjoint_words(words, others),
+                Members::One(letter) => !self.contains(*letter),
+                Members::Many(others) => disjoint_words(words.as_slice(), others.as_slice()),
             },
         }
     }
@@ -207,7 +208,7 @@ impl Members {
         match self {
             Members::Nothing => None,
             Members::One(letter) => Some(*letter),
-            Members::Many(words) => least_bit(words),
+            Members::Many(words) => least_bit(words.as_slice()),
         }
     }
 
@@ -221,7 +222,7 @@ impl Members {
         match self {
             Members::Nothing => None,
             Members::One(letter) => Some(*letter),
-            Members::Many(words) => only_bit(words),
+            Members::Many(words) => only_bit(words.as_slice()),
         }
     }
 
@@ -238,7 +239,7 @@ impl Members {
             Members::Many(words) => match other {
                 Members::Nothing => self.is_empty(),
                 Members::One(letter) => self.is_only(*letter),
-                Members::Many(others) => same_words(words, others),
+                Members::Many(others) => same_words(words.as_slice(), others.as_slice()),
             },
         }
     }
@@ -250,9 +251,18 @@ impl Members {
         match self {
             Members::Nothing => false,
             Members::One(one) => *one == letter,
-            Members::Many(words) => is_only_bit(words, letter),
+            Members::Many(words) => is_only_bit(words.as_slice(), letter),
         }
     }
+}
+
+/// The letters whose bits are 1.
+fn many(alloc: Global, words: Vec<u64>) -> Result<Members, AllocError>
+    ensures held { IfOk result (λ members. (size : ℕ) →
+        IsWide size words.items → IsHeld size members) }
+    ensures each { IfOk result (λ members. (k : ℕ) → holds members k ≡ bit_of words.items k) }
+{
+    Ok(Members::Many(BoxedWords::new(alloc, words)?))
 }
 
 /// This letter alone where `is_there` says so, and else none.

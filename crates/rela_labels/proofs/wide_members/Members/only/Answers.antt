@@ -9,5 +9,5 @@ returns-in-Nothing-clause-other c = none_alone (holds c.args.self.now) (λ k. ap
 
 pub returns-in-Many-clause-other : goal.returns-in-Many-clause-other
 returns-in-Many-clause-other c =
-    none_alone_as (holds c.args.self.now) (bit_of c.deref.result.now) c.only_bit.result
-    (λ k. ap (λ m. holds m k) c.in-Many.is ∙ ap (λ words. bit_of words k) (sym c.deref.ensures.value)) c.only_bit.ensures.other
+    none_alone_as (holds c.args.self.now) (bit_of c.as_slice.result.now) c.only_bit.result
+    (λ k. ap (λ m. holds m k) c.in-Many.is ∙ ap (λ words. bit_of words k) (sym c.as_slice.ensures)) c.only_bit.ensures.other

@@ -5,6 +5,6 @@ use Rattle.rela_labels.proofs.wide_members.Members.same.Goals as goal
 
 pub returns-in-Many-other : goal.returns-in-Many-other
 returns-in-Many-other c =
-    same_words_of c.args.self.now c.args.other.now c.in-Many.words.items c.in-Many-other.others.items _ _ c.same_words.result
-    (λ k. ap (λ m. holds m k) c.in-Many.is) (λ k. ap (λ m. holds m k) c.in-Many-other.is) c.deref.ensures.value c.deref-in-Many-other.ensures.value
+    same_words_of c.args.self.now c.args.other.now c.in-Many.words c.in-Many-other.others _ _ c.same_words.result
+    (λ k. ap (λ m. holds m k) c.in-Many.is) (λ k. ap (λ m. holds m k) c.in-Many-other.is) c.as_slice.ensures c.as_slice-in-Many-other.ensures
     c.same_words.ensures
