@@ -2,7 +2,7 @@
 ghost use Rattle.std.specs.Prelude.{◌≡◌, ℕ, ◌<◌, ◌↔◌, false, [], ◌∷◌, IfOk, IsTrue, length, map, slice_index_or};
 ghost use Rattle.std.specs.List.{All};
 ghost use Rattle.rela_closed.specs.Listing.{TellAllFinals, TellsFinals};
-ghost use Rattle.rela_closed.specs.Sets.{AreMet, HasFinal};
+ghost use Rattle.rela_closed.specs.Sets.{AreDistinct, AreMet, HasFinal};
 
 use crate::table::Table;
 use rela_labels::LabelSet;
@@ -53,8 +53,8 @@ fn finals_at<L: LabelSet>(
     Ok(flags)
 }
 
-/// For all sets of the table whether the one of the automaton, which is the `n`-th, has a final
-/// state.
+/// For all sets of the table, which differ, whether the one of the automaton, which is the `n`-th, has a
+/// final state.
 pub(crate) fn finals_of<L: LabelSet>(
     alloc: Global,
     a: &Nfa<L>,
@@ -63,6 +63,7 @@ pub(crate) fn finals_of<L: LabelSet>(
 ) -> Result<Vec<bool>, AllocError>
     requires some { All (λ sets. n < length sets) table.now }
     requires met { All (λ sets. AreMet (a.now ∷ []) (slice_index_or sets n [] ∷ [])) table.now }
+    ensures distinct { AreDistinct table.now }
     ensures each { IfOk result (λ flags. length flags.items ≡ length table.now) }
     ensures final_states { IfOk result (λ flags. (i : ℕ) → i < length table.now →
         IsTrue (slice_index_or flags.items i false)

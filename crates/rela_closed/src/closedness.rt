@@ -59,7 +59,7 @@ fn is_followed<'a, L: LabelSet>(
         if !blocks.has_left(letter) {
             continue;
         }
-        let _block = blocks.take(alloc, letter)?;
+        blocks.take(alloc, letter)?;
         if follower(alloc, reader, table, number, letter)?.is_none() {
             return Ok(false);
         }

@@ -3,7 +3,7 @@ ghost use Rattle.std.specs.Prelude.{◌≡◌, ℕ, ◌<◌, ◌↔◌, false, [
 ghost use Rattle.std.specs.List.{All};
 ghost use Rattle.rela_build.specs.Complement.{IsComplement, TellsAll};
 ghost use Rattle.rela_closed.specs.Closed.{IsClosed};
-ghost use Rattle.rela_closed.specs.Sets.{AreMet, HasFinal};
+ghost use Rattle.rela_closed.specs.Sets.{AreDistinct, AreMet, HasFinal};
 ghost use Rattle.rela_closed.specs.Words.{AreOrdered, words_of};
 
 use crate::acceptance::finals_of;
@@ -46,22 +46,48 @@ pub fn complement<L: LabelSet>(
     let automata = [a];
     let mut reader = Reader::new(alloc, &automata)?;
     let mut table = Table::new(alloc);
-    number_words(alloc, &mut reader, steps, &mut table)?;
-    let Some(edges) = transitions(alloc, &mut reader, over, &mut table)? else {
+    complement_by(alloc, a, &mut reader, over, steps, &mut table)
+}
+
+/// What [`complement`] makes, by a reader of the automaton, and with a table without any sets yet.
+fn complement_by<'a, L: LabelSet>(
+    alloc: Global,
+    a: &Nfa<L>,
+    reader: &mut Reader<'a, L>,
+    over: &L,
+    steps: &[Step],
+    table: &mut Table,
+) -> Result<Option<Nfa<L>>, AllocError>
+    requires letters { length (L.letters over.now) ≡ a.now.letters }
+    requires reads { reader.old ≡ a.now ∷ [] }
+    requires ordered { AreOrdered steps.now }
+    requires empty { table.old ≡ [] }
+    ensures complement { IfOk result (λ found. IfSome found (λ nfa.
+        IsComplement a.now (L.letters over.now) nfa)) }
+    ensures told { IfOk result (λ found. IfSome found (λ nfa. TellsAll a.now nfa)) }
+    ensures closed { IfOk result (λ found. IfSome found (λ _.
+        IsClosed (L.letters over.now) (a.now ∷ []) (words_of steps.now))) }
+    ensures open_list { IfOk result (λ found. IfNone found
+        (¬ IsClosed (L.letters over.now) (a.now ∷ []) (words_of steps.now))) }
+{
+    number_words(alloc, reader, steps, table)?;
+    let Some(edges) = transitions(alloc, reader, over, table)? else {
         return Ok(None);
     };
-    let finals = refused_of(alloc, a, &table)?;
+    let finals = refused_of(alloc, a, table)?;
     let nfa = Nfa::from_parts(alloc, a.letters(), 0, &finals, edges)?;
     Ok(Some(nfa))
 }
 
-/// For all sets of the table, which are of this automaton alone, whether no state of them is final.
+/// For all sets of the table, which are of this automaton alone and differ, whether no state of them is
+/// final.
 fn refused_of<L: LabelSet>(
     alloc: Global,
     a: &Nfa<L>,
     table: &Table,
 ) -> Result<Vec<bool>, AllocError>
     requires { All (AreMet (a.now ∷ [])) table.now }
+    ensures distinct { AreDistinct table.now }
     ensures each { IfOk result (λ flags. length flags.items ≡ length table.now) }
     ensures refused { IfOk result (λ flags. (i : ℕ) → i < length table.now →
         IsTrue (slice_index_or flags.items i false)

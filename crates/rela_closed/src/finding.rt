@@ -107,7 +107,7 @@ fn leave<'a, L: LabelSet>(
         if !blocks.has_left(letter) {
             continue;
         }
-        let _block = blocks.take(alloc, letter)?;
+        blocks.take(alloc, letter)?;
         let known = table.len();
         let next = reader.next(alloc, table.get(number), letter)?;
         if table.number(next)? < known {

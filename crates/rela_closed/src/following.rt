@@ -1,5 +1,5 @@
 //! Which automata accept the words of a list that is closed for them.
-ghost use Rattle.std.specs.Prelude.{IfNone, IfOk, IfSome, map};
+ghost use Rattle.std.specs.Prelude.{◌≡◌, [], IfNone, IfOk, IfSome, map};
 ghost use Rattle.rela_closed.specs.Closed.{AreAccepted, IsClosed};
 ghost use Rattle.rela_closed.specs.Words.{AreOrdered, words_of};
 
@@ -14,7 +14,7 @@ use rela_nfa::Nfa;
 use std::alloc::{AllocError, Global};
 
 /// What is known of a closed list of words.
-#[derive(Debug, Drop)]
+#[derive(Drop)]
 pub struct Followed {
     /// For each automaton and each listed word whether the automaton accepts the word.
     pub accepted: Vec<Vec<bool>>,
@@ -50,10 +50,33 @@ pub fn follow<L: LabelSet>(
 {
     let mut reader = Reader::new(alloc, automata)?;
     let mut table = Table::new(alloc);
-    let numbers = number_words(alloc, &mut reader, steps, &mut table)?;
-    if !is_closed(alloc, &mut reader, over, &mut table)? {
+    follow_by(alloc, automata, &mut reader, over, steps, &mut table)
+}
+
+/// What [`follow`] tells, by a reader of the automata, and with a table without any sets yet.
+fn follow_by<'a, L: LabelSet>(
+    alloc: Global,
+    automata: &[&Nfa<L>],
+    reader: &mut Reader<'a, L>,
+    over: &L,
+    steps: &[Step],
+    table: &mut Table,
+) -> Result<Option<Followed>, AllocError>
+    requires reads { reader.old ≡ map (λ a. a.now) automata.now }
+    requires ordered { AreOrdered steps.now }
+    requires empty { table.old ≡ [] }
+    ensures closed { IfOk result (λ found. IfSome found (λ _.
+        IsClosed (L.letters over.now) (map (λ a. a.now) automata.now) (words_of steps.now))) }
+    ensures accepted { IfOk result (λ found. IfSome found (λ followed.
+        AreAccepted (map (λ a. a.now) automata.now) (words_of steps.now)
+        (map (λ flags. flags.items) followed.accepted.items))) }
+    ensures open_list { IfOk result (λ found. IfNone found
+        (¬ IsClosed (L.letters over.now) (map (λ a. a.now) automata.now) (words_of steps.now))) }
+{
+    let numbers = number_words(alloc, reader, steps, table)?;
+    if !is_closed(alloc, reader, over, table)? {
         return Ok(None);
     }
-    let accepted = accepting(alloc, automata, &table, &numbers)?;
+    let accepted = accepting(alloc, automata, table, &numbers)?;
     Ok(Some(Followed { accepted }))
 }

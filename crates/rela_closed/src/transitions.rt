@@ -67,10 +67,10 @@ fn edges_from<'a, L: LabelSet>(
         if !blocks.has_left(letter) {
             continue;
         }
-        let label = blocks.take(alloc, letter)?;
         let Some(to) = follower(alloc, reader, table, number, letter)? else {
             return Ok(None);
         };
+        let label = blocks.take(alloc, letter)?;
         bundle.put(alloc, label, to)?;
     }
     Ok(Some(bundle.into_edges()))

@@ -9,9 +9,9 @@ loop-letter-preserved g c =
     let over = g.L.LabelSet.letters c.args.over.now in
     let sets = get_or c.args.table.now c.args.number [] in
     let letter = c.loop-letter.letter in
-    let block = g.L.LabelSet.letters c.in_ok-_block._block in
-    let is = c.in_ok-_block.ensures.block in
-    let fewer = c.in_ok-_block.ensures.fewer in
+    let block = g.L.LabelSet.letters c.in_ok-take.field-0 in
+    let is = c.in_ok-take.ensures.block in
+    let fewer = c.in_ok-take.ensures.fewer in
     let (to, follows) =
     some_of c.in_ok-follower.field-0 (λ to. LeadsTo c.loop-letter.reader c.loop-letter.table (get_or c.loop-letter.table c.args.number []) letter to) c.if-is_none.ensures
     c.in_ok-follower.ensures.follows in

@@ -27,13 +27,12 @@ loop-letter-preserved-then-not-has_left g c =
 pub returns-in_default-clause-left : goal.returns-in_default-clause-left
 returns-in_default-clause-left g c =
     let letter = c.loop-letter.letter in
-    let is = c.in_ok-label.ensures.block in
     let out = rw c.in_default.is at c.in_ok-to.ensures.out in
     record {
       from = c.args.number;
       letter = letter;
       within = c.requires.number;
-      read = c.loop-letter.invariant.over letter (is.within letter is.member);
+      read = c.loop-letter.invariant.over letter (sym c.has_left.ensures ∙ c.if-not-has_left.false);
       out =
           subst (λ l. LeadsOut l c.args.table.now (get_or c.args.table.now c.args.number []) letter) c.loop-letter.invariant.same
           (subst (λ t. LeadsOut c.loop-letter.reader t (get_or t c.args.number []) letter) c.loop-letter.invariant.kept out);
