@@ -23,6 +23,9 @@ const LEAST_ROOM: usize = 32;
 /// The most pairs for which there is room at first.
 pub(crate) const MOST_ROOM: usize = 4096;
 
+/// Some free places, to be copied.
+const FREE_PLACES: [u32; 256] = [FREE; 256];
+
 /// Where among the places the number of a pair is looked for.
 #[derive(Clone, Copy)]
 enum Addressing {
@@ -77,7 +80,7 @@ impl Found {
         let room = pairs.clamp(LEAST_ROOM, MOST_ROOM);
         let pairs = Vec::with_capacity(alloc, room)?;
         let (addressing, count) = addressing_of(shape, room);
-        let places = vec![in alloc; FREE; count]?;
+        let places = free_places(alloc, count)?;
         Ok(Found {
             pairs,
             places,
@@ -168,6 +171,18 @@ fn addressing_of(shape: Shape, room: usize) -> (Addressing, usize)
         }
         _ => (Addressing::Hashed, (2 * room).next_power_of_two()),
     }
+}
+
+/// So many free places. Time: linear in their number, but many are copied at a time.
+fn free_places(alloc: Global, count: usize) -> Result<Vec<u32>, AllocError>
+    ensures { IfOk result (λ places. length places.items ≡ count) }
+{
+    let mut places = Vec::with_capacity(alloc, count)?;
+    for _ in 0..count / 256 {
+        places.extend_from_slice(&FREE_PLACES)?;
+    }
+    places.extend_from_slice(&FREE_PLACES[..count % 256])?;
+    Ok(places)
 }
 
 /// A hash of the pair.

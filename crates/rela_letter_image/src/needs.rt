@@ -45,7 +45,8 @@ pub(crate) fn with_letter(word: u64, letter: u32) -> u64
 
 /// Whether the letters are needed behind each of the moves too.
 fn alone_keep(moves: &[AloneMove], needs: &[u64], need: u64) -> bool
-    ensures { IsTrue result → All (λ step. IsWithin need (slice_index needs.now step.to)) moves.now }
+    ensures { IsTrue result →
+        All (λ step. IsWithin need (slice_index needs.now step.to)) moves.now }
 {
     for step in moves {
         if !is_within(need, word_at(needs, step.to)) {
@@ -57,7 +58,8 @@ fn alone_keep(moves: &[AloneMove], needs: &[u64], need: u64) -> bool
 
 /// Whether the letters are needed behind each of the moves too.
 fn sets_keep(moves: &[SetMove], needs: &[u64], need: u64) -> bool
-    ensures { IsTrue result → All (λ step. IsWithin need (slice_index needs.now step.to)) moves.now }
+    ensures { IsTrue result →
+        All (λ step. IsWithin need (slice_index needs.now step.to)) moves.now }
 {
     for step in moves {
         if !is_within(need, word_at(needs, step.to)) {
