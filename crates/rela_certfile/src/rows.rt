@@ -4,7 +4,7 @@ use rela_names::List;
 
 /// A word line of a block: the word `parent` of the block, followed by the symbol `symbol`. The
 /// words of a block are numbered from 0, which is the empty word, and each step adds the next.
-#[derive(Clone, Copy)]
+#[derive(Clone, Copy, PartialEq, Eq)]
 pub struct Step {
     /// The number of the word that is continued.
     pub parent: u32,
