@@ -243,6 +243,17 @@ image_alike parents paths t other image alike language v =
           (language v).1 (found.0, found.1, (alike.relation (coarse_of t.letters parents) found.0 v).1 (subst (λ by. Relates by other found.0 v) (sym same) found.2)),
     )
 
+-- the first source by it is the first source by the other
+pub source_alike : (parents : List ℕ) (paths : LetterAutomaton) (t other : Machine) (letters source : List ℕ) → RelateAlike t other
+    → First (IsSourceOf (coarse_of t.letters parents) paths t letters) source → First (IsSourceOf (coarse_of other.letters parents) paths other letters) source
+source_alike parents paths t other letters source alike first =
+    let by = coarse_of t.letters parents in
+    let same : by ≡ coarse_of other.letters parents = ap (λ n. coarse_of n parents) alike.letters in
+    record {
+      member = (first.member.0, subst (λ r. Relates r other source letters) same ((alike.relation by source letters).0 first.member.1));
+      least = λ u is. first.least u (is.0, (alike.relation by u letters).1 (subst (λ r. Relates r other u letters) (sym same) is.1));
+    }
+
 -- ---- what is told of a flow
 
 -- the same of a relation with the same pairs

@@ -96,7 +96,8 @@ fn row_over<L: LabelSet>(
     requires fits { L.fits (block_count case.now.blocks.now) }
     ensures row { IfOk result (IsRight case.now) }
     ensures letters { AreLettersOf case.now.alphabet.now case.now.pair.now letters.new }
-    ensures there { AreAt case.now.compiled.now.check.level letters.old → letters.new ≡ letters.old }
+    ensures there { AreAt case.now.compiled.now.check.level letters.old →
+        letters.new ≡ letters.old }
 {
     if let Some(row) = row_by_letters::<L>(alloc, case, maker, letters)? {
         return Ok(row);

@@ -51,7 +51,8 @@ pub(crate) fn row_by_letters<L: LabelSet>(
     requires fits { L.fits (block_count case.now.blocks.now) }
     ensures row { IfOk result (λ found. ForSome found (IsRight case.now)) }
     ensures letters { AreLettersOf case.now.alphabet.now case.now.pair.now letters.new }
-    ensures there { AreAt case.now.compiled.now.check.level letters.old → letters.new ≡ letters.old }
+    ensures there { AreAt case.now.compiled.now.check.level letters.old →
+        letters.new ≡ letters.old }
 {
     let level = case.compiled.level();
     letters.make_at(alloc, maker, case.pair, case.alphabet, level)?;
@@ -161,12 +162,12 @@ fn row_of_offence<L: LabelSet>(
     match offence.side {
         Side::Before => {
             let (graph, paths) = (&case.pair.before, &paths.before);
-            let relation = case.relations.before().small();
+            let relation = case.relations.before();
             row_with_source::<L>(alloc, case, graph, relation, paths, parents, offence)
         }
         Side::After => {
             let (graph, paths) = (&case.pair.after, &paths.after);
-            let relation = case.relations.after().small();
+            let relation = case.relations.after();
             row_with_source::<L>(alloc, case, graph, relation, paths, parents, offence)
         }
     }
@@ -179,26 +180,33 @@ fn row_with_source<L: LabelSet>(
     alloc: Global,
     case: &Case<'_, '_>,
     graph: &Graph,
-    relation: &Transducer<WideSet>,
+    relation: &Twofold,
     paths: &LetterNfa,
     parents: &[u32],
     offence: &Offence,
 ) -> Result<Row, AllocError>
-    requires side { IsSeenSide case.now graph.now relation.now offence.now.letters }
+    requires side { IsSeenSide case.now graph.now relation.now.small offence.now.letters }
     requires paths { IsReadOver case.now.blocks.now (paths_in case.now graph.now) paths.now }
     requires parents { AreParents case.now.compiled.now.blocks case.now.blocks.now parents.now }
     requires fits { L.fits (block_count case.now.blocks.now) }
     ensures { IfOk result (TellsFirst case.now.blocks.now (paths_in case.now graph.now)
-        (Relates (read_by case.now.compiled.now.blocks) relation.now) offence.now.letters
+        (Relates (read_by case.now.compiled.now.blocks) relation.now.small) offence.now.letters
         offence.now.side) }
 {
     // By what each compiled check keeps, its blocks are of its symbols; and a graph joins its nodes.
     let _ = case.compiled.blocks();
     let _ = graph.nodes();
     let letters = offence.letters.as_slice();
-    match first_source(alloc, paths, relation, parents, letters, MOST_STATES)? {
+    match first_source(
+        alloc,
+        paths,
+        relation.letters(),
+        parents,
+        letters,
+        MOST_STATES,
+    )? {
         Some(source) => row_of_letters(alloc, offence, source.as_slice(), case.blocks),
-        None => row_with_source_by_sets::<L>(alloc, case, graph, relation, offence),
+        None => row_with_source_by_sets::<L>(alloc, case, graph, relation.small(), offence),
     }
 }
 

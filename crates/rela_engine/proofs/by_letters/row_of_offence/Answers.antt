@@ -23,8 +23,8 @@ row_with_source-requires-clause-side g c =
     let is = c.requires.case in
     let letters = c.args.offence.now.letters in
     let flow = paths_of level names pair.before pair.after in
-    let t = c.small-relation.result.now in
-    let t_is = c.small-relation.ensures ∙ ap (λ (r : Twofold). r.small) c.before-in-Before.ensures in
+    let t = c.before-relation.result.now.small in
+    let t_is = ap (λ (r : Twofold). r.small) c.before-relation.ensures in
     record {
       alphabet = is.alphabet;
       placed = placed names level level (length names) pair.before refl refl is.located.0;
@@ -46,8 +46,8 @@ row_with_source-requires-in-After-clause-side g c =
     let is = c.requires.case in
     let letters = c.args.offence.now.letters in
     let flow = paths_of level names pair.before pair.after in
-    let t = c.small-relation-in-After.result.now in
-    let t_is = c.small-relation-in-After.ensures ∙ ap (λ (r : Twofold). r.small) c.after.ensures in
+    let t = c.after-relation.result.now.small in
+    let t_is = ap (λ (r : Twofold). r.small) c.after-relation.ensures in
     record {
       alphabet = is.alphabet;
       placed = placed names level level (length names) pair.after refl refl is.located.1;
@@ -65,14 +65,14 @@ returns-in-Before g c =
     let blocks = case.blocks.now in
     let flow = paths_of k.check.level case.alphabet.now case.pair.now.before case.pair.now.after in
     let letters = c.args.offence.now.letters in
-    let t = c.small-relation.result.now in
+    let t = c.before-relation.result.now.small in
     IfOk-weaker c.row_with_source.result (TellsFirst blocks flow.pre (Relates (read_by k.blocks) t) letters c.args.offence.now.side)
     (RowOf k.check (length case.alphabet.now) flow k.states)
     (λ row tells.
     subst (λ (n : ℕ). RowOf k.check n flow k.states row) (sym c.requires.case.alphabet)
     (side_row k case.relations.now c.requires.case.relations blocks flow side.Before letters
     (subst (λ (s : Side). IsFirstOffence k.check k.locations flow.pre flow.post blocks letters s) c.in-Before.is c.requires.offends)
-    t (c.small-relation.ensures ∙ ap (λ (r : Twofold). r.small) c.before-in-Before.ensures) row
+    t (ap (λ (r : Twofold). r.small) c.before-relation.ensures) row
     (subst (λ (s : Side). TellsFirst blocks flow.pre (Relates (read_by k.blocks) t) letters s row) c.in-Before.is tells)))
     c.row_with_source.ensures
 
@@ -83,13 +83,13 @@ returns-in-After g c =
     let blocks = case.blocks.now in
     let flow = paths_of k.check.level case.alphabet.now case.pair.now.before case.pair.now.after in
     let letters = c.args.offence.now.letters in
-    let t = c.small-relation-in-After.result.now in
+    let t = c.after-relation.result.now.small in
     IfOk-weaker c.row_with_source-in-After.result (TellsFirst blocks flow.post (Relates (read_by k.blocks) t) letters c.args.offence.now.side)
     (RowOf k.check (length case.alphabet.now) flow k.states)
     (λ row tells.
     subst (λ (n : ℕ). RowOf k.check n flow k.states row) (sym c.requires.case.alphabet)
     (side_row k case.relations.now c.requires.case.relations blocks flow side.After letters
     (subst (λ (s : Side). IsFirstOffence k.check k.locations flow.pre flow.post blocks letters s) c.in-After.is c.requires.offends)
-    t (c.small-relation-in-After.ensures ∙ ap (λ (r : Twofold). r.small) c.after.ensures) row
+    t (ap (λ (r : Twofold). r.small) c.after-relation.ensures) row
     (subst (λ (s : Side). TellsFirst blocks flow.post (Relates (read_by k.blocks) t) letters s row) c.in-After.is tells)))
     c.row_with_source-in-After.ensures
