@@ -78,6 +78,17 @@ impl<T: Drop> Lists<T> {
     }
 }
 
+impl Lists<u32> {
+    /// A copy of all lists. Time: linear in the items and the lists, but many are copied at a time.
+    pub(crate) fn copy(&self, alloc: Global) -> Result<Lists<u32>, AllocError>
+        ensures { IfOk result (λ copy. copy ≡ self.now) }
+    {
+        let items = Vec::from_slice(alloc, &self.items)?;
+        let places = Vec::from_slice(alloc, &self.places)?;
+        Ok(Lists { items, places })
+    }
+}
+
 /// The place of this number, and the next one.
 fn place_and_next(places: &[usize], number: usize) -> (usize, usize)
     requires { number + 1 < length places.now }

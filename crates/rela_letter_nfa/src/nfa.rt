@@ -1,10 +1,12 @@
 //! What an automaton is, and what it tells of itself.
-ghost use Rattle.std.specs.Prelude.{◌≡◌, ◌<◌, ◌≤◌, ◌^◌, ◌↔◌, IsTrue, length};
+ghost use Rattle.std.specs.Prelude.{◌≡◌, ◌<◌, ◌≤◌, ◌^◌, ◌↔◌, IfOk, IsTrue, length};
 ghost use Rattle.std.specs.List.{All};
-ghost use Rattle.rela_letter_nfa.specs.LetterAutomaton.{IsFinal, IsLetterAutomaton, edges_of, silents_of, states};
+ghost use Rattle.rela_letter_nfa.specs.LetterAutomaton.{AreEdgesOf, IsFinal, IsLetterAutomaton, edges_of, silents_of, states};
 
 use crate::edge::LetterEdge;
+use crate::edge_lists::EdgeLists;
 use crate::lists::Lists;
+use std::alloc::{AllocError, Global};
 use std::marker::Model;
 
 /// The greatest number of states.
@@ -88,5 +90,27 @@ impl LetterNfa {
         ensures automaton { IsLetterAutomaton self.now }
     {
         self.edges.list(q as usize)
+    }
+
+    /// The automaton of the same states and silent steps, with these edges. Time: linear in the states
+    /// and the silent steps, but many are copied at a time.
+    pub fn with_edges(&self, alloc: Global, edges: EdgeLists) -> Result<LetterNfa, AllocError>
+        requires each { length edges.0 ≡ states self.now }
+        requires lead { AreEdgesOf (states self.now) edges.0 }
+        ensures { IfOk result (λ made. made ≡ record {
+          start = self.now.start;
+          finals = self.now.finals;
+          silents = self.now.silents;
+          edges = edges.0;
+        }) }
+    {
+        let finals = Vec::from_slice(alloc, &self.finals)?;
+        let silents = self.silents.copy(alloc)?;
+        Ok(LetterNfa {
+            start: self.start,
+            finals,
+            silents,
+            edges: edges.lists,
+        })
     }
 }
