@@ -13,6 +13,7 @@ mod letter_moves;
 mod letter_relation;
 mod needs;
 mod product;
+mod reads;
 
 pub use imaging::letter_image;
 pub use letter_by_letter::by_letters;

@@ -3,7 +3,7 @@ use Rattle.rela_nfa.specs.Meeting.{pair_of}
 use Rattle.rela_letter_image.specs.LetterMoves.{set_move}
 use Rattle.rela_letter_image.specs.Steps.{read_by}
 use Rattle.rela_letter_image.proofs.GrownSteps.{grows_none, grows_more}
-use Rattle.rela_letter_image.proofs.product.add_by_sets.Goals as goal
+use Rattle.rela_letter_image.proofs.reads.add_by_sets.Goals as goal
 
 pub loop-step-init : goal.loop-step-init
 loop-step-init c = grows_none c.args.growing.now

@@ -4,7 +4,7 @@ use Rattle.rela_nfa.specs.Meeting.{pair_of}
 use Rattle.rela_letter_image.specs.Growth.{Grows}
 use Rattle.rela_letter_image.specs.Steps.{step_if, step_to, written_by}
 use Rattle.rela_letter_image.proofs.LaidOut.{read_is}
-use Rattle.rela_letter_image.proofs.product.add_by_set.Goals as goal
+use Rattle.rela_letter_image.proofs.reads.add_by_set.Goals as goal
 
 pub returns : goal.returns
 returns c =

@@ -5,7 +5,7 @@ use Rattle.rela_nfa.specs.Meeting.{pair_of}
 use Rattle.rela_letter_image.specs.Steps.{step_if, step_to, written_by}
 use Rattle.rela_letter_image.specs.declared.letter_moves.LetterMove.{LetterMove}
 use Rattle.rela_letter_image.proofs.GrownSteps.{grows_none, grows_flat_more}
-use Rattle.rela_letter_image.proofs.product.add_by_letters.Goals as goal
+use Rattle.rela_letter_image.proofs.reads.add_by_letters.Goals as goal
 
 pub loop-step-init : goal.loop-step-init
 loop-step-init c = grows_none c.args.growing.now

@@ -4,7 +4,7 @@ use Rattle.rela_letter_image.specs.Growth.{Grows}
 use Rattle.rela_letter_image.specs.LetterMoves.{set_move}
 use Rattle.rela_letter_image.specs.Steps.{letter_steps, read_steps}
 use Rattle.rela_letter_image.proofs.GrownSteps.{grows_both}
-use Rattle.rela_letter_image.proofs.product.add_edge_moves.Goals as goal
+use Rattle.rela_letter_image.proofs.reads.add_edge_moves.Goals as goal
 
 pub returns : goal.returns
 returns c =

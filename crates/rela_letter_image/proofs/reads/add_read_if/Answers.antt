@@ -2,7 +2,7 @@ use Rattle.std.proofs.Common.{sym, subst}
 use Rattle.rela_letter_image.specs.Growth.{Grows}
 use Rattle.rela_letter_image.specs.Steps.{step_if, step_to, written_by}
 use Rattle.rela_letter_image.proofs.GrownSteps.{grows_none}
-use Rattle.rela_letter_image.proofs.product.add_read_if.Goals as goal
+use Rattle.rela_letter_image.proofs.reads.add_read_if.Goals as goal
 
 pub returns : goal.returns
 returns c =
