@@ -96,8 +96,16 @@ impl<L: LabelSet> Nfa<L> {
         Ok(())
     }
 
+    /// How many silent edges to the exit there will be: one for each final state.
+    fn exits(&self, exit: Option<usize>) -> usize {
+        if exit.is_none() {
+            return 0;
+        }
+        self.finals.iter().filter(|is_final| **is_final).count()
+    }
+
     /// Adds the edges of each state, their ends `by` later, and for each that is final a silent edge
-    /// to the exit.
+    /// to the exit. Room is made once for all of them.
     pub(crate) fn copy_onto(
         &self,
         alloc: Global,
@@ -108,6 +116,8 @@ impl<L: LabelSet> Nfa<L> {
         requires { by + states self.now ≤ 2 ^ 64 }
         ensures { OnOk result (edges.new ≡ edges.old ++ copied self.now by exit) }
     {
+        let exits = self.exits(exit);
+        edges.reserve(self.states(), self.edges.edges.len().saturating_add(exits))?;
         let mut leaving = Vec::new(alloc);
         for q in 0..self.states() {
             self.add_leaving(alloc, &mut leaving, q, by, exit)?;

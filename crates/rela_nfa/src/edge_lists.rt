@@ -62,11 +62,21 @@ impl<L: LabelSet> EdgeLists<L> {
     ) -> Result<EdgeLists<L>, AllocError>
         ensures { IfOk result (λ flat. flat ≡ moves_in L.letters lists.items) }
     {
-        let mut flat = EdgeLists::with_capacity(alloc, lists.len())?;
+        let mut flat = EdgeLists::new(alloc);
+        flat.reserve(lists.len(), count_of(&lists))?;
         for mut edges in lists {
             flat.push(&mut edges)?;
         }
         Ok(flat)
+    }
+
+    /// Makes room for so many states and edges more.
+    pub(crate) fn reserve(&mut self, states: usize, edges: usize) -> Result<(), AllocError>
+        ensures { self.new ≡ self.old }
+    {
+        self.starts.reserve_exact(states)?;
+        self.edges.reserve_exact(edges)?;
+        Ok(())
     }
 
     /// How many states there are.
@@ -97,6 +107,15 @@ impl<L: LabelSet> EdgeLists<L> {
         self.edges.append(edges)?;
         Ok(())
     }
+}
+
+/// How many edges the lists have.
+fn count_of<L: LabelSet>(lists: &[Vec<Edge<L>>]) -> usize {
+    let mut count: usize = 0;
+    for edges in lists {
+        count = count.saturating_add(edges.len());
+    }
+    count
 }
 
 /// Where the edges of the state end: where those of the next begin, and those of the last at `all`.
