@@ -1,9 +1,9 @@
 -- Edges by one letter alone, in ascending order of it.
-use Rattle.std.proofs.Common.{◌≡◌, ◌≢◌, ℕ, ◌+◌, ◌-◌, ◌<◌, ◌≤◌, ◌⊎◌, ◌↔◌, Bool, true, false, List, [], ◌∷◌, ◌++◌, length, get_or, take, drop, refl, sym, ap, ◌∙◌, subst, inl, inr, arith, length-take, length-drop}
+use Rattle.std.proofs.Common.{◌≡◌, ◌≢◌, ℕ, ◌+◌, ◌-◌, ◌<◌, ◌≤◌, ◌⊎◌, ◌↔◌, ◌==◌, Bool, true, false, List, [], ◌∷◌, ◌++◌, length, get_or, take, drop, sym, ap, ◌∙◌, subst, inl, inr, arith, length-take, length-drop}
 use Rattle.std.specs.List.{Contains}
 use Rattle.std.specs.List.Sorted.{IsPartitionPoint}
-use Rattle.std.proofs.lemmas.Bool.{cases_lt, false≢true}
-use Rattle.std.proofs.lemmas.List.{append-nil, get_or-take, get_or-drop, get_or_default, same_lists, take_more, take_all}
+use Rattle.std.proofs.lemmas.Bool.{cases_lt, eq-eqb, eqb-true, false≢true}
+use Rattle.std.proofs.lemmas.List.{append-nil, get_or-take, get_or-drop, take_more, take_all}
 use Rattle.std.proofs.lemmas.List.Elements.{Contains-append_left, Contains-push, Contains-push_cases}
 use Rattle.rela_labels.specs.Letters.{has}
 use Rattle.rela_nfa.specs.StateSet.{Adds, Inserts}
@@ -90,25 +90,9 @@ letters_more edges i d set set' below before added others =
 pub letters_all : (edges : List LetterEdge) (i : ℕ) (set : List Bool) → length edges ≤ i → AreLetters (take i edges) set → AreLetters edges set
 letters_all edges i set all are = subst (λ es. AreLetters es set) (take_all i edges all) are
 
--- sets with the same letter alone
-pub alone_same : (x y : List Bool) (letter : ℕ) → length x ≡ length y → IsAlone x letter → IsAlone y letter → x ≡ y
-alone_same x y letter len x_alone y_alone =
-    same_lists x y len (λ k d below.
-    get_or_default x k d false below ∙ both (has x k) (has y k) (λ h. (y_alone k).1 ((x_alone k).0 h)) (λ h. (x_alone k).1 ((y_alone k).0 h))
-    ∙ sym (get_or_default y k d false (omega (arith, below, len))))
-  where
-    both : (a b : Bool) → (a ≡ true → b ≡ true) → (b ≡ true → a ≡ true) → a ≡ b
-    both true b f g = sym (f refl)
-    both false true f g = g refl
-    both false false f g = refl
-
--- a set whose least letter is not alone
-pub not_alone : (set single : List Bool) (least : ℕ) → length single ≡ length set → has set least ≡ true → IsAlone single least → (set ≢ single) → (letter : ℕ) → IsAlone set letter → ⊥
-not_alone set single least len member single_alone differ letter alone =
-    differ (alone_same set single least (sym len) (subst (IsAlone set) (sym ((alone least).0 member)) alone) single_alone)
-
-pub empty_not_alone : (set : List Bool) → ((k : ℕ) → has set k ≡ false) → (letter : ℕ) → IsAlone set letter → ⊥
-empty_not_alone set empty letter alone = false≢true (sym (empty letter) ∙ (alone letter).1 refl)
+-- the only letter of a set is alone
+pub only_alone : (set : List Bool) (only : ℕ) → ((k : ℕ) → has set k ≡ (only == k)) → IsAlone set only
+only_alone set only is k = (λ h. sym (eqb-true only k (sym (is k) ∙ h)), λ e. is k ∙ eq-eqb only k (sym e))
 
 -- the ends of the edges so far
 abbrev pub IsEnd : List LetterEdge → ℕ → Type 0

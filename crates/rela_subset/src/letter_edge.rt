@@ -1,5 +1,5 @@
 //! Edges by one letter alone.
-ghost use Rattle.std.specs.Prelude.{◌≡◌, ◌≢◌, ℕ, ◌<◌, ◌≤◌, ◌↔◌, ◌∷◌, List, Bool, true, IfOk, IfNone, IfSome, length};
+ghost use Rattle.std.specs.Prelude.{◌≡◌, ◌≢◌, ℕ, ◌<◌, ◌≤◌, ◌↔◌, ◌∷◌, List, Bool, true, IfOk, length};
 ghost use Rattle.std.specs.List.{All};
 ghost use Rattle.std.specs.List.Sorted.{IsNonDecreasingBy, IsPartitionPoint, IsPermutation};
 ghost use Rattle.rela_labels.specs.Letters.{has};
@@ -128,24 +128,4 @@ pub(crate) fn alone<L: LabelSet>(alloc: Global, size: u32, letter: u32) -> Resul
     let mut set = L::none(alloc, size)?;
     set.add(alloc, letter)?;
     Ok(set)
-}
-
-/// The letter of the label, if it has just one, and else `None`.
-pub(crate) fn only_letter<L: LabelSet>(alloc: Global, label: &L) -> Result<Option<u32>, AllocError>
-    ensures only { IfOk result (λ only. IfSome only (λ letter.
-        IsAlone (L.letters label.now) letter)) }
-    ensures below { IfOk result (λ only. IfSome only (λ letter. letter
-        < length (L.letters label.now))) }
-    ensures more { IfOk result (λ only. IfNone only ((letter : ℕ) →
-        ¬ IsAlone (L.letters label.now) letter)) }
-{
-    let Some(least) = label.least() else {
-        return Ok(None);
-    };
-    let single: L = alone(alloc, label.size(), least)?;
-    if label.same(&single) {
-        Ok(Some(least))
-    } else {
-        Ok(None)
-    }
 }

@@ -10,7 +10,7 @@ ghost use Rattle.rela_subset.specs.Sets.{NextFrom};
 ghost use Rattle.rela_subset.specs.Silent.{IsSilentAs};
 
 use crate::blocks::Blocks;
-use crate::letter_edge::{LetterEdge, edges_by, only_letter, sorted_by_letter};
+use crate::letter_edge::{LetterEdge, edges_by, sorted_by_letter};
 use rela_labels::LabelSet;
 use rela_nfa::{Edge, Nfa, StateSet};
 use std::alloc::{AllocError, Global};
@@ -76,13 +76,12 @@ impl<'a, L: LabelSet> Outgoing<'a, L> {
     {
         let singles = replace(&mut self.singles, Vec::new(alloc));
         let others = replace(&mut self.others, Vec::new(alloc));
-        *self = Outgoing::within(alloc, self.a, self.silent, set, singles, others)?;
+        *self = Outgoing::within(self.a, self.silent, set, singles, others)?;
         Ok(())
     }
 
     /// The edges out of the states of the set, in these vectors in place of what they have.
     fn within(
-        alloc: Global,
         a: &'a Nfa<L>,
         silent: &'a Nfa<L>,
         set: &[usize],
@@ -101,7 +100,7 @@ impl<'a, L: LabelSet> Outgoing<'a, L> {
         singles.clear();
         others.clear();
         for q in set {
-            sort_out(alloc, a.edges(*q), &mut singles, &mut others)?;
+            sort_out(a.edges(*q), &mut singles, &mut others)?;
         }
         let singles = sorted_by_letter(singles);
         Ok(Outgoing {
@@ -149,7 +148,6 @@ impl<'a, L: LabelSet> Outgoing<'a, L> {
 
 /// Puts the edges, but for the silent ones, behind those by one letter or behind the others.
 fn sort_out<'a, L: LabelSet>(
-    alloc: Global,
     edges: &'a [Edge<L>],
     singles: &mut Vec<LetterEdge>,
     others: &mut Vec<&'a Edge<L>>,
@@ -161,14 +159,13 @@ fn sort_out<'a, L: LabelSet>(
         move_of L.letters edge.now) others.new.items)) }
 {
     for edge in edges {
-        sort_out_one(alloc, edge, singles, others)?;
+        sort_out_one(edge, singles, others)?;
     }
     Ok(())
 }
 
 /// Puts the edge, unless it is silent, behind those by one letter or behind the others.
 fn sort_out_one<'a, L: LabelSet>(
-    alloc: Global,
     edge: &'a Edge<L>,
     singles: &mut Vec<LetterEdge>,
     others: &mut Vec<&'a Edge<L>>,
@@ -182,7 +179,7 @@ fn sort_out_one<'a, L: LabelSet>(
     let Some(label) = &edge.label else {
         return Ok(());
     };
-    match only_letter(alloc, label)? {
+    match label.only() {
         Some(letter) => singles.push(LetterEdge {
             letter,
             to: edge.to,
