@@ -13,7 +13,6 @@ use crate::numbered::{NumberedGroup, number_groups};
 use crate::plain::read_plain;
 use crate::tables::Tables;
 use crate::walk::read_network;
-use json::Scratch;
 use rela_json::{LoadError, read};
 use rela_names::{Alphabet, Level, Name, Symbol};
 use rela_tokens::Unread;
@@ -290,8 +289,7 @@ impl Locations {
 fn read_plainly(alloc: Global, bytes: &[u8]) -> Result<Locations, Unread>
     ensures { IfOk result (λ locations. Load bytes.now ≡ Ok locations) }
 {
-    let mut scratch = Scratch::new(alloc);
-    let (entries, seen) = read_plain(alloc, bytes, &mut scratch)?;
+    let (entries, seen) = read_plain(alloc, bytes)?;
     let alphabets = seen.into_alphabets(alloc)?;
     Ok(locations_of(alloc, alphabets, entries.as_slice())?)
 }

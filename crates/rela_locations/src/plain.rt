@@ -17,16 +17,14 @@ ghost use Rattle.rela_locations.specs.Plain.{ArePlainGroups, IsPlainGroup, Opens
 use crate::network::GroupEntry;
 use crate::plain_device::{add_name, read_devices};
 use crate::walk::Seen;
-use json::{Reader, Scratch};
 use rela_names::List;
 use rela_tokens::{
-    Unread, close_object, close_text, open_array, open_object, read_number, read_text, take_key,
-    what_holds,
+    Reader, Unread, close_object, close_text, open_array, open_object, read_number, read_text,
+    take_key, what_holds,
 };
 use std::alloc::Global;
 
-/// The groups of a plain file, and the names of all that is in them, where `scratch` has the names
-/// that are written with escapes. Time: O(n log n) in the file; space: linear in what it lists.
+/// The groups of a plain file, and the names of all that is in them. Time: O(n log n) in the file; space: linear in what it lists.
 ///
 /// # Errors
 ///
@@ -34,7 +32,6 @@ use std::alloc::Global;
 pub(crate) fn read_plain<'a>(
     alloc: Global,
     bytes: &'a [u8],
-    scratch: &'a mut Scratch,
 ) -> Result<(Vec<GroupEntry<'a>>, Seen), Unread>
     ensures network { IfOk result (λ r. Load bytes.now ≡ Ok r.0.items) }
     ensures groups { IfOk result (λ r. r.1.groups ≡ alphabet_of level.Group r.0.items) }
@@ -45,7 +42,7 @@ pub(crate) fn read_plain<'a>(
     let Ok(text) = std::str::from_utf8(bytes) else {
         return Err(Unread);
     };
-    let mut reader = Reader::new(text, scratch)?;
+    let mut reader = Reader::new(text);
     open_groups(&mut reader)?;
     let mut seen = Seen::new(alloc);
     let groups = read_groups(alloc, &mut seen, &mut reader)?;

@@ -12,9 +12,8 @@ ghost use Rattle.rela_locations.specs.Plain.{ArePlainDevices, IsPlainDevice, ent
 
 use crate::name_set::NameSet;
 use crate::network::{DeviceEntry, LentName};
-use json::Reader;
 use rela_names::{List, Name};
-use rela_tokens::{Member, Unread, find, read_members, what_holds};
+use rela_tokens::{Member, Reader, Unread, find, read_members, what_holds};
 use std::alloc::Global;
 
 /// Takes the rest of the array of a group's devices, behind its opening bracket. Their names go to

@@ -17,10 +17,10 @@ ghost use Rattle.rela_snapshot.specs.Steps.{IsAnswer};
 use crate::name_table::NameTable;
 use crate::plain_flow::flow_of;
 use crate::snapshot::{Flow, MAX_FLOWS};
-use json::{Reader, Scratch};
 use rela_locations::Locations;
 use rela_tokens::{
-    Unread, close_text, open_array, open_object, read_members, read_number, take_key, what_holds,
+    Reader, Unread, close_text, open_array, open_object, read_members, read_number, take_key,
+    what_holds,
 };
 use std::alloc::Global;
 
@@ -46,8 +46,7 @@ pub(crate) fn read_plain(
     let Ok(text) = std::str::from_utf8(bytes) else {
         return Err(Unread);
     };
-    let mut scratch = Scratch::new(alloc);
-    let mut reader = Reader::new(text, &mut scratch)?;
+    let mut reader = Reader::new(text);
     open_flows(&mut reader)?;
     let flows = read_flows(alloc, locations, &mut reader)?;
     close_text(&mut reader)?;

@@ -5,8 +5,7 @@
 //! routes whose members are pieces. What is read here is what the file stands for; what is not read
 //! is left to a reader that tells faults apart.
 
-ghost use Rattle.std.specs.Prelude.{◌≡◌, ◌≤◌, [], Ok, None, Some, IfOk, OnOk, length, map};
-ghost use Rattle.json.specs.Json.{read_key};
+ghost use Rattle.std.specs.Prelude.{◌≡◌, ◌≤◌, Ok, IfOk, OnOk, length, map};
 ghost use Rattle.rela_snapshot.specs.Steps.{IsAnswer};
 ghost use Rattle.rela_tables.specs.Load as spec;
 ghost use Rattle.rela_tables.specs.Located.{AreInterfaces, IsForwardingIn};
@@ -14,13 +13,15 @@ ghost use Rattle.rela_tables.specs.Plain.{Opens, OpensVersion};
 ghost use Rattle.rela_tables.specs.Starts.{starts_from};
 ghost use Rattle.rela_tokens.specs.Pieces.{text as text_of};
 
-use crate::plain_table::{close_object, open_array, read_tables, take_key};
+use crate::plain_table::read_tables;
 use crate::symbols::interface_named;
 use crate::tables::Tables;
-use json::{Reader, Scratch, Token};
 use rela_locations::Locations;
 use rela_names::{List, Symbol};
-use rela_tokens::{Unread, read_number, read_piece, what_holds};
+use rela_tokens::{
+    Reader, Unread, close_text, open_array, open_object, read_number, read_piece, take_key,
+    what_holds,
+};
 use std::alloc::Global;
 
 /// The greatest number of starts of a plain file.
@@ -44,11 +45,10 @@ pub(crate) fn read_plain(
     let Ok(text) = std::str::from_utf8(bytes) else {
         return Err(Unread);
     };
-    let mut scratch = Scratch::new(alloc);
-    let mut reader = Reader::new(text, &mut scratch)?;
+    let mut reader = Reader::new(text);
     let starts = open_tables(alloc, locations, &mut reader)?;
     let tables = read_tables(alloc, locations, &mut reader)?;
-    close_file(&mut reader)?;
+    close_text(&mut reader)?;
     Ok(Tables {
         starts: List::from_vec(starts),
         tables: List::from_vec(tables),
@@ -82,9 +82,7 @@ fn open_tables(
 fn open_version(reader: &mut Reader<'_>) -> Result<(), Unread>
     ensures { OnOk result (OpensVersion reader.old reader.new) }
 {
-    let Some(Token::BeginObject) = reader.next() else {
-        return Err(Unread);
-    };
+    open_object(reader)?;
     take_key(reader, "version")?;
     if read_number(reader)? != 1 {
         return Err(Unread);
@@ -107,15 +105,4 @@ fn starts_at(alloc: Global, locations: &Locations, names: &[&str]) -> Result<Vec
         row += 1;
     }
     Ok(starts)
-}
-
-/// Takes the end of a file, which is the brace that closes an object.
-fn close_file(reader: &mut Reader<'_>) -> Result<(), Unread>
-    ensures { OnOk result (read_key reader.old ≡ Some (None, [])) }
-{
-    close_object(reader)?;
-    if reader.next().is_some() {
-        return Err(Unread);
-    }
-    Ok(())
 }

@@ -17,11 +17,10 @@ ghost use Rattle.rela_tokens.specs.Pieces.{text as text_of};
 use crate::route::{MAX_ROUTES, Route, ipv4_prefix};
 use crate::symbols::interface_named;
 use indexmap::IndexSet;
-use json::Reader;
 use rela_flows::Ipv4Prefix;
 use rela_locations::Locations;
 use rela_names::{List, Symbol};
-use rela_tokens::{Member, Unread, find, read_members, what_holds};
+use rela_tokens::{Member, Reader, Unread, find, read_members, what_holds};
 use std::alloc::Global;
 
 /// Takes the rest of the array of a table's routes, behind its opening bracket. The first of them

@@ -1,10 +1,9 @@
 //! The tables of a file, read token by token.
 
-ghost use Rattle.std.specs.Prelude.{◌≡◌, ◌*◌, ◌<◌, ◌≤◌, [], ◌∷◌, ◌++◌, Ok, None, Some, IfOk, OnOk, false, length, nat_eq};
+ghost use Rattle.std.specs.Prelude.{◌≡◌, ◌*◌, ◌<◌, ◌≤◌, [], ◌∷◌, ◌++◌, Ok, IfOk, OnOk, false, length, nat_eq};
 ghost use Rattle.std.specs.List.{All, list_any};
 ghost use Rattle.indexmap.specs.IndexSet.{IsUnique};
-ghost use Rattle.json.specs.Json.{read_key};
-ghost use Rattle.json.specs.Token.{begin_array, key as key_token};
+ghost use Rattle.json.specs.Token.{begin_array};
 ghost use Rattle.rela_locations.specs.Network.{alphabet_of};
 ghost use Rattle.rela_names.specs.declared.level.Level.TheVariants.{Device};
 ghost use Rattle.rela_tables.specs.Distinct.{AreTables, IsTable};
@@ -16,10 +15,11 @@ use crate::plain_route::read_routes;
 use crate::symbols::device;
 use crate::table::{MAX_TABLES, Table};
 use indexmap::IndexSet;
-use json::{Reader, Token};
 use rela_locations::Locations;
 use rela_names::{List, Symbol};
-use rela_tokens::{Unread, read_text, what_holds};
+use rela_tokens::{
+    Reader, Unread, close_object, open_array, open_object, read_text, take_key, what_holds,
+};
 use std::alloc::Global;
 
 /// Takes the rest of the array of the tables, behind its opening bracket.
@@ -85,9 +85,7 @@ fn read_table(
 fn open_table<'a>(reader: &mut Reader<'a>) -> Result<&'a str, Unread>
     ensures { IfOk result (λ name. OpensTable reader.old name.now reader.new) }
 {
-    let Some(Token::BeginObject) = reader.next() else {
-        return Err(Unread);
-    };
+    open_object(reader)?;
     take_key(reader, "device")?;
     let name = read_text(reader)?;
     open_array(reader, "routes")?;
@@ -120,35 +118,4 @@ fn add_device(
         return Err(Unread);
     }
     Ok(found)
-}
-
-/// Takes the key of this name, and the bracket that opens an array.
-pub(crate) fn open_array(reader: &mut Reader<'_>, name: &str) -> Result<(), Unread>
-    ensures { OnOk result (reader.old ≡ key_token name.now ∷ begin_array ∷ reader.new) }
-{
-    take_key(reader, name)?;
-    match reader.next() {
-        Some(Token::BeginArray) => Ok(()),
-        _ => Err(Unread),
-    }
-}
-
-/// Takes the key of this name.
-pub(crate) fn take_key(reader: &mut Reader<'_>, name: &str) -> Result<(), Unread>
-    ensures { OnOk result (reader.old ≡ key_token name.now ∷ reader.new) }
-{
-    match reader.next() {
-        Some(Token::Key(key)) => { if key == name { Ok(()) } else { Err(Unread) } }
-        _ => Err(Unread),
-    }
-}
-
-/// Takes the brace that closes an object.
-pub(crate) fn close_object(reader: &mut Reader<'_>) -> Result<(), Unread>
-    ensures { OnOk result (read_key reader.old ≡ Some (None, reader.new)) }
-{
-    if reader.next_key()?.is_some() {
-        return Err(Unread);
-    }
-    Ok(())
 }

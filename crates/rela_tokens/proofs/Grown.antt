@@ -4,10 +4,12 @@ use Rattle.std.proofs.lemmas.List.{map-append}
 use Rattle.json.specs.Token.{Token}
 use Rattle.json.specs.Json.{after_end_array, read_key}
 use Rattle.json.proofs.Grammar.{read_key_is}
-use Rattle.serde_json.specs.Data.{Data, string, unsigned}
-use Rattle.serde_json.specs.Read.{number_of}
+use Rattle.serde_json.specs.Data.{Data, string}
 use Rattle.rela_tokens.specs.Holds.{Holds, HoldsAll, HoldsMembers}
 use Rattle.rela_tokens.specs.Pieces.{list, pair, whole}
+use Rattle.rela_tokens.specs.Reading.{Takes, TakesNumber}
+use Rattle.rela_tokens.specs.declared.reader.Token.{Token as Taken}
+use Rattle.rela_tokens.specs.declared.reader.Token.TheVariants.{Number}
 use Rattle.rela_tokens.proofs.Standing.{all_more, array_holds, deeper, members_more, number_holds, string_holds}
 
 -- ---- what a token that was taken shows
@@ -15,8 +17,11 @@ use Rattle.rela_tokens.proofs.Standing.{all_more, array_holds, deeper, members_m
 pub text_taken : (k : ℕ) (old new : List Token) (s : List ℕ) → old ≡ Token.string s ∷ new → Holds k old (string s) new
 text_taken k old new s is = subst (λ (ts : List Token). Holds k ts (string s) new) (sym is) (string_holds k s new)
 
-pub number_taken : (k : ℕ) (old new : List Token) (s : List ℕ) (m : ℕ) → old ≡ Token.number s ∷ new → number_of s ≡ Some (unsigned m) → Holds k old (whole m) new
-number_taken k old new s m is reads = subst (λ (ts : List Token). Holds k ts (whole m) new) (sym is) (number_holds k s m new reads)
+pub number_shown : (old new : List Token) (t : Taken) (n : ℕ) → t ≡ Number n → Takes old t new → TakesNumber old n new
+number_shown old new t n is h = subst (λ (x : Taken). Takes old x new) is h
+
+pub number_taken : (k : ℕ) (old new : List Token) (n : ℕ) → TakesNumber old n new → Holds k old (whole n) new
+number_taken k old new n t = subst (λ (ts : List Token). Holds k ts (whole n) new) (sym t.1) (number_holds k t.0 n new t.2)
 
 -- a value behind its first token, which was taken before
 pub behind : (k l : ℕ) (old mid new : List Token) (t : Token) (d : Data) → old ≡ t ∷ mid → k ≤ l → Holds k (t ∷ mid) d new → Holds l old d new
@@ -56,10 +61,6 @@ next_member {X} f k old mid first new xs ys x key is h one =
     subst (λ (ms : List (List ℕ × Data)). HoldsMembers k old ms new) (sym same) (members_more k old mid first new (map f xs) (f x) h (read_key_is mid (Some (f x).0) first key) one)
 
 -- ---- what a call answers, as what its caller answers
-
-pub number_passed : {E : Type 0} (k : ℕ) (old new : List Token) (s : List ℕ) (r : Result ℕ E) → old ≡ Token.number s ∷ new → IfOk r (λ n. number_of s ≡ Some (unsigned n)) → IfOk r (λ n. Holds k old (whole n) new)
-number_passed k old new s (Ok n) is h = number_taken k old new s n is h
-number_passed k old new s (Err e) is h = tt
 
 pub passed : {X E : Type 0} (f : X → Data) (k : ℕ) (old mid new : List Token) (t : Token) (r : Result X E) → old ≡ t ∷ mid → IfOk r (λ x. Holds k (t ∷ mid) (f x) new) → IfOk r (λ x. Holds k old (f x) new)
 passed f k old mid new t (Ok x) is h = subst (λ (ts : List Token). Holds k ts (f x) new) (sym is) h

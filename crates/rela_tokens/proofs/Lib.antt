@@ -1,5 +1,6 @@
 pub mod Found
 pub mod Grown
+pub mod Lexemes
 pub mod Standing
 mod Turns
 mod WholeNumbers

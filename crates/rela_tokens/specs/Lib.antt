@@ -4,3 +4,4 @@ pub use Rattle.serde_json.specs.Find
 pub mod Holds
 pub mod Objects
 pub mod Pieces
+pub mod Reading

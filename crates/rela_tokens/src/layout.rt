@@ -4,8 +4,8 @@ ghost use Rattle.std.specs.Prelude.{◌≡◌, [], ◌∷◌, None, Some, OnOk};
 ghost use Rattle.json.specs.Json.{read_key};
 ghost use Rattle.json.specs.Token.{begin_array, begin_object, key as key_token};
 
+use crate::reader::{Reader, Token};
 use crate::unread::Unread;
-use json::{Reader, Token};
 
 /// Takes the brace that opens an object. Time: constant.
 ///
@@ -73,8 +73,9 @@ pub fn close_text(reader: &mut Reader<'_>) -> Result<(), Unread>
     ensures brace { OnOk result (read_key reader.old ≡ Some (None, [])) }
 {
     close_object(reader)?;
-    if reader.next().is_some() {
-        return Err(Unread);
+    if reader.is_over() {
+        Ok(())
+    } else {
+        Err(Unread)
     }
-    Ok(())
 }

@@ -7,6 +7,8 @@ mod lists;
 mod members;
 mod number;
 mod piece;
+mod reader;
+mod scan;
 mod unread;
 
 pub use laws::what_holds;
@@ -15,4 +17,5 @@ pub use lists::read_text;
 pub use members::{find, read_members};
 pub use number::read_number;
 pub use piece::{Member, Piece, read_piece};
+pub use reader::{Reader, Token};
 pub use unread::Unread;

@@ -1,14 +1,17 @@
 //! Arrays of values of one kind, each read behind its first opening.
 
 ghost use Rattle.std.specs.Prelude.{◌∷◌, ◌<◌, IfOk, List, OnOk, length, map};
-ghost use Rattle.json.specs.Token.{Token as SpecToken, begin_array, number, string};
+ghost use Rattle.json.specs.Token.{Token as SpecToken, begin_array, string};
 ghost use Rattle.rela_tokens.specs.Holds.{Holds};
 ghost use Rattle.rela_tokens.specs.Pieces.{list, pair as pair_of, text as text_of, whole};
 
-use crate::number::{read_number, whole_number};
+use crate::number::read_number;
+use crate::reader::{Reader, Token};
 use crate::unread::Unread;
-use json::{Reader, Token};
 use std::alloc::Global;
+
+/// How many entries an array has room for before it grows.
+const ROOM: usize = 16;
 
 /// Takes the rest of an array of strings, behind the first of them.
 pub(crate) fn read_texts<'a>(
@@ -20,7 +23,7 @@ pub(crate) fn read_texts<'a>(
         (list (map text_of texts.items)) reader.new) }
     ensures shorter { OnOk result (length reader.new < length reader.old) }
 {
-    let mut texts = Vec::new(alloc);
+    let mut texts = Vec::with_capacity(alloc, ROOM)?;
     texts.push(first)?;
     'texts: while !reader.take_end_array() {
         let text = read_text(reader)?;
@@ -48,15 +51,15 @@ pub fn read_text<'a>(reader: &mut Reader<'a>) -> Result<&'a str, Unread>
 pub(crate) fn read_numbers(
     alloc: Global,
     reader: &mut Reader<'_>,
-    first: &str,
+    first: u32,
 ) -> Result<Vec<u32>, Unread>
-    ensures numbers { IfOk result (λ numbers. Holds 1 (begin_array ∷ number first.now ∷ reader.old)
-        (list (map whole numbers.items)) reader.new) }
+    ensures numbers { IfOk result (λ numbers. (start : List SpecToken) →
+        Holds 0 start (whole first) reader.old →
+        Holds 1 (begin_array ∷ start) (list (map whole numbers.items)) reader.new) }
     ensures shorter { OnOk result (length reader.new < length reader.old) }
 {
-    let mut numbers = Vec::new(alloc);
-    let head = whole_number(first)?;
-    numbers.push(head)?;
+    let mut numbers = Vec::with_capacity(alloc, ROOM)?;
+    numbers.push(first)?;
     'numbers: while !reader.take_end_array() {
         let next = read_number(reader)?;
         numbers.push(next)?;
@@ -86,7 +89,7 @@ fn read_more_pairs(
         Holds 2 (begin_array ∷ start) (list (map pair_of pairs.items)) reader.new) }
     ensures shorter { OnOk result (length reader.new < length reader.old) }
 {
-    let mut pairs = Vec::new(alloc);
+    let mut pairs = Vec::with_capacity(alloc, ROOM)?;
     pairs.push(first)?;
     'pairs: while !reader.take_end_array() {
         let next = read_pair(reader)?;

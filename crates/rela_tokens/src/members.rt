@@ -9,8 +9,8 @@ ghost use Rattle.rela_tokens.specs.Objects.{object_of, puts};
 ghost use Rattle.rela_tokens.specs.Pieces.{data_of, member_of};
 
 use crate::piece::{Member, Piece, read_piece};
+use crate::reader::{Reader, Token};
 use crate::unread::Unread;
-use json::{Reader, Token};
 use std::alloc::Global;
 
 /// Takes an object each of whose members is a piece, and gives them in order. Time and space:
@@ -30,6 +30,9 @@ pub fn read_members<'a>(alloc: Global, reader: &mut Reader<'a>) -> Result<Vec<Me
     }
 }
 
+/// How many members an object has room for before it grows.
+const ROOM: usize = 8;
+
 /// Takes the rest of an object, behind its opening brace.
 fn read_opened_members<'a>(
     alloc: Global,
@@ -39,7 +42,7 @@ fn read_opened_members<'a>(
         Holds 3 (begin_object ∷ reader.old) (object_of (map member_of members.items)) reader.new) }
     ensures shorter { OnOk result (length reader.new < length reader.old) }
 {
-    let mut members = Vec::new(alloc);
+    let mut members = Vec::with_capacity(alloc, ROOM)?;
     'members: while let Some(name) = reader.next_key()? {
         let piece = read_piece(alloc, reader)?;
         members.push(Member { name, piece })?;

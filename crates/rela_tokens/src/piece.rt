@@ -6,9 +6,8 @@ ghost use Rattle.rela_tokens.specs.Holds.{Holds};
 ghost use Rattle.rela_tokens.specs.Pieces.{data_of, list, pair, text as text_of, whole};
 
 use crate::lists::{read_numbers, read_pairs, read_texts};
-use crate::number::whole_number;
+use crate::reader::{Reader, Token};
 use crate::unread::Unread;
-use json::{Reader, Token};
 use std::alloc::Global;
 
 /// A string, a whole number, or an array of strings, of whole numbers or of pairs of them.
@@ -101,10 +100,7 @@ pub fn read_piece<'a>(alloc: Global, reader: &mut Reader<'a>) -> Result<Piece<'a
 {
     match reader.next() {
         Some(Token::String(text)) => Ok(Piece::Text(text)),
-        Some(Token::Number(text)) => {
-            let number = whole_number(text)?;
-            Ok(Piece::Number(number))
-        }
+        Some(Token::Number(number)) => Ok(Piece::Number(number)),
         Some(Token::BeginArray) => read_array(alloc, reader),
         _ => Err(Unread),
     }

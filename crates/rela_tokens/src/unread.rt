@@ -1,6 +1,5 @@
 //! That a value was not read.
 
-use json::Invalid;
 use std::alloc::{AllocError, AllocFailed};
 use thiserror::Error;
 
@@ -18,12 +17,6 @@ impl From<AllocError> for Unread {
 
 impl<T: Drop> From<AllocFailed<T>> for Unread {
     fn from(_refused: AllocFailed<T>) -> Unread {
-        Unread
-    }
-}
-
-impl From<Invalid> for Unread {
-    fn from(_invalid: Invalid) -> Unread {
         Unread
     }
 }

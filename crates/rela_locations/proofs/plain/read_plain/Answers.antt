@@ -3,7 +3,7 @@ use Rattle.rela_locations.proofs.plain.read_plain.Goals as goal
 
 pub returns-clause-network : goal.returns-clause-network
 returns-clause-network c =
-    file_read _ _ _ _ _ _ _ _ _ c.what_holds.ensures.object c.what_holds.ensures.text c.what_holds.ensures.deeper c.in-Ok.ensures.cases c.in_ok-reader.ensures.ok c.in_ok-open_groups.ensures
+    file_read _ _ _ _ _ _ _ _ _ c.what_holds.ensures.object c.what_holds.ensures.text c.what_holds.ensures.deeper c.in-Ok.ensures.cases c.new-reader.ensures c.in_ok-open_groups.ensures
     c.new-seen.ensures.groups c.new-seen.ensures.devices c.new-seen.ensures.interfaces c.in_ok-groups.ensures.groups c.in_ok-close_text.ensures.brace
 
 pub returns-clause-groups : goal.returns-clause-groups

@@ -7,7 +7,7 @@ use Rattle.rela_tokens.proofs.lists.read_more_pairs.Goals as goal
 
 pub pairs-init : goal.pairs-init
 pairs-init c = record {
-  held = λ start h. first_held pair 1 _ _ _ _ _ c.new-pairs.ensures.items c.in_ok-push.ensures.items h;
+  held = λ start h. first_held pair 1 _ _ _ _ _ c.in_ok-pairs.ensures.items c.in_ok-push.ensures.items h;
   shorter = omega arith;
 }
 

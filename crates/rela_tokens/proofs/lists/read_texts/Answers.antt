@@ -7,7 +7,7 @@ use Rattle.rela_tokens.proofs.lists.read_texts.Goals as goal
 
 pub texts-init : goal.texts-init
 texts-init c = record {
-  held = first_held text 0 _ _ _ _ _ c.new-texts.ensures.items c.in_ok-push.ensures.items (string_holds 0 _ _);
+  held = first_held text 0 _ _ _ _ _ c.in_ok-texts.ensures.items c.in_ok-push.ensures.items (string_holds 0 _ _);
   shorter = omega arith;
 }
 

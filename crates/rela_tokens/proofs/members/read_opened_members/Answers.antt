@@ -7,7 +7,7 @@ use Rattle.rela_tokens.proofs.members.read_opened_members.Goals as goal
 
 pub members-init : goal.members-init
 members-init c = record {
-  held = rw c.new-members.ensures.items refl;
+  held = rw c.in_ok-members.ensures.items refl;
   shorter = omega arith;
 }
 

@@ -1,6 +1,7 @@
 use Rattle.std.proofs.Common.{◌≡◌, ◌∷◌, arith}
-use Rattle.json.specs.Token.{begin_array, end_array, number, string}
-use Rattle.rela_tokens.proofs.Grown.{behind_two, empty_held}
+use Rattle.json.specs.Token.{begin_array, end_array, string}
+use Rattle.rela_tokens.proofs.Grown.{behind_two, empty_held, number_shown, number_taken}
+use Rattle.rela_tokens.proofs.Standing.{deeper}
 use Rattle.rela_tokens.proofs.piece.read_array.Goals as goal
 
 pub returns-in-Some-EndArray-clause-piece : goal.returns-in-Some-EndArray-clause-piece
@@ -15,8 +16,8 @@ returns-in_ok-texts-in-Some-String-clause-piece c =
 
 pub returns-in_ok-numbers-in-Some-Number-clause-piece : goal.returns-in_ok-numbers-in-Some-Number-clause-piece
 returns-in_ok-numbers-in-Some-Number-clause-piece c =
-    let is : c.args.reader.now ≡ number c.in-Some-Number.first.now ∷ c.next.new.self = grind arith in
-    behind_two 1 2 _ _ _ begin_array _ _ is (omega arith) c.in_ok-numbers-in-Some-Number.ensures.numbers
+    let first = number_taken 0 _ _ _ (number_shown _ _ _ _ c.in-Some-Number.field-0-is c.in-Some-Number.ensures.token) in
+    deeper 1 2 _ _ _ (omega arith) (c.in_ok-numbers-in-Some-Number.ensures.numbers _ first)
 
 pub returns-in_ok-pairs-in-Some-BeginArray-clause-piece : goal.returns-in_ok-pairs-in-Some-BeginArray-clause-piece
 returns-in_ok-pairs-in-Some-BeginArray-clause-piece c =
