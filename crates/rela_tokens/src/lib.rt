@@ -7,6 +7,7 @@ mod lists;
 mod members;
 mod number;
 mod piece;
+mod plain;
 mod reader;
 mod scan;
 mod unread;

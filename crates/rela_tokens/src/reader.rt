@@ -1,13 +1,13 @@
 //! A reader of the tokens of a JSON text.
 
-ghost use Rattle.std.specs.Prelude.{◌≡◌, ◌≤◌, ◌∷◌, [], ℕ, List, Some, IfOk, IfSome, IsTrue, true, drop, length, get_or, option_map};
+ghost use Rattle.std.specs.Prelude.{◌≡◌, ◌≤◌, [], IfOk, IfSome, IsTrue, Some, drop, get_or, length, option_map, true};
 ghost use Rattle.std.specs.Bool.{MatchBool};
 ghost use Rattle.json.specs.Json.{after_end_array, read_key};
 ghost use Rattle.json.specs.Lex.{Place, between, lex, may_begin, punctuate, tokens};
-ghost use Rattle.json.specs.Word.{is_space};
 ghost use Rattle.rela_tokens.specs.Reading.{Takes, TakesNumber, tokens_from};
 
-use crate::scan::{byte_at, number_in, plain_end, solid_from, value_from};
+use crate::plain::plain_end;
+use crate::scan::{byte_at, number_in, solid_from, value_from};
 use crate::unread::Unread;
 use std::marker::Model;
 

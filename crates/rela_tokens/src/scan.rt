@@ -1,10 +1,8 @@
 //! Bytes of a JSON text, from a place on.
 
-ghost use Rattle.std.specs.Prelude.{◌≡◌, ◌≢◌, ◌+◌, ◌≤◌, ◌<◌, ◌||◌, drop, false, length, get_or, IfSome, IsTrue};
-ghost use Rattle.std.specs.List.{prefix_len};
+ghost use Rattle.std.specs.Prelude.{◌≡◌, ◌<◌, ◌≤◌, ◌||◌, IfSome, IsTrue, drop, false, get_or, length};
 ghost use Rattle.json.specs.Lex.{between, lex};
-ghost use Rattle.json.specs.Run.{is_plain};
-ghost use Rattle.json.specs.Word.{head, is_operator, is_space};
+ghost use Rattle.json.specs.Word.{is_operator, is_space};
 ghost use Rattle.rela_tokens.specs.Reading.{BeginsWith, tokens_from, WritesNumber};
 
 /// The greatest number of digits of a number that is read: whatever these write, it is below 2^32.
@@ -66,19 +64,6 @@ pub(crate) fn value_from(text: &[u8], at: usize, after_value: bool) -> Option<us
         return None;
     }
     Some(solid_from(text, at + 1))
-}
-
-/// The first quote, backslash or control byte from `from` on, or the length.
-pub(crate) fn plain_end(text: &[u8], from: usize) -> usize
-    requires { from ≤ length text.now }
-    ensures end { result ≡ from + prefix_len is_plain (drop from text.now) }
-    ensures within { result ≤ length text.now }
-{
-    let mut end = from;
-    'plain: while end < text.len() && text[end] != b'"' && text[end] != b'\\' && text[end] >= 0x20 {
-        end += 1;
-    }
-    end
 }
 
 /// The whole number of at most nine digits that a text begins with, and how many these are.
