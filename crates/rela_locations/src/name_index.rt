@@ -73,6 +73,19 @@ impl NameIndex {
             None => self.alphabet.find(name),
         }
     }
+
+    /// The location of this name, and `None` where no location has it, as by
+    /// [`find`](NameIndex::find). Time: one comparison, where the location is the one that is
+    /// guessed.
+    pub(crate) fn find_near(&self, name: &[u8], guess: Symbol) -> Option<Symbol>
+        ensures found { (s : ℕ) → (result ≡ Some s) ↔ (slice_get self.now s ≡ Some name.now) }
+        ensures absent { IfNone result (All (λ other. other ≢ name.now) self.now) }
+    {
+        if is_name_of(&self.alphabet, guess, name) {
+            return Some(guess);
+        }
+        self.find(name)
+    }
 }
 
 /// A table of places for the first `count` locations of an alphabet, with each location's symbol

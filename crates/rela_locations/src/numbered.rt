@@ -9,7 +9,7 @@ ghost use Rattle.rela_locations.specs.Tables.{AreKnown, device_names, interface_
 use crate::alphabets::Alphabets;
 use crate::name_index::NameIndex;
 use crate::network::{DeviceEntry, GroupEntry, LentName};
-use crate::pairs::symbol_of;
+use crate::pairs::{symbol_near, symbol_of};
 use rela_names::{List, Name, Symbol};
 use std::alloc::{AllocError, Global};
 
@@ -126,8 +126,11 @@ fn number_names(
     ensures { IfOk result (λ symbols. map (named alphabet.now) symbols.items ≡ names.now) }
 {
     let mut symbols = Vec::with_capacity(alloc, names.len())?;
+    let mut guess = 0;
     for name in names {
-        symbols.push(symbol_of(alphabet, name))?;
+        let symbol = symbol_near(alphabet, name, guess);
+        symbols.push(symbol)?;
+        guess = symbol.wrapping_add(1);
     }
     Ok(symbols)
 }

@@ -1,7 +1,7 @@
 use Rattle.std.proofs.Common.{Some, ◌∙◌, sym, ap}
 use Rattle.rela_locations.specs.Tables.{index_of}
 use Rattle.rela_locations.proofs.Indexes.{index_of_known}
-use Rattle.rela_locations.proofs.pairs.symbol_of.Goals as goal
+use Rattle.rela_locations.proofs.pairs.symbol_near.Goals as goal
 
 pub unreachable-requires : goal.unreachable-requires
 unreachable-requires c =
