@@ -1,5 +1,5 @@
 -- The symbols that the terms of a tree name one by one, and not by a class, from left to right.
-use Rattle.std.specs.Prelude.{ℕ, List, [], ◌∷◌, ◌++◌}
+use Rattle.std.specs.Prelude.{ℕ, List, ◌++◌}
 use Rattle.rela_rir.specs.NamedSymbols.{symbols_of_terms}
 use Rattle.rela_claims.specs.declared.claim.Tree.{Tree}
 use Rattle.rela_claims.specs.declared.claim.Tree.TheOpen as t

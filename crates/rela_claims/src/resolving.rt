@@ -1,11 +1,17 @@
 //! The claims of an assertion file.
 
-ghost use Rattle.std.specs.Prelude.{◌≡◌, ◌≢◌, [], Err, Ok, IfErr, IfOk, map};
+ghost use Rattle.std.specs.Prelude.{◌≡◌, ◌≢◌, ◌≤◌, Err, Ok, IfErr, IfOk, map};
 ghost use Rattle.std.specs.List.{All};
 ghost use Rattle.rela_lex.specs.declared.error.SpecError.TheVariants.{Memory};
+ghost use Rattle.rela_json.specs.Results.{try_map};
 ghost use Rattle.rela_claims.specs.Claims.{ListsPathSymbols, NamesByClasses, claim_of, claimed_of, claims_of};
+ghost use Rattle.rela_claims.specs.Classes.{resolved_class};
+ghost use Rattle.rela_claims.specs.Sizes.{size_of_tree};
+ghost use Rattle.rela_claims.specs.Terms.{mentions_in};
+ghost use Rattle.rela_claims.specs.Written.{classes_of, mentioned};
 
 use crate::claim::Claim;
+use crate::classes::Mention;
 use crate::listing::sets;
 use crate::looking::look_at_all;
 use crate::mentions::mentions;
@@ -17,7 +23,7 @@ use rela_lex::SpecError;
 use rela_locations::Locations;
 use rela_names::Level;
 use rela_rirfile::{Assert, AssertFile};
-use std::alloc::Global;
+use std::alloc::{AllocError, Global};
 
 /// The claims of an assertion file over a network's locations, one for each assertion and in their
 /// order. `all` is the class of all path symbols, a member is the class of the symbols that it
@@ -92,13 +98,43 @@ fn claim(
     let mentions = mentions(alloc, level, &assertion.tree)?;
     look_at_all(locations, level, mentions.as_slice())?;
     look_at_size(&assertion.tree, assertion.at)?;
-    let table = table(alloc, mentions.as_slice())?;
-    let classes = sets(alloc, locations, level, &table)?;
+    let mentions = mentions.as_slice();
+    Ok(made(alloc, locations, level, assertion, mentions)?)
+}
+
+/// The claim of an assertion that mentions these classes, which all name some symbols, and whose
+/// terms are small enough. The only error is want of memory.
+fn made<'a>(
+    alloc: Global,
+    locations: &Locations,
+    level: Level,
+    assertion: &'a Assert,
+    mentions: &[Mention<'a>],
+) -> Result<Claim, AllocError>
+    requires mentioned { map mentioned mentions.now ≡ mentions_in level assertion.now.tree }
+    requires found { try_map (resolved_class (record {
+      network = locations.now;
+      level = level;
+    })) (map mentioned mentions.now) ≡ Ok (classes_of mentions.now) }
+    requires small { size_of_tree assertion.now.tree ≤ 20000 }
+    ensures name { IfOk result (λ claim. claim.name ≡ assertion.now.name) }
+    ensures claim { IfOk result (λ claim. claim_of (record {
+      network = locations.now;
+      level = level;
+    }) assertion.now ≡ Ok (claimed_of claim)) }
+    ensures below { IfOk result (ListsPathSymbols (record {
+      network = locations.now;
+      level = level;
+    })) }
+    ensures plain { IfOk result NamesByClasses }
+{
     let name = assertion.name.copy(alloc)?;
+    let table = table(alloc, mentions)?;
     let numbers = Numbers {
         level,
         table: &table,
     };
+    let classes = sets(alloc, locations, level, &table)?;
     let tree = tree(alloc, &numbers, &assertion.tree)?;
     Ok(Claim {
         name,
