@@ -1,13 +1,13 @@
 //! Texts of assertion files, resolved to claims over a small network.
 
-use crate::made::{both, gives};
 use crate::network::network;
+use crate::terms::is_class;
 use rela_claims::{Claim, Tree, resolve};
 use rela_lex::{MAX_TEXT_LEN, SpecError, tokens};
 use rela_locations::Locations;
 use rela_rir::{Assertion, PathTerm, RelTerm, SymbolSet};
 use rela_rirfile::{AssertFile, parse};
-use std::alloc::{AllocError, Global};
+use std::alloc::Global;
 
 /// The tree of a text that isn't too long. Errors are those of [`tokens`] and [`parse`], and `Memory`
 /// for a longer text.
@@ -54,22 +54,46 @@ fn refuses_names(rt: HostRuntime) {
     assert!(rt; is_refused(alloc, text, SpecError::UnknownLocation { at: 23 }));
 }
 
-/// The image of the paths before the change under the product of the first two classes.
-fn image(alloc: Global) -> Result<PathTerm, AllocError> {
-    let related = RelTerm::product(alloc, PathTerm::Class(0), PathTerm::Class(1))?;
-    PathTerm::image(alloc, PathTerm::Pre, related)
+/// Whether the relation is the product of the first two classes.
+fn is_product(related: &RelTerm) -> bool {
+    match related {
+        RelTerm::Product(first, second) => is_class(first.get(), 0) && is_class(second.get(), 1),
+        _ => false,
+    }
 }
 
-/// Words of the first class, one after another, and then one of the third.
-fn last_of_third(alloc: Global) -> Result<PathTerm, AllocError> {
-    let any = PathTerm::star(alloc, PathTerm::Class(0))?;
-    PathTerm::concat(alloc, any, PathTerm::Class(2))
+/// Whether the set is the image of the paths before the change under that product.
+fn is_image(set: &PathTerm) -> bool {
+    match set {
+        PathTerm::Image(paths, related) => {
+            matches!(paths.get(), PathTerm::Pre) && is_product(related.get())
+        }
+        _ => false,
+    }
 }
 
-/// That both have the same words.
-fn equal(alloc: Global) -> Result<Assertion, AllocError> {
-    let (first, second) = both(image(alloc), last_of_third(alloc))?;
-    Ok(Assertion::Equal(first, second))
+/// Whether the set has words of the first class, one after another.
+fn is_any_of_first(set: &PathTerm) -> bool {
+    match set {
+        PathTerm::Star(part) => is_class(part.get(), 0),
+        _ => false,
+    }
+}
+
+/// Whether the set has those words, each with one of the third class behind it.
+fn is_last_of_third(set: &PathTerm) -> bool {
+    match set {
+        PathTerm::Concat(any, last) => is_any_of_first(any.get()) && is_class(last.get(), 2),
+        _ => false,
+    }
+}
+
+/// Whether it is asserted that the image and those words are the same.
+fn is_asserted(leaf: &Assertion) -> bool {
+    match leaf {
+        Assertion::Equal(first, second) => is_image(first) && is_last_of_third(second),
+        Assertion::Included(_, _) => false,
+    }
 }
 
 /// Whether the set is this.
@@ -88,12 +112,12 @@ fn has_classes(classes: &[SymbolSet]) -> bool {
 }
 
 /// Whether the claim is that assertion, under its name.
-fn is_equal(alloc: Global, claim: &Claim) -> bool {
+fn is_equal(claim: &Claim) -> bool {
     match &claim.tree {
         Tree::Leaf(leaf) => {
             claim.name.as_bytes() == b"a1".as_slice()
                 && has_classes(claim.classes.as_slice())
-                && gives(equal(alloc), leaf)
+                && is_asserted(leaf)
         }
         Tree::And(_, _) | Tree::Or(_, _) | Tree::Not(_) => false,
     }
@@ -103,7 +127,7 @@ fn is_equal(alloc: Global, claim: &Claim) -> bool {
 fn has_equal(alloc: Global, text: &[u8]) -> bool {
     match claims(alloc, text) {
         Ok(claims) => match claims.as_slice() {
-            [claim] => is_equal(alloc, claim),
+            [claim] => is_equal(claim),
             _ => false,
         },
         Err(_) => false,

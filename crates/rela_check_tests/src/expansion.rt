@@ -1,11 +1,10 @@
 //! Texts of specifications, expanded to checks over a small network.
 
-use crate::made::{both, gives};
 use crate::network::network;
 use rela_expand::expand;
 use rela_lex::{MAX_TEXT_LEN, SpecError, Token, tokens};
 use rela_locations::Locations;
-use rela_names::{Boxed, Level};
+use rela_names::Level;
 use rela_spec::parse;
 use rela_translate::{Change, Check, Core, Expr};
 use std::alloc::{AllocError, Global};
@@ -111,37 +110,39 @@ fn refuses_what_is_too_large(rt: HostRuntime) {
     assert!(rt; doubling_is_too_large(rt.alloc()));
 }
 
-/// One symbol of the first two classes.
-fn either_class(alloc: Global) -> Result<Expr, AllocError> {
-    let (first, second) = both(
-        Boxed::new(alloc, Expr::Class(0)),
-        Boxed::new(alloc, Expr::Class(1)),
-    )?;
-    Ok(Expr::Alt(first, second))
+/// Whether the path is one symbol of the first two classes.
+fn is_either_class(path: &Expr) -> bool {
+    match path {
+        Expr::Alt(first, second) => {
+            matches!(first.get(), Expr::Class(0)) && matches!(second.get(), Expr::Class(1))
+        }
+        _ => false,
+    }
 }
 
-/// The unit that asks for any of the first class, of words of the first two.
-fn any_of_the_first(alloc: Global) -> Result<Core, AllocError> {
-    let either = either_class(alloc)?;
-    let part = Boxed::new(alloc, either)?;
-    Ok(Core::Unit {
-        zone: Expr::Star(part),
-        modifier: Change::AnyOf {
-            path: Expr::Class(0),
-            marker: 1,
-        },
-    })
+/// Whether the body is the unit that asks for any of the first class, of words of the first two.
+fn is_any_of_the_first(body: &Core) -> bool {
+    match body {
+        Core::Unit {
+            zone: Expr::Star(part),
+            modifier: Change::AnyOf {
+                path: Expr::Class(0),
+                marker: 1,
+            },
+        } => is_either_class(part.get()),
+        _ => false,
+    }
 }
 
 /// Whether a check at the level of devices asks for that unit at most, and has two classes.
 struct AnyOfTheFirst;
 
 impl Question for AnyOfTheFirst {
-    fn is_so(&self, alloc: Global, check: &Check) -> bool {
+    fn is_so(&self, _alloc: Global, check: &Check) -> bool {
         check.classes().len() == 2
             && check.level() == Level::Device
             && check.at_most()
-            && gives(any_of_the_first(alloc), check.body())
+            && is_any_of_the_first(check.body())
     }
 }
 

@@ -7,8 +7,6 @@ mod claims;
 #[cfg(test)]
 mod expansion;
 #[cfg(test)]
-mod made;
-#[cfg(test)]
 mod network;
 #[cfg(test)]
 mod terms;

@@ -1,65 +1,100 @@
 //! Checks translated to terms.
 
 use crate::expansion::{Question, is_so};
-use crate::made::{both, give_the_same};
+use crate::terms::is_class;
 use rela_flows::Predicate;
 use rela_names::{Alphabet, Level};
 use rela_rir::{PathTerm, RelTerm};
-use rela_translate::{Check, Core, Relations, translate, zone_term};
-use std::alloc::{AllocError, Global};
+use rela_translate::{Check, Core, translate, zone_term};
+use std::alloc::Global;
 
 /// A check that asks for any path of one symbol in place of r1.
 const ANY_OF_ALL: &[u8] = b"level device; check c1 : { r1 : any(.) };";
 
-/// The words that it speaks of: r1, and any one symbol.
-fn zone(alloc: Global) -> Result<PathTerm, AllocError> {
-    PathTerm::union(alloc, PathTerm::Class(0), PathTerm::Class(1))
+/// Whether the term has the words that it speaks of: r1, and any one symbol.
+fn is_zone(term: &PathTerm) -> bool {
+    match term {
+        PathTerm::Union(first, any) => is_class(first.get(), 0) && is_class(any.get(), 1),
+        _ => false,
+    }
 }
 
-/// Before the change, each of them stands for the marker, which comes behind `drop` and `loop`.
-fn before(alloc: Global) -> Result<RelTerm, AllocError> {
-    let zone = zone(alloc)?;
-    RelTerm::product(alloc, zone, PathTerm::One(2))
+/// Whether the term is the marker, which comes behind `drop` and `loop`.
+fn is_marker(term: &PathTerm) -> bool {
+    matches!(term, PathTerm::One(2))
 }
 
-/// The words of r1 that aren't asked for.
-fn unasked(alloc: Global) -> Result<PathTerm, AllocError> {
-    let others = PathTerm::complement(alloc, PathTerm::Class(1))?;
-    PathTerm::meet(alloc, PathTerm::Class(0), others)
+/// Whether the relation is that before the change: each word of the zone stands for the marker.
+fn is_before(term: &RelTerm) -> bool {
+    match term {
+        RelTerm::Product(zone, marker) => is_zone(zone.get()) && is_marker(marker.get()),
+        _ => false,
+    }
 }
 
-/// After the change, those stay as they are.
-fn kept(alloc: Global) -> Result<RelTerm, AllocError> {
-    let unasked = unasked(alloc)?;
-    RelTerm::identity(alloc, unasked)
+/// Whether the term has the words that aren't asked for.
+fn is_others(term: &PathTerm) -> bool {
+    match term {
+        PathTerm::Complement(part) => is_class(part.get(), 1),
+        _ => false,
+    }
 }
 
-/// After the change, what is asked for stands for the marker.
-fn marked(alloc: Global) -> Result<RelTerm, AllocError> {
-    RelTerm::product(alloc, PathTerm::Class(1), PathTerm::One(2))
+/// Whether the term has those of r1 among them.
+fn is_unasked(term: &PathTerm) -> bool {
+    match term {
+        PathTerm::Meet(first, others) => is_class(first.get(), 0) && is_others(others.get()),
+        _ => false,
+    }
 }
 
-/// The two relations of the check.
-fn relations(alloc: Global) -> Result<Relations, AllocError> {
-    let (marked, kept) = both(marked(alloc), kept(alloc))?;
-    let (before, after) = both(before(alloc), RelTerm::union(alloc, marked, kept))?;
-    Ok(Relations { before, after })
+/// Whether the relation keeps those as they are.
+fn is_kept(term: &RelTerm) -> bool {
+    match term {
+        RelTerm::Identity(paths) => is_unasked(paths.get()),
+        _ => false,
+    }
 }
 
-/// Whether the check is translated to this zone and these relations, under an alphabet without
-/// locations.
-fn is_translated(alloc: Global, check: &Check, alphabet: &Alphabet) -> bool {
-    give_the_same(zone_term(alloc, check, alphabet), zone(alloc))
-        && give_the_same(translate(alloc, check, alphabet), relations(alloc))
+/// Whether what is asked for stands for the marker.
+fn is_marked(term: &RelTerm) -> bool {
+    match term {
+        RelTerm::Product(any, marker) => is_class(any.get(), 1) && is_marker(marker.get()),
+        _ => false,
+    }
 }
 
-/// Whether the check is translated as it should be.
+/// Whether the relation is that after the change, which has both.
+fn is_after(term: &RelTerm) -> bool {
+    match term {
+        RelTerm::Union(marked, kept) => is_marked(marked.get()) && is_kept(kept.get()),
+        _ => false,
+    }
+}
+
+/// Whether the check has that zone.
+fn has_zone(alloc: Global, check: &Check, alphabet: &Alphabet) -> bool {
+    match zone_term(alloc, check, alphabet) {
+        Ok(zone) => is_zone(&zone),
+        Err(_) => false,
+    }
+}
+
+/// Whether the check has those relations.
+fn has_relations(alloc: Global, check: &Check, alphabet: &Alphabet) -> bool {
+    match translate(alloc, check, alphabet) {
+        Ok(relations) => is_before(&relations.before) && is_after(&relations.after),
+        Err(_) => false,
+    }
+}
+
+/// Whether the check is translated so under an alphabet without locations.
 struct Translated;
 
 impl Question for Translated {
     fn is_so(&self, alloc: Global, check: &Check) -> bool {
         let alphabet = Alphabet::new(Vec::new(alloc));
-        is_translated(alloc, check, &alphabet)
+        has_zone(alloc, check, &alphabet) && has_relations(alloc, check, &alphabet)
     }
 }
 

@@ -3,7 +3,7 @@
 use crate::term::PathTerm;
 
 /// An assertion about two sets of words.
-#[derive(PartialEq, Eq, Drop)]
+#[derive(Drop)]
 pub enum Assertion {
     /// They have the same words.
     Equal(PathTerm, PathTerm),

@@ -3,7 +3,7 @@
 use rela_names::{Boxed, Symbol};
 
 /// A set of words.
-#[derive(PartialEq, Eq, Drop)]
+#[derive(Drop)]
 #[cycle(term)]
 pub enum PathTerm {
     /// No word.
@@ -33,7 +33,7 @@ pub enum PathTerm {
 }
 
 /// A relation between words: a set of pairs.
-#[derive(PartialEq, Eq, Drop)]
+#[derive(Drop)]
 #[cycle(term)]
 pub enum RelTerm {
     /// Each word of the set with itself.

@@ -3,7 +3,7 @@
 use rela_names::Boxed;
 
 /// A set of paths.
-#[derive(PartialEq, Eq, Drop)]
+#[derive(Drop)]
 pub enum Expr {
     /// The empty path alone.
     Empty,
@@ -23,7 +23,7 @@ pub enum Expr {
 
 /// What has to become of the paths of a zone. The paths that a modifier brings in belong to the zone
 /// of its unit too.
-#[derive(PartialEq, Eq, Drop)]
+#[derive(Drop)]
 pub enum Change {
     /// They stay.
     Preserve,
@@ -49,7 +49,7 @@ pub enum Change {
 }
 
 /// The body of a check.
-#[derive(PartialEq, Eq, Drop)]
+#[derive(Drop)]
 pub enum Core {
     /// The change that the modifier asks for on the paths of the zone.
     Unit {

@@ -19,7 +19,7 @@ use units::{after_of_unit, before_of_unit, both, outside, zone_of_unit};
 
 /// The two relations of a check. The change is as the check asks where the paths before the change have
 /// under the first the image that the paths after it have under the second.
-#[derive(PartialEq, Eq, Drop)]
+#[derive(Drop)]
 pub struct Relations {
     /// The relation that the paths before the change are seen through.
     pub before: RelTerm,
