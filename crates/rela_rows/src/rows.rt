@@ -180,9 +180,29 @@ fn decide_all(
     ensures texts { IfOk result (λ rows. All (RowHasTexts alphabet.now) rows.items) }
 {
     let mut kept = Kept::new(alloc, alphabet, judges.others, judges.places)?;
+    decide_each(alloc, planned, pairs, judges, alphabet, &mut kept)
+}
+
+/// The rows that are planned, with what is known of the flows that have been decided.
+fn decide_each(
+    alloc: Global,
+    planned: &[PlannedRow],
+    pairs: &[FlowPair],
+    judges: &Judges<'_, '_>,
+    alphabet: &Alphabet,
+    kept: &mut Kept,
+) -> Result<Vec<ReportRow>, AllocError>
+    requires planned { All (IsWithin (length pairs.now) (length judges.now.checks.now))
+        planned.now }
+    requires judges { CanJudge alphabet.now pairs.now judges.now }
+    requires kept { AreKept alphabet.now judges.now.compiled.now pairs.now kept.old }
+    ensures rows { IfOk result (λ rows. AllZip (IsRowBy alphabet.now judges.now.checks.now
+        judges.now.compiled.now pairs.now) planned.now rows.items) }
+    ensures texts { IfOk result (λ rows. All (RowHasTexts alphabet.now) rows.items) }
+{
     let mut rows = Vec::with_capacity(alloc, planned.len())?;
     for row in planned {
-        rows.push(row_of(alloc, row, pairs, judges, alphabet, &mut kept)?)?;
+        rows.push(row_of(alloc, row, pairs, judges, alphabet, kept)?)?;
     }
     Ok(rows)
 }
@@ -203,9 +223,28 @@ fn write_all(
         judges.now.compiled.now pairs.now) alphabet.now planned.now) }
 {
     let mut kept = Kept::new(alloc, alphabet, judges.others, judges.places)?;
+    write_each(alloc, planned, pairs, judges, alphabet, &mut kept)
+}
+
+/// The text of the rows that are planned, with what is known of the flows that have been decided.
+fn write_each(
+    alloc: Global,
+    planned: &[PlannedRow],
+    pairs: &[FlowPair],
+    judges: &Judges<'_, '_>,
+    alphabet: &Alphabet,
+    kept: &mut Kept,
+) -> Result<ReportWriter, AllocError>
+    requires planned { All (IsWithin (length pairs.now) (length judges.now.checks.now))
+        planned.now }
+    requires judges { CanJudge alphabet.now pairs.now judges.now }
+    requires kept { AreKept alphabet.now judges.now.compiled.now pairs.now kept.old }
+    ensures { IfOk result (AreWritten (IsRowBy alphabet.now judges.now.checks.now
+        judges.now.compiled.now pairs.now) alphabet.now planned.now) }
+{
     let mut writer = ReportWriter::new(alloc);
     for row in planned {
-        write_row(alloc, row, pairs, judges, alphabet, &mut kept, &mut writer)?;
+        write_row(alloc, row, pairs, judges, alphabet, kept, &mut writer)?;
     }
     Ok(writer)
 }

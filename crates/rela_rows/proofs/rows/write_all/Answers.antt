@@ -1,18 +1,4 @@
-use Rattle.std.proofs.Common.{[], arith}
-use Rattle.rela_rows.specs.Sharing.{IsRowBy}
-use Rattle.rela_rows.proofs.Judging.{written_next}
 use Rattle.rela_rows.proofs.rows.write_all.Goals as goal
 
-pub loop-row-init : goal.loop-row-init
-loop-row-init c = record {
-  rows = ([], tt, c.new-writer.ensures c.args.alphabet.now);
-  kept = c.in_ok-kept.ensures c.args.judges.now.compiled.now c.args.pairs.now;
-}
-
-pub loop-row-preserved : goal.loop-row-preserved
-loop-row-preserved c = record {
-  rows =
-      written_next (IsRowBy c.args.alphabet.now c.args.judges.now.checks.now c.args.judges.now.compiled.now c.args.pairs.now) c.args.alphabet.now
-      c.args.planned.now c.loop-row.writer _ c.loop-row.row-index _ (omega arith) c.loop-row.invariant.rows c.in_ok-write_row.ensures.row;
-  kept = c.in_ok-write_row.ensures.kept;
-}
+pub write_each-requires-clause-kept : goal.write_each-requires-clause-kept
+write_each-requires-clause-kept c = c.in_ok-kept.ensures c.args.judges.now.compiled.now c.args.pairs.now

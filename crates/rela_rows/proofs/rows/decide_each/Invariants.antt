@@ -3,7 +3,7 @@ use Rattle.std.specs.List.{AllZip}
 use Rattle.rela_report.specs.Text.{RowHasTexts}
 use Rattle.rela_rows.specs.Kept.{AreKept}
 use Rattle.rela_rows.specs.Sharing.{IsRowBy}
-use Rattle.rela_rows.proofs.rows.decide_all.Given as goal
+use Rattle.rela_rows.proofs.rows.decide_each.Given as goal
 
 -- the rows so far, each symbol that they show has a text, and what is kept of the flows
 abbrev pub invariant-loop-row : goal.invariant-loop-row

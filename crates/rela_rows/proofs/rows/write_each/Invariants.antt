@@ -2,7 +2,7 @@ use Rattle.std.proofs.Common.{take}
 use Rattle.rela_rows.specs.Kept.{AreKept}
 use Rattle.rela_rows.specs.Sharing.{IsRowBy}
 use Rattle.rela_rows.specs.Writing.{AreWritten}
-use Rattle.rela_rows.proofs.rows.write_all.Given as goal
+use Rattle.rela_rows.proofs.rows.write_each.Given as goal
 
 -- the rows so far are written, and what is kept of the flows
 abbrev pub invariant-loop-row : goal.invariant-loop-row
