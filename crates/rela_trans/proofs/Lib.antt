@@ -21,6 +21,7 @@ pub mod Parts
 pub mod Reaching
 pub mod ReadLetters
 pub mod Relabelled
+pub mod SharedLetters
 pub mod Shortening
 pub mod Singles
 pub mod Stars

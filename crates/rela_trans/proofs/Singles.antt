@@ -1,9 +1,8 @@
 -- A set of letters that has one alone.
-use Rattle.std.proofs.Common.{◌≡◌, ◌≢◌, ℕ, zero, suc, Bool, true, false, if◌then◌else◌, List, [], ◌∷◌, length, Option, None, Some, ◌⊎◌, inl, inr, refl, sym, ap, ◌∙◌, subst, arith}
+use Rattle.std.proofs.Common.{◌≡◌, ◌≢◌, ◌==◌, ℕ, zero, suc, Bool, true, false, if◌then◌else◌, List, [], ◌∷◌, Option, None, Some, IfNone, IfSome, inl, inr, refl, sym, ap, ◌∙◌, subst, arith}
 use Rattle.std.specs.List.{list_any}
 use Rattle.std.specs.Option.{option_map}
-use Rattle.std.proofs.lemmas.Bool.{cases_Bool, cases_eq, false≢true, false_from_ne_true}
-use Rattle.std.proofs.lemmas.List.{ext_get_or}
+use Rattle.std.proofs.lemmas.Bool.{cases_Bool, cases_eq, eq-eqb, ne_eqb, false≢true, false_from_ne_true}
 use Rattle.std.proofs.lemmas.Option.{same_Some}
 use Rattle.rela_labels.specs.Letters.{has}
 use Rattle.rela_nfa.proofs.Joint.{any_letter, none_in}
@@ -50,26 +49,15 @@ none_or : (o : Option ℕ) → ((m : ℕ) → o ≡ Some m → ⊥) → o ≡ No
 none_or None never = refl
 none_or (Some m) never = absurd (never m refl)
 
--- no letter is the one letter of an empty set
-pub only_of_none : (set : List Bool) → ((k : ℕ) → has set k ≡ false) → only_letter set ≡ None
-only_of_none set none = none_or (only_letter set) (λ m e. false≢true (sym (none m) ∙ (only_is set m e).among))
-
--- nor of a set that has a letter and isn't that letter's
-pub only_of_more : (set alone : List Bool) (k : ℕ) → length set ≡ length alone → has set k ≡ true → IsOnly alone k → (set ≡ alone → ⊥) → only_letter set ≡ None
-only_of_more set alone k size among one more =
-    none_or (only_letter set) (λ m e. more (ext_get_or false set alone size (λ j below. same m (only_is set m e) j (cases_eq j k))))
-  where
-    same : (m : ℕ) → IsOnly set m → (j : ℕ) → (j ≡ k) ⊎ (j ≡ k → ⊥) → has set j ≡ has alone j
-    same m is j which = elim which [
-      | inl here ↦ ap (has set) here ∙ among ∙ sym one.among ∙ sym (ap (has alone) here)
-      | inr other ↦
-          false_from_ne_true (has set j) (λ there.
-          elim (cases_eq j m) [
-            | inl first ↦ elim (cases_eq k m) [
-              | inl second ↦ other (first ∙ sym second)
-              | inr apart ↦ false≢true (sym (is.others k apart) ∙ among)
-            ]
-            | inr apart ↦ false≢true (sym (is.others j apart) ∙ there)
-          ])
-          ∙ sym (one.others j other)
-    ]
+-- what a set tells of its only letter
+pub only_told : (set : List Bool) (answer : Option ℕ) → IfSome answer (λ only. (k : ℕ) → has set k ≡ (only == k))
+    → IfNone answer ((only : ℕ) → ((k : ℕ) → has set k ≡ (only == k)) → ⊥) → answer ≡ only_letter set
+only_told set (Some k) one none =
+    sym (is_only set k (record { among = one k ∙ eq-eqb k k refl; others = λ j other. one j ∙ ne_eqb k j (λ e. other (sym e)) }))
+only_told set None one none =
+    sym (none_or (only_letter set) (λ m e.
+    let is = only_is set m e in
+    none m (λ k. elim (cases_eq k m) [
+      | inl here ↦ ap (has set) here ∙ is.among ∙ sym (eq-eqb m k (sym here))
+      | inr other ↦ is.others k other ∙ sym (ne_eqb m k (λ e. other (sym e)))
+    ])))

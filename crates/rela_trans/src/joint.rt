@@ -38,7 +38,10 @@ fn common_letters<L: LabelSet>(
     ensures { IfOk result (λ set. option_map L.letters set
         ≡ unless_empty (common (L.letters first.now) (L.letters second.now))) }
 {
-    Ok(unless_empty(first.meet(alloc, second)?))
+    if first.is_disjoint(second) {
+        return Ok(None);
+    }
+    Ok(Some(first.meet(alloc, second)?))
 }
 
 /// What the first transducer does alone by a move of this kind, and `None` where it writes

@@ -1,5 +1,5 @@
 //! The pairs of states to which an automaton and a transducer over coarser letters may go together.
-ghost use Rattle.std.specs.Prelude.{◌≡◌, ◌<◌, ◌++◌, IfOk, OnOk, map, length};
+ghost use Rattle.std.specs.Prelude.{◌≡◌, ◌<◌, ◌++◌, OnOk, map, length};
 ghost use Rattle.std.specs.List.{All};
 ghost use Rattle.std.specs.Option.{ForSome};
 ghost use Rattle.rela_nfa.specs.Automaton.{states};
@@ -45,24 +45,16 @@ impl<'a, L: LabelSet, M: LabelSet> Successors for ReadingFiner<'a, L, M> {
 
     fn add_next(
         &self,
-        alloc: Global,
+        _alloc: Global,
         pair: Pair,
         followers: &mut Vec<Pair>,
     ) -> Result<(), AllocError> {
-        add_followers(
-            alloc,
-            followers,
-            self.sources,
-            self.transducer,
-            self.parents,
-            pair,
-        )
+        add_followers(followers, self.sources, self.transducer, self.parents, pair)
     }
 }
 
 /// Adds the pairs to which the two may go from a pair of their states.
 fn add_followers<L: LabelSet, M: LabelSet>(
-    alloc: Global,
     followers: &mut Vec<Pair>,
     sources: &Nfa<M>,
     transducer: &Transducer<L>,
@@ -82,7 +74,7 @@ fn add_followers<L: LabelSet, M: LabelSet>(
     let moves = transducer.moves(pair.right);
     add_alone(followers, moves, pair.left)?;
     for edge in edges {
-        add_by_edge(alloc, followers, edge, moves, parents, pair.right)?;
+        add_by_edge(followers, edge, moves, parents, pair.right)?;
     }
     Ok(())
 }
@@ -169,7 +161,6 @@ fn add_by_letter<L: LabelSet>(
 
 /// Adds the pairs to which the two may go by the edge.
 fn add_by_edge<L: LabelSet, M: LabelSet>(
-    alloc: Global,
     followers: &mut Vec<Pair>,
     edge: &Edge<M>,
     moves: &[Move<L>],
@@ -182,7 +173,7 @@ fn add_by_edge<L: LabelSet, M: LabelSet>(
 {
     match &edge.label {
         Some(set) => {
-            let letter = only_parent(alloc, set, parents)?;
+            let letter = only_parent(set, parents);
             add_by_letter(followers, letter, edge.to, moves)?;
         }
         None => followers.push(Pair {
@@ -194,32 +185,19 @@ fn add_by_edge<L: LabelSet, M: LabelSet>(
 }
 
 /// The letter of a set that has one alone, and `None` for any other set.
-fn only_letter<M: LabelSet>(alloc: Global, set: &M) -> Result<Option<u32>, AllocError>
-    ensures letter { IfOk result (λ letter. letter ≡ only_letter (M.letters set.now)) }
-    ensures below { IfOk result (λ letter. ForSome letter (λ k. k < length (M.letters set.now))) }
+fn only_letter<M: LabelSet>(set: &M) -> Option<u32>
+    ensures letter { result ≡ only_letter (M.letters set.now) }
+    ensures below { ForSome result (λ k. k < length (M.letters set.now)) }
 {
-    if let Some(least) = set.least() {
-        let mut alone = M::none(alloc, set.size())?;
-        alone.add(alloc, least)?;
-        if set.same(&alone) {
-            return Ok(Some(least));
-        }
-    }
-    Ok(None)
+    set.only()
 }
 
 /// The letter of the transducer in which that of a set lies that has one alone, and `None` for any
 /// other set.
-fn only_parent<M: LabelSet>(
-    alloc: Global,
-    set: &M,
-    parents: &[u32],
-) -> Result<Option<u32>, AllocError>
+fn only_parent<M: LabelSet>(set: &M, parents: &[u32]) -> Option<u32>
     requires { length (M.letters set.now) ≡ length parents.now }
-    ensures { IfOk result (λ letter. letter ≡ only_parent parents.now (M.letters set.now)) }
+    ensures { result ≡ only_parent parents.now (M.letters set.now) }
 {
-    match only_letter(alloc, set)? {
-        Some(letter) => Ok(Some(parents[letter as usize])),
-        None => Ok(None),
-    }
+    let letter = only_letter(set)?;
+    Some(parents[letter as usize])
 }
