@@ -71,6 +71,7 @@ impl<'a> Reader<'a> {
 
     /// The next token. `None` says nothing of what stands there: the text may end, or be at fault,
     /// or go on with what isn't read here. Time: linear in the token.
+    #[inline(always)]
     pub fn next(&mut self) -> Option<Token<'a>>
         ensures token { IfSome result (λ token. Takes self.old token self.new) }
     {
@@ -100,6 +101,7 @@ impl<'a> Reader<'a> {
     /// # Errors
     ///
     /// `Unread`, which says nothing of what stands there.
+    #[inline(always)]
     pub fn next_key(&mut self) -> Result<Option<&'a str>, Unread>
         ensures key { IfOk result (λ key.
             read_key self.old ≡ Some (option_map (λ name. name.now) key, self.new)) }
@@ -136,6 +138,7 @@ impl<'a> Reader<'a> {
 }
 
 /// The token of a text from `at` on, the place behind it, and whether it ends a value.
+#[inline(always)]
 fn token_at<'a>(text: &'a str, at: usize, after_value: bool) -> Option<(Token<'a>, usize, bool)>
     requires { at ≤ length text.now }
     ensures token { IfSome result (λ found. Takes (tokens_from after_value (drop at text.now))
@@ -156,6 +159,7 @@ fn token_at<'a>(text: &'a str, at: usize, after_value: bool) -> Option<(Token<'a
 
 /// The token at a place where a value or a key may begin, the place behind it, and whether it ends
 /// a value.
+#[inline(always)]
 fn opening_at<'a>(text: &'a str, from: usize) -> Option<(Token<'a>, usize, bool)>
     requires { from ≤ length text.now }
     ensures token { IfSome result (λ found. (p : Place) → may_begin p ≡ true →
@@ -177,6 +181,7 @@ fn opening_at<'a>(text: &'a str, from: usize) -> Option<(Token<'a>, usize, bool)
 
 /// The string or the key whose opening quote stands at `from`, the place behind it, and whether it
 /// ends a value.
+#[inline(always)]
 fn string_at<'a>(text: &'a str, from: usize) -> Option<(Token<'a>, usize, bool)>
     requires { get_or text.now from 32 ≡ 34 }
     ensures token { IfSome result (λ found. (p : Place) → may_begin p ≡ true →
