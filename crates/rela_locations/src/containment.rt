@@ -72,7 +72,8 @@ fn places_of(alloc: Global, table: &[Symbol], count: usize) -> Result<Vec<Vec<Sy
     ensures { IfOk result (λ lists. map (λ list. list.items) lists.items
         ≡ map (places_in table.now) (range_with_len 0 count)) }
 {
-    let mut lists = empty_lists(alloc, count)?;
+    let room = table.len().checked_div(count).unwrap_or(0);
+    let mut lists = empty_lists(alloc, count, room)?;
     for (at, entry) in table.iter().enumerate() {
         let list = &mut lists[*entry as usize];
         list.push(at as Symbol)?;
@@ -80,13 +81,14 @@ fn places_of(alloc: Global, table: &[Symbol], count: usize) -> Result<Vec<Vec<Sy
     Ok(lists)
 }
 
-/// `n` empty lists.
-fn empty_lists(alloc: Global, n: usize) -> Result<Vec<Vec<Symbol>>, AllocError>
+/// `n` empty lists, each with room for as many symbols as each has on average.
+fn empty_lists(alloc: Global, n: usize, room: usize) -> Result<Vec<Vec<Symbol>>, AllocError>
     ensures { IfOk result (λ lists. map (λ list. list.items) lists.items ≡ replicate n []) }
 {
     let mut lists = Vec::with_capacity(alloc, n)?;
     while lists.len() < n {
-        lists.push(Vec::new(alloc))?;
+        let list = Vec::with_capacity(alloc, room)?;
+        lists.push(list)?;
     }
     Ok(lists)
 }
