@@ -1,7 +1,7 @@
 -- What chained steps give, by what each of them answered.
 use Rattle.std.proofs.Common.{◌≡◌, ◌≢◌, ◌∙◌, ℕ, ◌≤◌, Bool, true, false, nat_lt, IsTrue, List, Result, Ok, Err, IfOk, refl, sym, subst, rules}
-use Rattle.std.specs.Result.{IfErr, IsErrAnd}
-use Rattle.rela_snapshot.specs.Steps.{Is, After, ◌>>=◌}
+use Rattle.std.specs.Result.{IfErr}
+use Rattle.rela_snapshot.specs.Steps.{After, ◌>>=◌}
 use Rattle.rela_inputs.specs.Given.{Equals, seen, IsToldBy, Agrees, IsGiven, IsRead}
 use Rattle.rela_inputs.specs.Inputs.{Gives}
 use Rattle.rela_inputs.specs.Reading.{is_too_long, max_file_bytes, Ends, HaltsInside}
@@ -62,10 +62,6 @@ continued_equal {A} {B} told steady Alike Step Next a r given next =
 
 is_alone : {A : Type 0} (steady : Bool) (a : A) (x : Result A Refusal) → x ≡ Ok a → Agrees steady Equals (Ok a) x
 is_alone {A} steady a x is = subst (λ (y : Result A Refusal). Agrees steady Equals (Ok a) y) (sym is) refl
-
--- a step that has a value
-pub has_value : {A : Type 0} (told steady : Bool) (a : A) → IsGiven told steady Equals (Is (Ok a)) (Ok a)
-has_value told steady a = record { told_by = refl; alone = λ t x is. is_alone steady a x is }
 
 -- one step
 module _ {A : Type 0} where
@@ -134,9 +130,6 @@ module _ {A : Type 0} where
   pub ends_later : (old middle new given : ℕ) (r : Result A Halt) → middle ≡ old → Ends middle new given r → Ends old new given r
   ends_later old middle new given r same ends = subst (λ (n : ℕ). Ends n new given r) same ends
 
-  pub ends_in_memory : (old new given : ℕ) (halt : Halt) → new ≡ old → halt ≡ Memory → Ends {A = A} old new given (Err halt)
-  ends_in_memory old new given halt same is = subst (λ (h : Halt). Ends {A = A} old new given (Err h)) (sym is) (record { ok_keeps_count = tt; ok_given = tt; halts = same })
-
 -- a call that opens no file has no fault
 pub no_read_fault : {A : Type 0} (r : Result A Halt) → IfErr r HaltsInside → r ≢ Err ReadFault
 no_read_fault (Ok a) halts is = absurd (cc)
@@ -151,21 +144,6 @@ ends_stopped old new given halt ends = record { ok_keeps_count = tt; ok_given = 
 pub halts_seen : {A B : Type 0} (view : A → B) (r : Result A Halt) → IfErr (seen view r) HaltsInside → IfErr r HaltsInside
 halts_seen view (Ok a) halts = tt
 halts_seen view (Err halt) halts = halts
-
--- ---- want of memory alone
-
-pub memory_given : {A B : Type 0} (told steady : Bool) (Same : B → B → Type 0) (Steps : Result B Refusal → Type 0) (view : A → B) (r : Result A Halt) → IsErrAnd r (λ e. e ≡ Memory)
-    → IsGiven told steady Same Steps (seen view r)
-memory_given told steady Same Steps view (Ok a) is = absurd is
-memory_given told steady Same Steps view (Err halt) is = subst (λ (h : Halt). IsGiven told steady Same Steps (Err h)) (sym is) (no_memory told steady Same Steps)
-
-pub memory_seen : {A B : Type 0} (Same : B → B → Type 0) (Steps : Result B Refusal → Type 0) (view : A → B) (r : Result A Halt) → IsErrAnd r (λ e. e ≡ Memory) → IsRead Same Steps (seen view r)
-memory_seen Same Steps view (Ok a) is = absurd is
-memory_seen Same Steps view (Err halt) is = memory_read Same Steps halt is
-
-pub memory_ends : {A : Type 0} (old new given : ℕ) (r : Result A Halt) → IsErrAnd r (λ e. e ≡ Memory) → new ≡ old → Ends old new given r
-memory_ends old new given (Ok a) is same = absurd is
-memory_ends old new given (Err halt) is same = ends_in_memory old new given halt same is
 
 -- what holds of a value at each index
 pub if_ok_each : {A E I : Type 0} (P : I → A → Type 0) (r : Result A E) → ((i : I) → IfOk r (P i)) → IfOk r (λ a. (i : I) → P i a)
