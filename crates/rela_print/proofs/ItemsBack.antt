@@ -2,7 +2,7 @@
 use Rattle.std.proofs.Common.{◌≡◌, ◌⊎◌, ℕ, ◌+◌, ◌≤◌, Bool, true, false, List, [], ◌∷◌, ◌++◌, map, refl, sym, ap, ◌∙◌, subst, inl, inr, arith, codes, length, append-nil}
 use Rattle.std.specs.Prelude.{⊤, IsSome}
 use Rattle.std.specs.List.{flat_map}
-use Rattle.std.proofs.lemmas.Bool.{cases_Bool, cond-true, cond-false, false≢true}
+use Rattle.std.proofs.lemmas.Bool.{cases_Bool, cond-true, cond-false}
 use Rattle.rela_names.specs.Name.{IsName}
 use Rattle.rela_names.specs.declared.level.Level.{Level}
 use Rattle.rela_names.specs.declared.level.Level.TheVariants as level
@@ -11,9 +11,6 @@ use Rattle.rela_lex.specs.declared.token.TokenKind.TheVariants.{Mark, Bare, Quot
 use Rattle.rela_lex.specs.Spells as lex
 use Rattle.rela_flows.specs.declared.predicate.Predicate.{Predicate}
 use Rattle.rela_flows.specs.declared.predicate.Predicate.TheVariants as flows
-use Rattle.rela_flows.specs.declared.predicate.Predicate.TheOpen as layer
-use Rattle.rela_flows.specs.declared.predicate.Predicate.TheViews.{roll-Predicate, out-Predicate, roll-out-Predicate}
-use Rattle.rela_flows.specs.declared.predicate.Predicate.TheFolds.{fold-roll-Predicate}
 use Rattle.rela_spec.specs.Grammar.{level_word, level_line, condition, path_item, spec_item, check_item, an_item, file, Spells, room_behind, bad_number}
 use Rattle.rela_spec.specs.GrammarWords.{Named, mark, word, name}
 use Rattle.rela_spec.specs.GrammarPaths.{path}
@@ -21,7 +18,7 @@ use Rattle.rela_spec.specs.GrammarPredicates.{predicate}
 use Rattle.rela_spec.specs.GrammarSpecs.{body}
 use Rattle.rela_print.specs.Names.{name_text}
 use Rattle.rela_spec.specs.Phrases.{Phrase, done, ◌>>=◌, ◌>>◌, many}
-use Rattle.rela_print.specs.PredicateTexts.{printed_predicate, all_layer, is_all, condition_text}
+use Rattle.rela_print.specs.PredicateTexts.{printed_predicate, is_all, condition_text}
 use Rattle.rela_print.specs.Print as print
 use Rattle.rela_print.specs.SameTree.{path_at_zero, spec_at_zero, item_at_zero, file_at_zero, SameButOffsets}
 use Rattle.rela_print.specs.SpecTexts.{printed_spec}
@@ -30,6 +27,7 @@ use Rattle.rela_spec.specs.declared.tree.Item.TheVariants as item
 use Rattle.rela_spec.specs.declared.tree.PathExpr.{PathExpr}
 use Rattle.rela_spec.specs.declared.tree.SpecExpr.{SpecExpr}
 use Rattle.rela_spec.specs.declared.tree.SpecFile.{SpecFile}
+use Rattle.rela_print.proofs.PrintedPredicates.{is_all_only}
 use Rattle.rela_print.proofs.ChainTexts.{reads_none, reads_one_more}
 use Rattle.rela_print.proofs.Levels as levels
 use Rattle.rela_print.proofs.PathsBack.{GoodPath, sourced_path, reads_path}
@@ -105,23 +103,6 @@ good_spec m text at s is good = record {
       (reads_definition n (body n) item.Spec text (SameItem (item.Spec text at s)) is (reads_body m n s le good)
       (λ x w p q. ap (λ (y : List ℕ). item.Spec y 0 (spec_at_zero w)) p ∙ ap (λ (y : SpecExpr). item.Spec text 0 y) q)));
 }
-
-only_all : (x : layer.Predicate-F Predicate) → is_all (roll-Predicate x) ≡ true → roll-Predicate x ≡ flows.All
-unfolding is_all
-only_all layer.All e = flows.rolls-All
-only_all (layer.DstIn q) e = absurd (false≢true (sym (fold-roll-Predicate Bool all_layer (layer.DstIn q)) ∙ e))
-only_all (layer.DstOverlaps q) e = absurd (false≢true (sym (fold-roll-Predicate Bool all_layer (layer.DstOverlaps q)) ∙ e))
-only_all (layer.SrcIn q) e = absurd (false≢true (sym (fold-roll-Predicate Bool all_layer (layer.SrcIn q)) ∙ e))
-only_all (layer.SrcOverlaps q) e = absurd (false≢true (sym (fold-roll-Predicate Bool all_layer (layer.SrcOverlaps q)) ∙ e))
-only_all (layer.Flow text) e = absurd (false≢true (sym (fold-roll-Predicate Bool all_layer (layer.Flow text)) ∙ e))
-only_all (layer.Class text) e = absurd (false≢true (sym (fold-roll-Predicate Bool all_layer (layer.Class text)) ∙ e))
-only_all (layer.Not p) e = absurd (false≢true (sym (fold-roll-Predicate Bool all_layer (layer.Not p)) ∙ e))
-only_all (layer.And ps) e = absurd (false≢true (sym (fold-roll-Predicate Bool all_layer (layer.And ps)) ∙ e))
-only_all (layer.Or ps) e = absurd (false≢true (sym (fold-roll-Predicate Bool all_layer (layer.Or ps)) ∙ e))
-
-is_all_only : (p : Predicate) → is_all p ≡ true → p ≡ flows.All
-is_all_only p e =
-    sym (roll-out-Predicate p) ∙ only_all (out-Predicate p) (subst (λ (x : Predicate). is_all x ≡ true) (sym (roll-out-Predicate p)) e)
 
 -- what a check says of its flows: nothing, or `for` and a predicate
 said : (p : Predicate) → ((is_all p ≡ true) × ([] ≡ condition_text p)) ⊎ (32 ∷ (codes "for " ++ (printed_predicate p).text) ≡ condition_text p)

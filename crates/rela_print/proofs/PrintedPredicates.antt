@@ -1,10 +1,12 @@
 -- How predicates are written, form by form.
-use Rattle.std.proofs.Common.{◌≡◌, ◌∙◌, sym, ap, Bool, true, false, ℕ, List, ◌++◌, map, codes}
+use Rattle.std.proofs.Common.{◌≡◌, ◌≢◌, ◌∙◌, inl, inr, sym, ap, subst, Bool, true, false, ℕ, List, ◌++◌, map, codes}
+use Rattle.std.proofs.lemmas.Bool.{cases_Bool, false≢true}
 use Rattle.rela_flows.specs.Notation.{text_of}
 use Rattle.rela_flows.specs.declared.prefix.Prefix.{Prefix}
 use Rattle.rela_flows.specs.declared.predicate.Predicate.{Predicate}
 use Rattle.rela_flows.specs.declared.predicate.Predicate.TheVariants as V
 use Rattle.rela_flows.specs.declared.predicate.Predicate.TheOpen as layer
+use Rattle.rela_flows.specs.declared.predicate.Predicate.TheViews.{roll-Predicate, out-Predicate, roll-out-Predicate}
 use Rattle.rela_flows.specs.declared.predicate.Predicate.TheFolds.{fold-roll-Predicate}
 use Rattle.rela_print.specs.Joined.{joined}
 use Rattle.rela_print.specs.Names.{name_text}
@@ -65,40 +67,25 @@ pub all_all : is_all V.All ≡ true
 unfolding is_all
 all_all = ap is_all (sym V.rolls-All) ∙ fold-roll-Predicate Bool all_layer layer.All
 
-pub all_dstin : (q : Prefix) → is_all (V.DstIn q) ≡ false
+only_all : (x : layer.Predicate-F Predicate) → is_all (roll-Predicate x) ≡ true → roll-Predicate x ≡ V.All
 unfolding is_all
-all_dstin q = ap is_all (sym (V.rolls-DstIn q)) ∙ fold-roll-Predicate Bool all_layer (layer.DstIn q)
+only_all layer.All e = V.rolls-All
+only_all (layer.DstIn q) e = absurd (false≢true (sym (fold-roll-Predicate Bool all_layer (layer.DstIn q)) ∙ e))
+only_all (layer.DstOverlaps q) e = absurd (false≢true (sym (fold-roll-Predicate Bool all_layer (layer.DstOverlaps q)) ∙ e))
+only_all (layer.SrcIn q) e = absurd (false≢true (sym (fold-roll-Predicate Bool all_layer (layer.SrcIn q)) ∙ e))
+only_all (layer.SrcOverlaps q) e = absurd (false≢true (sym (fold-roll-Predicate Bool all_layer (layer.SrcOverlaps q)) ∙ e))
+only_all (layer.Flow text) e = absurd (false≢true (sym (fold-roll-Predicate Bool all_layer (layer.Flow text)) ∙ e))
+only_all (layer.Class text) e = absurd (false≢true (sym (fold-roll-Predicate Bool all_layer (layer.Class text)) ∙ e))
+only_all (layer.Not p) e = absurd (false≢true (sym (fold-roll-Predicate Bool all_layer (layer.Not p)) ∙ e))
+only_all (layer.And ps) e = absurd (false≢true (sym (fold-roll-Predicate Bool all_layer (layer.And ps)) ∙ e))
+only_all (layer.Or ps) e = absurd (false≢true (sym (fold-roll-Predicate Bool all_layer (layer.Or ps)) ∙ e))
 
-pub all_dstoverlaps : (q : Prefix) → is_all (V.DstOverlaps q) ≡ false
-unfolding is_all
-all_dstoverlaps q = ap is_all (sym (V.rolls-DstOverlaps q)) ∙ fold-roll-Predicate Bool all_layer (layer.DstOverlaps q)
+pub is_all_only : (p : Predicate) → is_all p ≡ true → p ≡ V.All
+is_all_only p e =
+    sym (roll-out-Predicate p) ∙ only_all (out-Predicate p) (subst (λ (x : Predicate). is_all x ≡ true) (sym (roll-out-Predicate p)) e)
 
-pub all_srcin : (q : Prefix) → is_all (V.SrcIn q) ≡ false
-unfolding is_all
-all_srcin q = ap is_all (sym (V.rolls-SrcIn q)) ∙ fold-roll-Predicate Bool all_layer (layer.SrcIn q)
-
-pub all_srcoverlaps : (q : Prefix) → is_all (V.SrcOverlaps q) ≡ false
-unfolding is_all
-all_srcoverlaps q = ap is_all (sym (V.rolls-SrcOverlaps q)) ∙ fold-roll-Predicate Bool all_layer (layer.SrcOverlaps q)
-
-pub all_flow : (name : List ℕ) → is_all (V.Flow name) ≡ false
-unfolding is_all
-all_flow name = ap is_all (sym (V.rolls-Flow name)) ∙ fold-roll-Predicate Bool all_layer (layer.Flow name)
-
-pub all_class : (name : List ℕ) → is_all (V.Class name) ≡ false
-unfolding is_all
-all_class name = ap is_all (sym (V.rolls-Class name)) ∙ fold-roll-Predicate Bool all_layer (layer.Class name)
-
-pub all_not : (part : Predicate) → is_all (V.Not part) ≡ false
-unfolding is_all
-all_not part = ap is_all (sym (V.rolls-Not part)) ∙ fold-roll-Predicate Bool all_layer (layer.Not part)
-
-pub all_and : (parts : List Predicate) → is_all (V.And parts) ≡ false
-unfolding is_all
-all_and parts = ap is_all (sym (V.rolls-And parts)) ∙ fold-roll-Predicate Bool all_layer (layer.And parts)
-
-pub all_or : (parts : List Predicate) → is_all (V.Or parts) ≡ false
-unfolding is_all
-all_or parts = ap is_all (sym (V.rolls-Or parts)) ∙ fold-roll-Predicate Bool all_layer (layer.Or parts)
-
-pub ruleset all_forms = (all_all, all_dstin, all_dstoverlaps, all_srcin, all_srcoverlaps, all_flow, all_class, all_not, all_and, all_or)
+pub others_are_not_all : (p : Predicate) → p ≢ V.All → is_all p ≡ false
+others_are_not_all p other = elim (cases_Bool (is_all p)) [
+  | inl all ↦ absurd (other (is_all_only p all))
+  | inr some ↦ some
+]

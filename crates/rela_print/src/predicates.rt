@@ -54,22 +54,11 @@ pub(crate) fn push_condition(out: &mut Vec<u8>, when: &Predicate) -> Result<(), 
 }
 
 /// Whether the predicate is `all` itself.
-#[tactic(auto, using(crate::proofs::PrintedPredicates::all_forms))]
+#[tactic(auto, using(crate::proofs::PrintedPredicates::all_all))]
 fn is_all(predicate: &Predicate) -> bool
     ensures { result ≡ is_all predicate.now }
 {
-    match predicate {
-        Predicate::All => true,
-        Predicate::DstIn(_)
-        | Predicate::DstOverlaps(_)
-        | Predicate::SrcIn(_)
-        | Predicate::SrcOverlaps(_)
-        | Predicate::Flow(_)
-        | Predicate::Class(_)
-        | Predicate::Not(_)
-        | Predicate::And(_)
-        | Predicate::Or(_) => false,
-    }
+    matches!(predicate, Predicate::All)
 }
 
 /// Appends the text of the predicate.
