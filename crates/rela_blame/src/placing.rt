@@ -2,6 +2,7 @@
 
 ghost use Rattle.std.specs.Prelude.{◌≡◌, ℕ, ◌-◌, ◌^◌, ◌<◌, ◌≤◌, [], IfOk, length, slice_get};
 ghost use Rattle.rela_blame.specs.Alternatives.{StandsAt, check_leads, leads_from};
+ghost use Rattle.rela_blame.specs.Tables.{IsTable, named_by};
 ghost use Rattle.rela_blame.specs.Units.{unit_offsets};
 
 use crate::definitions::Definitions;
@@ -55,15 +56,33 @@ fn unit_of_check(
 {
     let mut table = Definitions::new(alloc);
     let mut units = Units::new(tokens);
+    unit_behind(alloc, items, &mut table, &mut units, check, before)
+}
+
+/// The offset that [`unit_of_check`] gives, of items behind those that the table defines. `units` are
+/// those of these items.
+fn unit_behind<'a>(
+    alloc: Global,
+    items: &'a [Item],
+    table: &mut Definitions<'a>,
+    units: &mut Units<'_>,
+    check: &Name,
+    before: usize,
+) -> Result<Option<u32>, AllocError>
+    requires few { before < 2 ^ 64 - 1 }
+    requires table { IsTable table.old }
+    ensures { IfOk result (λ at. at ≡ slice_get (leads_from (named_by table.old)
+        (unit_offsets units.old.tokens.now) items.now check.now) before) }
+{
     for item in items {
         match item {
             Item::Path { .. } => {}
             Item::Spec { name, body, .. } => {
-                let leads = read(alloc, &table, &mut units, body)?;
+                let leads = read(alloc, table, units, body)?;
                 table.define(name.as_bytes(), leads)?;
             }
             Item::Check { name, body, .. } => {
-                let leads = read(alloc, &table, &mut units, body)?;
+                let leads = read(alloc, table, units, body)?;
                 if name.as_bytes() == check.as_bytes() {
                     return Ok(table.unit_at(leads.as_slice(), before));
                 }

@@ -5,8 +5,8 @@ use Rattle.rela_blame.specs.Units.{unit_offsets}
 use Rattle.rela_blame.specs.declared.definitions.Definitions.{Definitions}
 use Rattle.rela_blame.specs.declared.units.Units.{Units}
 use Rattle.rela_blame.proofs.Walks.{check_walked, path_walked, spec_walked}
-use Rattle.rela_blame.proofs.placing.unit_of_check.Goals as goal
-use Rattle.rela_blame.proofs.placing.unit_of_check.Goals.{in-Path, in-Spec+in_ok-leads-in-Spec+in_ok-define-in-Spec, in-Check+in_ok-leads-in-Check+else-eq}
+use Rattle.rela_blame.proofs.placing.unit_behind.Goals as goal
+use Rattle.rela_blame.proofs.placing.unit_behind.Goals.{in-Path, in-Spec+in_ok-leads-in-Spec+in_ok-define-in-Spec, in-Check+in_ok-leads-in-Check+else-eq}
 
 pub loop-item-preserved : goal.loop-item-preserved
 loop-item-preserved c =
