@@ -1,6 +1,6 @@
 //! The claims of an assertion file.
 
-ghost use Rattle.std.specs.Prelude.{◌≡◌, ◌≢◌, ◌≤◌, Err, Ok, IfErr, IfOk, map};
+ghost use Rattle.std.specs.Prelude.{◌≡◌, ◌≢◌, ◌≤◌, [], Err, Ok, IfErr, IfOk, map};
 ghost use Rattle.std.specs.List.{All};
 ghost use Rattle.rela_lex.specs.declared.error.SpecError.TheVariants.{Memory};
 ghost use Rattle.rela_json.specs.Results.{try_map};
@@ -8,7 +8,7 @@ ghost use Rattle.rela_claims.specs.Claims.{ListsPathSymbols, NamesByClasses, cla
 ghost use Rattle.rela_claims.specs.Classes.{resolved_class};
 ghost use Rattle.rela_claims.specs.Sizes.{size_of_tree};
 ghost use Rattle.rela_claims.specs.Terms.{mentions_in};
-ghost use Rattle.rela_claims.specs.Written.{classes_of, mentioned};
+ghost use Rattle.rela_claims.specs.Written.{classes_of, mentioned, names_taken};
 
 use crate::claim::Claim;
 use crate::classes::Mention;
@@ -59,6 +59,26 @@ pub fn resolve(
     ensures plain { IfOk result (λ claims. All NamesByClasses claims.items) }
 {
     let mut names = Names::new(alloc);
+    resolve_each(alloc, file, locations, &mut names)
+}
+
+/// The claims of [`resolve`], where no name is taken yet.
+fn resolve_each<'a>(
+    alloc: Global,
+    file: &'a AssertFile,
+    locations: &Locations,
+    names: &mut Names<'a>,
+) -> Result<Vec<Claim>, SpecError>
+    requires { names_taken names.old ≡ [] }
+    ensures claims { IfOk result (λ claims.
+        claims_of locations.now file.now ≡ Ok (map claimed_of claims.items)) }
+    ensures refused { IfErr result (λ e. e ≢ Memory → claims_of locations.now file.now ≡ Err e) }
+    ensures below { IfOk result (λ claims. All (ListsPathSymbols (record {
+      network = locations.now;
+      level = file.now.level;
+    })) claims.items) }
+    ensures plain { IfOk result (λ claims. All NamesByClasses claims.items) }
+{
     let mut claims = Vec::new(alloc);
     for assertion in file.asserts.as_slice() {
         names.take(&assertion.name, assertion.at)?;

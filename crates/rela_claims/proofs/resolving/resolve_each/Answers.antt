@@ -8,7 +8,7 @@ use Rattle.rela_claims.specs.Classes.{Place}
 use Rattle.rela_claims.proofs.Making.{claim_added, claim_refused, name_refused}
 use Rattle.rela_claims.proofs.Steps.{fold_goes_on, fold_stops}
 use Rattle.rela_claims.proofs.Views.{map_last}
-use Rattle.rela_claims.proofs.resolving.resolve.Goals as goal
+use Rattle.rela_claims.proofs.resolving.resolve_each.Goals as goal
 
 pub returns-in_err-take-clause-refused : goal.returns-in_err-take-clause-refused
 unfolding claims_of

@@ -2,7 +2,7 @@ use Rattle.std.proofs.Common.{◌≡◌, [], All, drop, map}
 use Rattle.rela_json.specs.Results.{try_fold}
 use Rattle.rela_claims.specs.Claims.{ListsPathSymbols, NamesByClasses, claimed_of, names_of, with_claim}
 use Rattle.rela_claims.specs.Written.{names_taken}
-use Rattle.rela_claims.proofs.resolving.resolve.Given as goal
+use Rattle.rela_claims.proofs.resolving.resolve_each.Given as goal
 
 abbrev pub invariant-loop-assertion : goal.invariant-loop-assertion
 invariant-loop-assertion l = record {
