@@ -58,17 +58,24 @@ pub still_accepted : (a n : Automaton) (d m : Deterministic) (over : List Bool) 
 still_accepted a n d m over count all language least same_words w below accepted =
     (same_words w).1 ((least w).1 ((language w).1 (all_over over count all w below, accepted)))
 
--- the acts of one transducer, the words that are no acts of another, those that are both, and what was made of these
-module _ (a b : Machine) (ok_a : IsMachine a) (ok_b : IsMachine b) (same : a.letters ≡ b.letters) (acts others both x : Automaton) (acts_are : acts ≡ act_automaton a)
-    (rest : (w : List ℕ) → All (λ k. k < act_count b.letters) w → Accepts (act_automaton b) w ⊎ Accepts others w) (letters_are : both.letters ≡ acts.letters)
-    (meets : (w : List ℕ) → Accepts both w ↔ (Accepts acts w × Accepts others w))
+-- the words of acts that one transducer can do, and another can't
+pub beyond : (first second acts others both : Automaton) → acts ≡ first → ((w : List ℕ) → Accepts both w ↔ (Accepts acts w × Accepts others w)) → (w : List ℕ)
+    → Accepts second w ⊎ Accepts others w → Accepts first w → Accepts second w ⊎ Accepts both w
+beyond first second acts others both acts_are meets w rest accepted = elim rest [
+  | inl can ↦ inl can
+  | inr other ↦ inr ((meets w).1 (subst (λ (m : Automaton). Accepts m w) (sym acts_are) accepted, other))
+]
+
+-- the acts of one transducer that another can't do, and what was made of these
+module _ (a b : Machine) (ok_a : IsMachine a) (ok_b : IsMachine b) (same : a.letters ≡ b.letters) (both x : Automaton) (letters_are : both.letters ≡ act_count a.letters)
+    (rest : (w : List ℕ) → All (λ k. k < act_count b.letters) w → Accepts (act_automaton a) w → Accepts (act_automaton b) w ⊎ Accepts both w)
     (least : (w : List ℕ) → All (λ k. k < both.letters) w → Accepts both w → Accepts x w) (read : ℕ → ℕ) where
   by_acts : (u v : List ℕ) → Performed read a ok_a u v → Relates read b u v ⊎ IsInExcess read (record { letters = a.letters; acts = x }) u v
   by_acts u v does =
       let w = act_letters read a.letters does.word in
       let below : All (λ k. k < act_count a.letters) w = acts_below read a.letters does.word does.letters in
-      let in_both : All (λ k. k < both.letters) w = subst (λ (n : ℕ). All (λ k. k < n) w) (sym (letters_are ∙ ap (λ (m : Automaton). m.letters) acts_are)) below in
-      elim (rest w (subst (λ (n : ℕ). All (λ k. k < act_count n) w) same below)) [
+      let in_both : All (λ k. k < both.letters) w = subst (λ (n : ℕ). All (λ k. k < n) w) (sym letters_are) below in
+      elim (rest w (subst (λ (n : ℕ). All (λ k. k < act_count n) w) same below) does.accepted) [
         | inl second ↦
             inl (subst (λ l. Relates read b l v) does.input (subst (λ l. Relates read b (input_of does.word) l) does.output
             (related read b ok_b does.word (subst (λ (n : ℕ). AreOfLetters read n does.word) same does.letters)
@@ -78,7 +85,7 @@ module _ (a b : Machine) (ok_a : IsMachine a) (ok_b : IsMachine b) (same : a.let
           input = does.input;
           output = does.output;
           letters = does.letters;
-          accepted = least w in_both ((meets w).1 (subst (λ (m : Automaton). Accepts m w) (sym acts_are) does.accepted, other));
+          accepted = least w in_both other;
         })
       ]
 

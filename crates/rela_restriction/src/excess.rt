@@ -69,14 +69,9 @@ impl<L: LabelSet> Excess<L> {
         prove!(first.start() < first.states());
         prove!(second.start() < second.states());
         let letters = first.letters();
-        let acts = act_automaton(alloc, first)?;
-        let others = other_acts(alloc, second, limit)?;
-        let both = acts.meet(alloc, &others, limit)?;
-        let least = minimal(alloc, &both, limit)?;
-        Ok(Excess {
-            letters,
-            acts: least,
-        })
+        let beyond = acts_beyond(alloc, first, second, limit)?;
+        let acts = minimal(alloc, &beyond, limit)?;
+        Ok(Excess { letters, acts })
     }
 
     /// The number of letters of the transducers.
@@ -99,6 +94,28 @@ impl<L: LabelSet> Excess<L> {
         let over: L = acts_on(alloc, self.letters, inputs)?;
         accepts_none(alloc, &self.acts, &over)
     }
+}
+
+/// The automaton of the words of acts that the first transducer can do for a pair that it relates, and
+/// the second can't. `Limit` where it, or that of what the second can't do, has more than `limit` states.
+fn acts_beyond<L: LabelSet>(
+    alloc: Global,
+    first: &Transducer<L>,
+    second: &Transducer<L>,
+    limit: usize,
+) -> Result<Nfa<L>, BuildError>
+    requires letters { first.now.letters ≡ second.now.letters }
+    requires fits { L.fits (act_count first.now.letters) }
+    requires few { act_count first.now.letters < 2 ^ 32 }
+    requires limit { 1 ≤ limit }
+    ensures letters { IfOk result (λ nfa. nfa.letters ≡ act_count first.now.letters) }
+    ensures beyond { IfOk result (λ nfa. (w : List ℕ) →
+        All (λ k. k < act_count second.now.letters) w → Accepts (act_automaton first.now) w
+        → Accepts (act_automaton second.now) w ⊎ Accepts nfa w) }
+{
+    let acts = act_automaton(alloc, first)?;
+    let others = other_acts(alloc, second, limit)?;
+    acts.meet(alloc, &others, limit)
 }
 
 /// The automaton of the words of acts that the transducer can't do for any pair that it relates.
