@@ -1,6 +1,5 @@
 -- The words that are found for a row make its blocks.
 use Rattle.std.proofs.Common.{◌≡◌, ◌∙◌, ℕ, zero, suc, ◌+◌, ◌<◌, Bool, Some, None, List, [], ◌∷◌, ◌++◌, length, get_or, refl, sym, ap, subst}
-use Rattle.std.specs.Prelude.{IfSome, Option}
 use Rattle.std.specs.List.{All, AllByRecursion, slice_get}
 use Rattle.std.proofs.lemmas.List.Elements.{All-cons, All-nil}
 use Rattle.rela_blocks.specs.RowBlocks.{symbols_of}
@@ -27,7 +26,6 @@ use Rattle.rela_cert.specs.RowParts.{lettering_at, locations_of, paths_at}
 use Rattle.rela_cert.specs.Rows.{images_of, parts_of}
 use Rattle.rela_cert.specs.Subject.{shape_of}
 use Rattle.rela_cert.specs.declared.row.Row.{Row}
-use Rattle.rela_cert.specs.declared.row_words.RowWords.{RowWords}
 use Rattle.rela_cert.proofs.ByStates.{agree_images, agree_part, same_one, same_two}
 use Rattle.rela_cert.proofs.FoundBlocks.{are_first, block, closed, letters_below}
 
@@ -152,10 +150,3 @@ pub images_below : (row : Row) (blocks : List ℕ) (complements : List (List let
     → All (λ step. step.letter < block_count blocks) images
 images_below row blocks complements images words =
     letters_below words.over (words.before ∷ words.after ∷ []) images (block_count blocks) words.holds.size words.found
-
--- the words by the blocks of the row, where the letters are those of the blocks
-pub words_here : (row : Row) (blocks : List ℕ) (letters : Lettering) (found : Option RowWords) (words : RowWords) → letters ≡ lettering_at row blocks → found ≡ Some words
-    → IfSome found (λ ws. AreRowWords row letters.blocks ws.complements.items ws.images) → AreRowWords row blocks words.complements.items words.images
-words_here row blocks letters found words are is told =
-    subst (λ (bs : List ℕ). AreRowWords row bs words.complements.items words.images) (ap (λ (l : Lettering). l.blocks) are)
-    (rw is at told)

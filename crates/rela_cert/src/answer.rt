@@ -1,7 +1,7 @@
 //! What is found of a certificate.
 
 /// What an audit finds of a text.
-#[derive(Clone, Copy, Debug, PartialEq, Eq)]
+#[derive(Clone, Copy)]
 pub enum Audit {
     /// It is a certificate, and the check of each row that it lists is met.
     Accepted {
