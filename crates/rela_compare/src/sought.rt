@@ -8,7 +8,7 @@ use rela_nfa::Nfa;
 use rela_subset::Wanted;
 
 /// Which words are looked for.
-#[derive(Clone, Copy, Debug)]
+#[derive(Clone, Copy)]
 pub(crate) enum Sought {
     /// Those that the first of two automata accepts and the second doesn't.
     FirstAlone,

@@ -11,7 +11,7 @@ pub enum Which {
 }
 
 /// What a comparison of two automata tells.
-#[derive(Debug, Drop)]
+#[derive(Drop)]
 pub enum Verdict {
     /// No word tells them apart.
     Same,
