@@ -1,5 +1,5 @@
 //! Images of single words, over four fine letters and three coarse ones, by a table.
-ghost use Rattle.std.specs.Prelude.{◌≡◌, IfOk, length};
+ghost use Rattle.std.specs.Prelude.{◌≡◌, ◌<◌, All, IfOk};
 
 use rela_labels::{BlockSet, LabelSet};
 use rela_letter_image::{LetterRelation, by_letters, letter_image};
@@ -83,27 +83,52 @@ fn spells(image: &LetterNfa, state: u32, word: &[u32], steps: u32) -> bool {
     false
 }
 
-/// Whether the image of the word of fine letters has the other word, where it has at most `most`
-/// states and edges.
-fn has_word(
+/// The automaton of this word of fine letters, by its letters, where it has at most `most` states and
+/// edges.
+fn path_of(alloc: Global, path: &[u32], most: usize) -> Result<Option<LetterNfa>, AllocError>
+    requires { All (λ k. k < 4) path.now }
+{
+    let word: Nfa<Letters> = Nfa::word(alloc, 4, path)?;
+    by_letters(alloc, &word, most)
+}
+
+/// The relation of this form, by its letters.
+fn letter_relation(alloc: Global, form: &Form) -> Result<LetterRelation, AllocError> {
+    let relation = relation(alloc, form)?;
+    LetterRelation::new(alloc, &relation)
+}
+
+/// Whether the image was made, and has the word.
+fn has(image: Result<Option<LetterNfa>, AllocError>, word: &[u32]) -> Option<bool> {
+    match image {
+        Ok(Some(image)) => Some(spells(&image, image.start(), word, 20)),
+        _ => None,
+    }
+}
+
+/// Whether the image of the path has the word, where it has at most `most` states and edges.
+fn leads_to(
     alloc: Global,
     form: &Form,
-    path: &[u32],
+    path: &LetterNfa,
     most: usize,
     word: &[u32],
-) -> Result<Option<bool>, AllocError> {
-    if !are_letters(path, 4) {
-        return Ok(None);
+) -> Option<bool> {
+    match letter_relation(alloc, form) {
+        Ok(relation) => has(letter_image(alloc, path, &relation, &COARSE, most), word),
+        Err(_) => None,
     }
-    let paths: Nfa<Letters> = Nfa::word(alloc, 4, path)?;
-    let Some(paths) = by_letters(alloc, &paths, most)? else {
-        return Ok(None);
-    };
-    let relation = relation(alloc, form)?;
-    let relation = LetterRelation::new(alloc, &relation)?;
-    match letter_image(alloc, &paths, &relation, &COARSE, most)? {
-        Some(image) => Ok(Some(spells(&image, image.start(), word, 20))),
-        None => Ok(None),
+}
+
+/// Whether the image of the word of fine letters has the other word, where the word and its image have at
+/// most `most` states and edges. `None` where one has more, or there is no memory to tell.
+fn has_word(alloc: Global, form: &Form, path: &[u32], most: usize, word: &[u32]) -> Option<bool> {
+    if !are_letters(path, 4) {
+        return None;
+    }
+    match path_of(alloc, path, most) {
+        Ok(Some(path)) => leads_to(alloc, form, &path, most, word),
+        _ => None,
     }
 }
 
@@ -133,6 +158,6 @@ const CASES: &[Case<'static>] = &[
 fn words_of_images(rt: HostRuntime) {
     for case in CASES {
         let found = has_word(rt.alloc(), &case.0, case.1, case.2, case.3);
-        assert_eq!(rt; found, Ok(case.4));
+        assert_eq!(rt; found, case.4);
     }
 }
