@@ -1,5 +1,5 @@
 //! The letters of a set, listed.
-ghost use Rattle.std.specs.Prelude.{◌≡◌, ℕ, ◌<◌, ◌↔◌, true, All, Contains, IfOk, IfSome, length};
+ghost use Rattle.std.specs.Prelude.{◌≡◌, ℕ, ◌<◌, ◌↔◌, true, All, Contains, IfOk, length};
 ghost use Rattle.rela_labels.specs.Letters.{has};
 
 use rela_labels::{LabelSet, WideSet};
@@ -12,28 +12,9 @@ pub(crate) fn members_of(alloc: Global, set: &WideSet) -> Result<Vec<u32>, Alloc
     ensures each { IfOk result (λ members. (k : ℕ) →
         Contains members.items k ↔ (has set.now k ≡ true)) }
 {
-    match only_letter(alloc, set)? {
+    match set.only() {
         Some(letter) => Ok(vec![in alloc; letter; 1]?),
         None => listed(alloc, set),
-    }
-}
-
-/// The letter of the set, if it has just one, and else `None`. Time: a step for each word of 64
-/// letters.
-fn only_letter(alloc: Global, set: &WideSet) -> Result<Option<u32>, AllocError>
-    ensures below { IfOk result (λ only. IfSome only (λ letter. letter < length set.now)) }
-    ensures only { IfOk result (λ only. IfSome only (λ letter. (k : ℕ) →
-        (has set.now k ≡ true) ↔ (k ≡ letter))) }
-{
-    let Some(least) = set.least() else {
-        return Ok(None);
-    };
-    let mut single = WideSet::none(alloc, set.size())?;
-    single.add(alloc, least)?;
-    if set.same(&single) {
-        Ok(Some(least))
-    } else {
-        Ok(None)
     }
 }
 
