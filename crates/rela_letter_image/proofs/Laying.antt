@@ -12,13 +12,12 @@ use Rattle.rela_trans.specs.Stored.{kind_of, move_of}
 use Rattle.rela_trans.specs.declared.moves.Move.{Move}
 use Rattle.rela_trans.specs.declared.moves.MoveKind.{MoveKind}
 use Rattle.rela_letter_image.specs.Branches.{led_to}
-use Rattle.rela_letter_image.specs.LetterMoves.{AreLaidOut, AreLettersOf, Gains, GainsAll, IsLaidOut, all_moves, alone_move, letter_move, set_move}
+use Rattle.rela_letter_image.specs.LetterMoves.{Laid, none_laid, with_alone, with_letter, with_set, AreLaidOut, AreLettersOf, Gains, GainsAll, IsLaidOut, all_moves, alone_move, letter_move, set_move}
 use Rattle.rela_letter_image.specs.declared.letter_moves.AloneMove.{AloneMove}
 use Rattle.rela_letter_image.specs.declared.letter_moves.LetterMove.{LetterMove}
 use Rattle.rela_letter_image.specs.declared.letter_moves.SetMove.{SetMove}
-use Rattle.rela_letter_image.specs.declared.letter_moves.StateMoves.{StateMoves}
 use Rattle.rela_letter_image.proofs.GrownSteps.{only_one}
-use Rattle.rela_letter_image.proofs.StepsGo.{first_in}
+use Rattle.rela_letter_image.proofs.StepsGo.{Contains-nil, first_in}
 
 -- ---- a set that is copied letter by letter
 
@@ -127,35 +126,35 @@ module _ (xs ys zs : List (Move (List Bool))) (m : Move (List Bool)) where
     ],
   )
 
-module _ (letters : ℕ) (old new : StateMoves) where
-  pub gains_alone : (x : AloneMove) (move : Move (List Bool)) → alone_move x ≡ move → new.alone.items ≡ old.alone.items ++ x ∷ [] → new.by_set.items ≡ old.by_set.items → new.by_letter.items ≡ old.by_letter.items
-      → Gains letters move old new
-  gains_alone x move is one two three = record {
+module _ (letters : ℕ) (old new : List Laid × Laid) where
+  pub gains_alone : (x : AloneMove) (move : Move (List Bool)) → alone_move x ≡ move → new ≡ (old.0, with_alone old.1 x) → Gains letters move old new
+  gains_alone x move is gained = record {
+    ended = ap (λ v. v.0) gained;
     same = λ other.
-        subst (λ l. Contains l other ↔ (Contains (all_moves letters old) other ⊎ (move ≡ other)))
-        (sym (λ i. (ap (map alone_move) one ∙ map-append alone_move old.alone.items (x ∷ []) ∙ ap (λ y. map alone_move old.alone.items ++ y ∷ []) is) i ++ map set_move (two i) ++ map (letter_move letters) (three i)))
-        (more_one (map alone_move old.alone.items) (map set_move old.by_set.items) (map (letter_move letters) old.by_letter.items) other move);
-    below = λ all. subst (λ l. All (λ (m : LetterMove). m.letter < letters) l) (sym three) all;
+        subst (λ l. Contains l other ↔ (Contains (all_moves letters old.1) other ⊎ (move ≡ other)))
+        (sym ((λ i. all_moves letters (gained i).1) ∙ (λ i. (map-append alone_move old.1.alone (x ∷ []) ∙ ap (λ y. map alone_move old.1.alone ++ y ∷ []) is) i ++ map set_move old.1.by_set ++ map (letter_move letters) old.1.by_letter)))
+        (more_one (map alone_move old.1.alone) (map set_move old.1.by_set) (map (letter_move letters) old.1.by_letter) other move);
+    below = λ all. subst (λ l. All (λ (m : LetterMove). m.letter < letters) l) (sym (ap (λ v. v.1.by_letter) gained)) all;
   }
 
-  pub gains_set : (x : SetMove) (move : Move (List Bool)) → set_move x ≡ move → new.alone.items ≡ old.alone.items → new.by_set.items ≡ old.by_set.items ++ x ∷ [] → new.by_letter.items ≡ old.by_letter.items
-      → Gains letters move old new
-  gains_set x move is one two three = record {
+  pub gains_set : (x : SetMove) (move : Move (List Bool)) → set_move x ≡ move → new ≡ (old.0, with_set old.1 x) → Gains letters move old new
+  gains_set x move is gained = record {
+    ended = ap (λ v. v.0) gained;
     same = λ other.
-        subst (λ l. Contains l other ↔ (Contains (all_moves letters old) other ⊎ (move ≡ other)))
-        (sym (λ i. map alone_move (one i) ++ (ap (map set_move) two ∙ map-append set_move old.by_set.items (x ∷ []) ∙ ap (λ y. map set_move old.by_set.items ++ y ∷ []) is) i ++ map (letter_move letters) (three i)))
-        (more_two (map alone_move old.alone.items) (map set_move old.by_set.items) (map (letter_move letters) old.by_letter.items) other move);
-    below = λ all. subst (λ l. All (λ (m : LetterMove). m.letter < letters) l) (sym three) all;
+        subst (λ l. Contains l other ↔ (Contains (all_moves letters old.1) other ⊎ (move ≡ other)))
+        (sym ((λ i. all_moves letters (gained i).1) ∙ (λ i. map alone_move old.1.alone ++ (map-append set_move old.1.by_set (x ∷ []) ∙ ap (λ y. map set_move old.1.by_set ++ y ∷ []) is) i ++ map (letter_move letters) old.1.by_letter)))
+        (more_two (map alone_move old.1.alone) (map set_move old.1.by_set) (map (letter_move letters) old.1.by_letter) other move);
+    below = λ all. subst (λ l. All (λ (m : LetterMove). m.letter < letters) l) (sym (ap (λ v. v.1.by_letter) gained)) all;
   }
 
-  pub gains_letter : (x : LetterMove) (move : Move (List Bool)) → letter_move letters x ≡ move → x.letter < letters → new.alone.items ≡ old.alone.items → new.by_set.items ≡ old.by_set.items
-      → new.by_letter.items ≡ old.by_letter.items ++ x ∷ [] → Gains letters move old new
-  gains_letter x move is below one two three = record {
+  pub gains_letter : (x : LetterMove) (move : Move (List Bool)) → letter_move letters x ≡ move → x.letter < letters → new ≡ (old.0, with_letter old.1 x) → Gains letters move old new
+  gains_letter x move is below gained = record {
+    ended = ap (λ v. v.0) gained;
     same = λ other.
-        subst (λ l. Contains l other ↔ (Contains (all_moves letters old) other ⊎ (move ≡ other)))
-        (sym (λ i. map alone_move (one i) ++ map set_move (two i) ++ (ap (map (letter_move letters)) three ∙ map-append (letter_move letters) old.by_letter.items (x ∷ []) ∙ ap (λ y. map (letter_move letters) old.by_letter.items ++ y ∷ []) is) i))
-        (more_three (map alone_move old.alone.items) (map set_move old.by_set.items) (map (letter_move letters) old.by_letter.items) other move);
-    below = λ all. subst (λ l. All (λ (m : LetterMove). m.letter < letters) l) (sym three) (All-push (λ (m : LetterMove). m.letter < letters) old.by_letter.items x all below);
+        subst (λ l. Contains l other ↔ (Contains (all_moves letters old.1) other ⊎ (move ≡ other)))
+        (sym ((λ i. all_moves letters (gained i).1) ∙ (λ i. map alone_move old.1.alone ++ map set_move old.1.by_set ++ (map-append (letter_move letters) old.1.by_letter (x ∷ []) ∙ ap (λ y. map (letter_move letters) old.1.by_letter ++ y ∷ []) is) i)))
+        (more_three (map alone_move old.1.alone) (map set_move old.1.by_set) (map (letter_move letters) old.1.by_letter) other move);
+    below = λ all. subst (λ l. All (λ (m : LetterMove). m.letter < letters) l) (sym (ap (λ v. v.1.by_letter) gained)) (All-push (λ (m : LetterMove). m.letter < letters) old.1.by_letter x all below);
   }
 
 -- the move, by what its kind is, where it leads to another state
@@ -163,8 +162,9 @@ pub move_is : {L : Type 0} (letters : L → List Bool) (move : Move L) (kind : M
 move_is letters move kind to is = λ i. record { kind = kind_of letters (sym is i); to = to }
 
 -- and one more of them
-pub gains_one : (letters : ℕ) (move : Move (List Bool)) (old new : StateMoves) → Gains letters move old new → GainsAll letters (move ∷ []) old new
+pub gains_one : (letters : ℕ) (move : Move (List Bool)) (old new : List Laid × Laid) → Gains letters move old new → GainsAll letters (move ∷ []) old new
 gains_one letters move old new gains = record {
+  ended = gains.ended;
   same = λ other. (
     λ among. elim ((gains.same other).0 among) [ inl earlier ↦ inl earlier | inr here ↦ inr (subst (Contains (move ∷ [])) here (first_in move [])) ],
     λ either. (gains.same other).1 (elim either [ inl earlier ↦ inl earlier | inr gained ↦ inr (only_one move other gained) ]),
@@ -172,11 +172,12 @@ gains_one letters move old new gains = record {
   below = gains.below;
 }
 
-pub gains_more : {X : Type 0} (f : X → Move (List Bool)) (xs : List X) (i : ℕ) (d : X) → i < length xs → (letters : ℕ) (old mid new : StateMoves)
+pub gains_more : {X : Type 0} (f : X → Move (List Bool)) (xs : List X) (i : ℕ) (d : X) → i < length xs → (letters : ℕ) (old mid new : List Laid × Laid)
     → GainsAll letters (map f (take i xs)) old mid → Gains letters (f (get_or xs i d)) mid new → GainsAll letters (map f (take (i + 1) xs)) old new
 gains_more f xs i d below letters old mid new so_far gains = record {
+  ended = gains.ended ∙ so_far.ended;
   same = λ move.
-      subst (λ l. Contains (all_moves letters new) move ↔ (Contains (all_moves letters old) move ⊎ Contains l move)) (sym (map_more f xs i d below)) (
+      subst (λ l. Contains (all_moves letters new.1) move ↔ (Contains (all_moves letters old.1) move ⊎ Contains l move)) (sym (map_more f xs i d below)) (
         λ among. elim ((gains.same move).0 among) [
           | inl earlier ↦ elim ((so_far.same move).0 earlier) [
             | inl first ↦ inl first
@@ -203,38 +204,61 @@ flat_more g f xs i x below at =
     ap (flat_map g) (map_more f xs i x below ∙ ap (λ y. so_far ++ f y ∷ []) at) ∙ flat_map-append g so_far (f x ∷ []) ∙ ap (λ l. flat_map g so_far ++ l) (append-nil (g (f x)))
 
 -- and what is made of one more move
-pub laid_out_more : {X : Type 0} (g : Move (List Bool) → List (Move (List Bool))) (f : X → Move (List Bool)) (xs : List X) (i : ℕ) (x : X) → i < length xs → get_or xs i x ≡ x → (letters : ℕ) (old new : StateMoves)
-    → IsLaidOut letters (flat_map g (map f (take i xs))) old → GainsAll letters (g (f x)) old new → IsLaidOut letters (flat_map g (map f (take (i + 1) xs))) new
-laid_out_more g f xs i x below at letters old new so_far gains = record {
-  same = λ move.
-      let earlier_ones = flat_map g (map f (take i xs)) in
-      subst (λ l. Contains (all_moves letters new) move ↔ Contains l move) (sym (flat_more g f xs i x below at)) (
-        λ among. elim ((gains.same move).0 among) [
-          | inl earlier ↦ Contains-append_left earlier_ones (g (f x)) move ((so_far.same move).0 earlier)
-          | inr new ↦ Contains-append_right earlier_ones (g (f x)) move new
-        ],
-        λ among. (gains.same move).1 (elim (Contains-append_cases earlier_ones (g (f x)) move among) [
-          | inl earlier ↦ inl ((so_far.same move).1 earlier)
-          | inr new ↦ inr new
-        ]),
-      );
-  below = gains.below so_far.below;
+pub gains_flat_more : {X : Type 0} (g : Move (List Bool) → List (Move (List Bool))) (f : X → Move (List Bool)) (xs : List X) (i : ℕ) (x : X) → i < length xs → get_or xs i x ≡ x
+    → (letters : ℕ) (old mid new : List Laid × Laid) → GainsAll letters (flat_map g (map f (take i xs))) old mid → GainsAll letters (g (f x)) mid new
+    → GainsAll letters (flat_map g (map f (take (i + 1) xs))) old new
+gains_flat_more g f xs i x below at letters old mid new so_far gains =
+    let earlier_ones = flat_map g (map f (take i xs)) in
+    record {
+      ended = gains.ended ∙ so_far.ended;
+      same = λ move.
+          subst (λ l. Contains (all_moves letters new.1) move ↔ (Contains (all_moves letters old.1) move ⊎ Contains l move)) (sym (flat_more g f xs i x below at)) (
+            λ among. elim ((gains.same move).0 among) [
+              | inl earlier ↦ elim ((so_far.same move).0 earlier) [ inl first ↦ inl first | inr gained ↦ inr (Contains-append_left earlier_ones (g (f x)) move gained) ]
+              | inr here ↦ inr (Contains-append_right earlier_ones (g (f x)) move here)
+            ],
+            λ either. (gains.same move).1 (elim either [
+              | inl first ↦ inl ((so_far.same move).1 (inl first))
+              | inr gained ↦ elim (Contains-append_cases earlier_ones (g (f x)) move gained) [ inl earlier ↦ inl ((so_far.same move).1 (inr earlier)) | inr here ↦ inr here ]
+            ]),
+          );
+      below = λ all. gains.below (so_far.below all);
+    }
+
+pub gains_none : (letters : ℕ) (lists : List Laid × Laid) → GainsAll letters [] lists lists
+gains_none letters lists = record {
+  ended = refl;
+  same = λ move. (λ among. inl among, λ either. elim either [ inl among ↦ among | inr none ↦ absurd (Contains-nil move none) ]);
+  below = λ all. all;
+}
+
+-- the moves of a state that had none
+pub laid_from_none : (letters : ℕ) (moves : List (Move (List Bool))) (old new : List Laid × Laid) → old.1 ≡ none_laid → GainsAll letters moves old new → IsLaidOut letters moves new.1
+laid_from_none letters moves old new none gains = record {
+  same = λ move. (
+    λ among. elim ((gains.same move).0 among) [
+      | inl earlier ↦ absurd (Contains-nil move (subst (λ (s : Laid). Contains (all_moves letters s) move) none earlier))
+      | inr gained ↦ gained
+    ],
+    λ gained. (gains.same move).1 (inr gained),
+  );
+  below = gains.below (subst (AreLettersOf letters) (sym none) (λ k d less. absurd (omega (arith, less))));
 }
 
 -- ---- all states
 
 -- the states before the one of number n have the moves of the machine's
-pub record AreStatesTo (t : Machine) (n : ℕ) (states : List StateMoves) : Type 0 where
+pub record AreStatesTo (t : Machine) (n : ℕ) (states : List Laid) : Type 0 where
   pub count : length states ≡ n
-  pub each : (q : ℕ) (none : StateMoves) → q < n → IsLaidOut t.letters (moves_of t q) (get_or states q none)
+  pub each : (q : ℕ) (none : Laid) → q < n → IsLaidOut t.letters (moves_of t q) (get_or states q none)
 
-pub states_none : (t : Machine) (states : List StateMoves) → states ≡ [] → AreStatesTo t 0 states
-states_none t states none = record { count = ap (λ (l : List StateMoves). length l) none; each = λ q d below. absurd (omega (arith, below)) }
+pub states_none : (t : Machine) (states : List Laid) → states ≡ [] → AreStatesTo t 0 states
+states_none t states none = record { count = ap (λ (l : List Laid). length l) none; each = λ q d below. absurd (omega (arith, below)) }
 
-pub states_more : (t : Machine) (n letters : ℕ) (states next : List StateMoves) (state : StateMoves) (moves : List (Move (List Bool))) → AreStatesTo t n states → next ≡ states ++ state ∷ []
+pub states_more : (t : Machine) (n letters : ℕ) (states next : List Laid) (state : Laid) (moves : List (Move (List Bool))) → AreStatesTo t n states → next ≡ states ++ state ∷ []
     → letters ≡ t.letters → moves ≡ moves_of t n → IsLaidOut letters moves state → AreStatesTo t (n + 1) next
 states_more t n letters states next state moves so_far new letters_are moves_are laid_out = record {
-  count = ap (λ (l : List StateMoves). length l) new ∙ length_push states state ∙ ap (λ k. k + 1) so_far.count;
+  count = ap (λ (l : List Laid). length l) new ∙ length_push states state ∙ ap (λ k. k + 1) so_far.count;
   each = λ q none below.
       subst (λ l. IsLaidOut t.letters (moves_of t q) (get_or l q none)) (sym new)
       (elim (cases_lt q n) [
@@ -246,7 +270,7 @@ states_more t n letters states next state moves so_far new letters_are moves_are
       ]);
 }
 
-pub states_all : (t : Machine) (n : ℕ) (states : List StateMoves) → n ≡ machine_states t → AreStatesTo t n states → AreLaidOut t states
+pub states_all : (t : Machine) (n : ℕ) (states : List Laid) → n ≡ machine_states t → AreStatesTo t n states → AreLaidOut t states
 states_all t n states all to = record { each = to.count ∙ all; laid_out = λ q none below. to.each q none (omega (arith, below, all)) }
 
 -- ---- whether each is final
@@ -269,7 +293,7 @@ some_at f [] k d below = absurd (omega (arith, below))
 some_at f (x ∷ xs) zero d below = (x, refl, refl)
 some_at f (x ∷ xs) (suc k) d below = some_at f xs k d (omega (arith, below))
 
-module _ (t : Machine) (ok : IsMachine t) (letters start : ℕ) (finals : List Bool) (states : List StateMoves) (letters_are : letters ≡ t.letters) (start_is : start ≡ t.start) (finals_are : finals ≡ t.finals)
+module _ (t : Machine) (ok : IsMachine t) (letters start : ℕ) (finals : List Bool) (states : List Laid) (letters_are : letters ≡ t.letters) (start_is : start ≡ t.start) (finals_are : finals ≡ t.finals)
     (laid : AreLaidOut t states) where
   abbrev made : Machine
   made = record { letters = letters; start = start; finals = finals; moves = map (all_moves letters) states }
@@ -278,7 +302,7 @@ module _ (t : Machine) (ok : IsMachine t) (letters start : ℕ) (finals : List B
   count = length-map states (all_moves letters) ∙ laid.each
 
   -- the moves of a state
-  state_at : (q : ℕ) (d : List (Move (List Bool))) → q < machine_states t → (s : StateMoves) × (get_or made.moves q d ≡ all_moves t.letters s) × IsLaidOut t.letters (moves_of t q) s
+  state_at : (q : ℕ) (d : List (Move (List Bool))) → q < machine_states t → (s : Laid) × (get_or made.moves q d ≡ all_moves t.letters s) × IsLaidOut t.letters (moves_of t q) s
   state_at q d below =
       let found = some_at (all_moves letters) states q d (omega (arith, below, laid.each)) in
       (found.0, found.1 ∙ ap (λ n. all_moves n found.0) letters_are, subst (IsLaidOut t.letters (moves_of t q)) found.2 (laid.laid_out q found.0 below))

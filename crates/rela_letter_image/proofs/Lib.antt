@@ -9,3 +9,4 @@ mod LaidOut
 mod Laying
 mod Needing
 mod Passing
+mod SideBySide

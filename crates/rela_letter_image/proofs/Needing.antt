@@ -16,12 +16,11 @@ use Rattle.rela_letter_nfa.specs.declared.edge.LetterEdge.{LetterEdge}
 use Rattle.rela_trans.specs.Machine.{Machine, IsFinal, Kind, moves_of}
 use Rattle.rela_trans.specs.Runs.{Does, Follow, HasStep, Step, inputs}
 use Rattle.rela_trans.specs.declared.moves.Move.{Move}
-use Rattle.rela_letter_image.specs.LetterMoves.{all_moves, alone_move, letter_move, only_letter, reading, set_move}
+use Rattle.rela_letter_image.specs.LetterMoves.{Laid, all_moves, alone_move, letter_move, only_letter, reading, set_move}
 use Rattle.rela_letter_image.specs.Needs.{AreAhead, AreKept, AreNeeds, Has, IsEdgeAhead, IsToldAhead, IsWithin, TellsLive}
 use Rattle.rela_letter_image.specs.declared.letter_moves.AloneMove.{AloneMove}
 use Rattle.rela_letter_image.specs.declared.letter_moves.LetterMove.{LetterMove}
 use Rattle.rela_letter_image.specs.declared.letter_moves.SetMove.{SetMove}
-use Rattle.rela_letter_image.specs.declared.letter_moves.StateMoves.{StateMoves}
 use Rattle.rela_letter_image.proofs.Laying.{three_cases}
 use Rattle.rela_letter_image.proofs.StepsGo.{Contains-cons_cases, Contains-map_back, Contains-nil}
 
@@ -83,7 +82,7 @@ reads_one : (read : ℕ → ℕ) (set : List Bool) (writes : Bool) (input output
 reads_one read set true input output does = does.0
 reads_one read set false input output does = does.0
 
-module _ (letters start : ℕ) (finals : List Bool) (laid : List StateMoves) (needs : List ℕ) where
+module _ (letters start : ℕ) (finals : List Bool) (laid : List Laid) (needs : List ℕ) where
   abbrev t : Machine
   t = record { letters = letters; start = start; finals = finals; moves = map (all_moves letters) laid }
 
@@ -91,23 +90,23 @@ module _ (letters start : ℕ) (finals : List Bool) (laid : List StateMoves) (ne
   abbrev ReadOrBehind : (ℕ → ℕ) → ℕ → Step → Type 0
   ReadOrBehind read k step = Has (slice_index needs step.to) k ⊎ ((c : ℕ) × Contains step.input c × (read c ≡ k))
 
-  by_move : (read : ℕ → ℕ) (need k : ℕ) (state : StateMoves) (step : Step) (kind : Kind) → k < 64 → AreKept needs need state → Has need k
+  by_move : (read : ℕ → ℕ) (need k : ℕ) (state : Laid) (step : Step) (kind : Kind) → k < 64 → AreKept needs need state → Has need k
       → Contains (all_moves letters state) (record { kind = kind; to = step.to }) → Does read kind step.input step.output → ReadOrBehind read k step
   by_move read need k state step kind small kept had among does =
       let m : Move (List Bool) = record { kind = kind; to = step.to } in
-      elim (three_cases (map alone_move state.alone.items) (map set_move state.by_set.items) (map (letter_move letters) state.by_letter.items) m among) [
+      elim (three_cases (map alone_move state.alone) (map set_move state.by_set) (map (letter_move letters) state.by_letter) m among) [
         | inl one ↦
-            let found = Contains-map_back alone_move state.alone.items m one in
+            let found = Contains-map_back alone_move state.alone m one in
             inl (subst (λ q. Has (slice_index needs q) k) (ap (λ (n : Move (List Bool)). n.to) found.1)
-            (All-contains (λ (move : AloneMove). IsWithin need (slice_index needs move.to)) state.alone.items found.0 kept.alone found.2 k small had))
+            (All-contains (λ (move : AloneMove). IsWithin need (slice_index needs move.to)) state.alone found.0 kept.alone found.2 k small had))
         | inr others ↦ elim others [
           | inl two ↦
-              let found = Contains-map_back set_move state.by_set.items m two in
+              let found = Contains-map_back set_move state.by_set m two in
               inl (subst (λ q. Has (slice_index needs q) k) (ap (λ (n : Move (List Bool)). n.to) found.1)
-              (All-contains (λ (move : SetMove). IsWithin need (slice_index needs move.to)) state.by_set.items found.0 kept.by_set found.2 k small had))
+              (All-contains (λ (move : SetMove). IsWithin need (slice_index needs move.to)) state.by_set found.0 kept.by_set found.2 k small had))
           | inr three ↦
-              let found = Contains-map_back (letter_move letters) state.by_letter.items m three in
-              elim (All-contains (λ (move : LetterMove). (j : ℕ) → j < 64 → Has need j → Has (slice_index needs move.to) j ⊎ (j ≡ move.letter)) state.by_letter.items found.0 kept.by_letter found.2 k small had) [
+              let found = Contains-map_back (letter_move letters) state.by_letter m three in
+              elim (All-contains (λ (move : LetterMove). (j : ℕ) → j < 64 → Has need j → Has (slice_index needs move.to) j ⊎ (j ≡ move.letter)) state.by_letter found.0 kept.by_letter found.2 k small had) [
                 | inl behind ↦ inl (subst (λ q. Has (slice_index needs q) k) (ap (λ (n : Move (List Bool)). n.to) found.1) behind)
                 | inr own ↦
                     let does_it = subst (λ (x : Kind). Does read x step.input step.output) (sym (ap (λ (n : Move (List Bool)). n.kind) found.1)) does in
@@ -117,7 +116,7 @@ module _ (letters start : ℕ) (finals : List Bool) (laid : List StateMoves) (ne
         ]
       ]
 
-  module _ (final : (q : ℕ) → IsFinal t q → slice_index needs q ≡ 0) (kept : (q : ℕ) (d : StateMoves) → q < length laid → AreKept needs (slice_index needs q) (get_or laid q d)) where
+  module _ (final : (q : ℕ) → IsFinal t q → slice_index needs q ≡ 0) (kept : (q : ℕ) (d : Laid) → q < length laid → AreKept needs (slice_index needs q) (get_or laid q d)) where
     by_step : (read : ℕ → ℕ) (q k : ℕ) (step : Step) → k < 64 → Has (slice_index needs q) k → HasStep read t q step.input step.output step.to → ReadOrBehind read k step
     by_step read q k step small had (kind, among, does) = elim (cases_lt q (length laid)) [
       | inl below ↦

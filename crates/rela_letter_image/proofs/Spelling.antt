@@ -1,9 +1,10 @@
 -- An automaton with one letter on each edge as it is made of one whose edges have sets of letters.
-use Rattle.std.proofs.Common.{◌≡◌, ℕ, ◌+◌, ◌<◌, ◌≤◌, ◌↔◌, ◌⊎◌, ◌≢◌, Bool, true, false, cond, if◌then◌else◌, List, [], ◌∷◌, ◌++◌, length, filter, get_or, map, take, Option, None, Some, refl, sym, ap, ◌∙◌, subst, inl, inr, arith, append_assoc}
+use Rattle.std.proofs.Common.{◌≡◌, ℕ, ◌+◌, ◌<◌, ◌≤◌, ◌↔◌, ◌⊎◌, Bool, true, false, cond, if◌then◌else◌, List, [], ◌∷◌, ◌++◌, length, filter, get_or, map, take, Option, None, Some, refl, sym, ap, ◌∙◌, subst, inl, inr, arith, append_assoc}
+use Rattle.std.specs.Prelude.{◌==◌}
 use Rattle.std.specs.List.{Contains, range_with_len}
 use Rattle.std.specs.Option.{option_map}
-use Rattle.std.proofs.lemmas.Bool.{cases_eq, cases_lt, false_from_ne_true, false≢true}
-use Rattle.std.proofs.lemmas.List.{append-nil, ext_get_or, get_or_past, map-append, map_more}
+use Rattle.std.proofs.lemmas.Bool.{cases_lt, eq-eqb, eqb-true, false≢true}
+use Rattle.std.proofs.lemmas.List.{append-nil, get_or_past, map-append, map_more}
 use Rattle.std.proofs.lemmas.List.Elements.{All-contains, Contains-append_left, Contains-append_right, Contains-append_cases, filter-append, filter_passes}
 use Rattle.rela_labels.specs.Letters.{has}
 use Rattle.rela_letter_nfa.specs.LetterAutomaton.{LetterParts, with_edge, with_silent}
@@ -110,24 +111,9 @@ module _ (set : List Bool) (to : ℕ) where
       same_some : {s : List Bool} → Some set ≡ Some s → set ≡ s
       same_some e = cc
 
-  -- none, where the set has no letter
-  pub adds_empty : (parts : LetterParts) → ((k : ℕ) → has set k ≡ false) → AddsMoves (labelled ∷ []) parts parts
-  adds_empty parts empty = record {
-    finals = refl;
-    silents = refl;
-    edges = refl;
-    added = (
-      [],
-      [],
-      sym (append-nil parts.next_silents),
-      sym (append-nil parts.next_edges),
-      letters_are_steps [] (λ k q. (λ end. absurd (Contains-nil _ end), λ both. absurd (false≢true (sym (empty k) ∙ both.0)))),
-    );
-  }
-
   -- one, where it has one letter alone
-  pub adds_only : (parts : LetterParts) (letter : ℕ) → has set letter ≡ true → ((k : ℕ) → has set k ≡ true → k ≡ letter) → AddsMoves (labelled ∷ []) parts (with_edge parts (edge_to letter to))
-  adds_only parts letter among only = record {
+  pub adds_only : (parts : LetterParts) (letter : ℕ) → ((k : ℕ) → has set k ≡ (letter == k)) → AddsMoves (labelled ∷ []) parts (with_edge parts (edge_to letter to))
+  adds_only parts letter one = record {
     finals = refl;
     silents = refl;
     edges = refl;
@@ -139,8 +125,8 @@ module _ (set : List Bool) (to : ℕ) where
       letters_are_steps (edge_to letter to ∷ []) (λ k q. (
         λ end.
             let same = only_one (edge_to letter to) (edge_to k q) end in
-            (subst (λ n. has set n ≡ true) (ap (λ (e : LetterEdge). e.letter) same) among, ap (λ (e : LetterEdge). e.to) same),
-        λ both. subst (λ (e : LetterEdge). Contains (edge_to letter to ∷ []) e) (λ i. edge_to (sym (only k both.0) i) (both.1 i)) (first_in (edge_to letter to) []),
+            (subst (λ n. has set n ≡ true) (ap (λ (e : LetterEdge). e.letter) same) (one letter ∙ eq-eqb letter letter refl), ap (λ (e : LetterEdge). e.to) same),
+        λ both. subst (λ (e : LetterEdge). Contains (edge_to letter to ∷ []) e) (λ i. edge_to (eqb-true letter k (sym (one k) ∙ both.0) i) (both.1 i)) (first_in (edge_to letter to) []),
       )),
     );
   }
@@ -215,21 +201,3 @@ module _ (set : List Bool) (to : ℕ) where
 -- the edge, by what its label is
 pub label_is : {L : Type 0} (letters : L → List Bool) (edge : Edge L) (label : Option L) → edge.label ≡ label → record { label = option_map letters label; to = edge.to } ≡ move_of letters edge
 label_is letters edge label e = λ i. record { label = option_map letters (sym e i); to = edge.to }
-
--- ---- a set that has one letter alone
-
-module _ (set alone : List Bool) (letter : ℕ) (size : length alone ≡ length set) (one : has alone letter ≡ true) (others : (k : ℕ) → k ≢ letter → has alone k ≡ false) (among : has set letter ≡ true) where
-  pub only_if_same : set ≡ alone → (k : ℕ) → has set k ≡ true → k ≡ letter
-  only_if_same same k holds = elim (cases_eq k letter) [
-    | inl here ↦ here
-    | inr other ↦ absurd (false≢true (sym (others k other) ∙ ap (λ l. has l k) (sym same) ∙ holds))
-  ]
-
-  pub same_if_only : ((k : ℕ) → has set k ≡ true → k ≡ letter) → set ≡ alone
-  same_if_only only = ext_get_or false set alone (sym size) (λ k below. at k)
-    where
-      at : (k : ℕ) → has set k ≡ has alone k
-      at k = elim (cases_eq k letter) [
-        | inl here ↦ ap (has set) here ∙ among ∙ sym (ap (has alone) here ∙ one)
-        | inr other ↦ false_from_ne_true (has set k) (λ holds. other (only k holds)) ∙ sym (others k other)
-      ]

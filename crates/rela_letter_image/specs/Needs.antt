@@ -9,7 +9,7 @@ use Rattle.rela_letter_nfa.specs.Runs.{spelled, Follow as FollowLetters, Step as
 use Rattle.rela_letter_nfa.specs.declared.edge.LetterEdge.{LetterEdge}
 use Rattle.rela_trans.specs.Machine.{Machine, IsFinal}
 use Rattle.rela_trans.specs.Runs.{Follow, Step, inputs}
-use Rattle.rela_letter_image.specs.declared.letter_moves.StateMoves.{StateMoves}
+use Rattle.rela_letter_image.specs.LetterMoves.{Laid}
 
 -- the letter is one of the word
 abbrev pub Has : ℕ → ℕ → Type 0
@@ -49,11 +49,11 @@ TellsLive read a t told = (x : Pair) (first : List LetterStep) (p : ℕ) (second
     inputs second ≡ spelled first → IsFinal t f → IsLive told x
 
 -- what a state needs is needed behind each of its moves too, if it isn't read there
-pub record AreKept (needs : List ℕ) (need : ℕ) (state : StateMoves) : Type 0 where
-  pub alone : All (λ move. IsWithin need (slice_index needs move.to)) state.alone.items
-  pub by_set : All (λ move. IsWithin need (slice_index needs move.to)) state.by_set.items
+pub record AreKept (needs : List ℕ) (need : ℕ) (state : Laid) : Type 0 where
+  pub alone : All (λ move. IsWithin need (slice_index needs move.to)) state.alone
+  pub by_set : All (λ move. IsWithin need (slice_index needs move.to)) state.by_set
   pub by_letter : All (λ move. (k : ℕ) → k < 64 → Has need k →
-      Has (slice_index needs move.to) k ⊎ (k ≡ move.letter)) state.by_letter.items
+      Has (slice_index needs move.to) k ⊎ (k ≡ move.letter)) state.by_letter
 
 -- what is ahead where the edge leads, and the letter of the edge, are among these
 pub record IsEdgeAhead (read : ℕ → ℕ) (ahead : List ℕ) (here : ℕ) (edge : LetterEdge) : Type 0 where

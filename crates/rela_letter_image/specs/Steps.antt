@@ -8,8 +8,7 @@ use Rattle.rela_letter_image.specs.Coarse.{coarse_of, fine_letters}
 use Rattle.rela_letter_nfa.specs.declared.edge.LetterEdge.{LetterEdge}
 use Rattle.rela_letter_nfa.specs.LetterAutomaton.{LetterAutomaton, silents_of, edges_of}
 use Rattle.rela_letter_image.specs.declared.letter_moves.LetterMove.{LetterMove}
-use Rattle.rela_letter_image.specs.declared.letter_moves.StateMoves.{StateMoves}
-use Rattle.rela_letter_image.specs.LetterMoves.{set_move}
+use Rattle.rela_letter_image.specs.LetterMoves.{Laid, set_move}
 use Rattle.rela_trans.specs.Machine.{Machine, Kind, moves_of}
 use Rattle.rela_trans.specs.declared.moves.Move.{Move}
 use Rattle.rela_trans.specs.declared.moves.MoveKind.TheVariants.{Silent, In, Out, Same}
@@ -60,9 +59,9 @@ letter_steps c edge moves = flat_map (λ m. step_if (nat_eq m.letter c)
     (step_to (written_by edge.letter m.writes) (pair_of edge.to m.to))) moves
 
 -- what both do by the moves of a state
-abbrev pub laid_out_steps : ℕ → LetterEdge → StateMoves → List JointStep
-laid_out_steps c edge state = read_steps c edge (map set_move state.by_set.items)
-    ++ letter_steps c edge state.by_letter.items
+abbrev pub laid_out_steps : ℕ → LetterEdge → Laid → List JointStep
+laid_out_steps c edge state = read_steps c edge (map set_move state.by_set)
+    ++ letter_steps c edge state.by_letter
 
 abbrev pub edge_steps : ℕ → List ℕ → List (Move (List Bool)) → List LetterEdge → List JointStep
 edge_steps letters coarse moves edges = flat_map (λ e.

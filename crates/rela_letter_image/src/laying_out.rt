@@ -6,11 +6,11 @@ ghost use Rattle.rela_labels.specs.Letters.{has};
 ghost use Rattle.rela_trans.specs.Machine.{IsSized};
 ghost use Rattle.rela_trans.specs.Stored.{kind_of, move_of};
 ghost use Rattle.rela_letter_image.specs.Branches.{AreEnds, ends_of, led_to, passed_on, passing};
-ghost use Rattle.rela_letter_image.specs.LetterMoves.{AreLaidOut, Gains, GainsAll, IsLaidOut, only_letter, reading};
+ghost use Rattle.rela_letter_image.specs.LetterMoves.{AreLaidOut, Gains, GainsAll, only_letter, reading};
 
 use crate::branches::kept_for;
-use crate::letter_by_letter::is_only;
-use crate::letter_moves::{AloneMove, LetterMove, SetMove, StateMoves};
+use crate::letter_moves::{AloneMove, LetterMove, SetMove};
+use crate::move_lists::MoveLists;
 use rela_labels::{LabelSet, WideSet};
 use rela_trans::{Move, MoveKind, Transducer};
 use std::alloc::{AllocError, Global};
@@ -41,26 +41,19 @@ fn wide_copy<M: LabelSet>(alloc: Global, letters: u32, set: &M) -> Result<WideSe
     Ok(copy)
 }
 
-/// The letter of the set, if it has one and no other.
-pub(crate) fn letter_alone<M: LabelSet>(alloc: Global, set: &M) -> Result<Option<u32>, AllocError>
-    ensures below { IfOk result (λ found. ForSome found (λ letter.
-        letter < length (M.letters set.now))) }
-    ensures alone { IfOk result (λ found. ForSome found (λ letter.
-        only_letter (length (M.letters set.now)) letter ≡ M.letters set.now)) }
+/// The letter of the set, if it has one and no other. It takes no memory.
+pub(crate) fn letter_alone<M: LabelSet>(set: &M) -> Option<u32>
+    ensures below { ForSome result (λ letter. letter < length (M.letters set.now)) }
+    ensures alone { ForSome result (λ letter.
+        only_letter (length (M.letters set.now)) letter ≡ M.letters set.now) }
 {
-    let Some(least) = set.least() else {
-        return Ok(None);
-    };
-    if is_only(alloc, set, least)? {
-        return Ok(Some(least));
-    }
-    Ok(None)
+    set.only()
 }
 
-/// Adds a move that reads a letter of the set, and writes it too if `writes` says so.
+/// Adds to the open state a move that reads a letter of the set, and writes it too if `writes` says so.
 fn push_reading<M: LabelSet>(
     alloc: Global,
-    state: &mut StateMoves,
+    lists: &mut MoveLists,
     letters: u32,
     set: &M,
     writes: bool,
@@ -70,105 +63,93 @@ fn push_reading<M: LabelSet>(
     ensures { OnOk result (Gains letters (record {
       kind = reading (M.letters set.now) writes;
       to = to;
-    }) state.old state.new) }
+    }) lists.old lists.new) }
 {
-    match letter_alone(alloc, set)? {
-        Some(letter) => {
-            state.by_letter.push(LetterMove { to, letter, writes })?;
-            Ok(())
-        }
+    match letter_alone(set) {
+        Some(letter) => lists.push_by_letter(LetterMove { to, letter, writes }),
         None => {
             let set = wide_copy(alloc, letters, set)?;
-            state.by_set.push(SetMove { set, writes, to })?;
-            Ok(())
+            lists.push_by_set(SetMove { set, writes, to })
         }
     }
 }
 
-/// Adds the move, of a transducer with so many letters, as one that leads to this state.
+/// Adds to the open state the move, of a transducer with so many letters, as one that leads to this state.
 fn push_move<M: LabelSet>(
     alloc: Global,
-    state: &mut StateMoves,
+    lists: &mut MoveLists,
     letters: u32,
     step: &Move<M>,
     to: usize,
 ) -> Result<(), AllocError>
     requires { IsSized letters (kind_of M.letters step.now.kind) }
     ensures { OnOk result (Gains letters (led_to (move_of M.letters step.now) to)
-        state.old state.new) }
+        lists.old lists.new) }
 {
     match &step.kind {
-        MoveKind::Silent => {
-            state.alone.push(AloneMove { written: None, to })?;
-            Ok(())
-        }
+        MoveKind::Silent => lists.push_alone(AloneMove { written: None, to }),
         MoveKind::Out(set) => {
             let written = Some(wide_copy(alloc, letters, set)?);
-            state.alone.push(AloneMove { written, to })?;
-            Ok(())
+            lists.push_alone(AloneMove { written, to })
         }
-        MoveKind::In(set) => push_reading(alloc, state, letters, set, false, to),
-        MoveKind::Same(set) => push_reading(alloc, state, letters, set, true, to),
+        MoveKind::In(set) => push_reading(alloc, lists, letters, set, false, to),
+        MoveKind::Same(set) => push_reading(alloc, lists, letters, set, true, to),
     }
 }
 
-/// Adds the move, as one to each of these states.
+/// Adds to the open state the move, as one to each of these states.
 fn push_each<M: LabelSet>(
     alloc: Global,
-    state: &mut StateMoves,
+    lists: &mut MoveLists,
     letters: u32,
     step: &Move<M>,
     ends: &[usize],
 ) -> Result<(), AllocError>
     requires { IsSized letters (kind_of M.letters step.now.kind) }
     ensures { OnOk result (GainsAll letters (map (led_to (move_of M.letters step.now)) ends.now)
-        state.old state.new) }
+        lists.old lists.new) }
 {
     for to in ends {
-        push_move(alloc, state, letters, step, *to)?;
+        push_move(alloc, lists, letters, step, *to)?;
     }
     Ok(())
 }
 
-/// Adds the move, as one to each of the states that stand for its end.
+/// Adds to the open state the move, as one to each of the states that stand for its end.
 fn push_passed<M: LabelSet>(
     alloc: Global,
-    state: &mut StateMoves,
+    lists: &mut MoveLists,
     letters: u32,
     step: &Move<M>,
     kept: &[Option<Vec<usize>>],
 ) -> Result<(), AllocError>
     requires { IsSized letters (kind_of M.letters step.now.kind) }
     ensures { OnOk result (GainsAll letters (passed_on (ends_of kept.now)
-        (move_of M.letters step.now)) state.old state.new) }
+        (move_of M.letters step.now)) lists.old lists.new) }
 {
     match kept_for(kept, step.to) {
-        Some(ends) => push_each(alloc, state, letters, step, ends),
-        None => push_move(alloc, state, letters, step, step.to),
+        Some(ends) => push_each(alloc, lists, letters, step, ends),
+        None => push_move(alloc, lists, letters, step, step.to),
     }
 }
 
-/// The moves of one state, laid out by what they read, each as one to each of the states that stand
-/// for its end.
-fn laid_out<M: LabelSet>(
+/// Adds to the open state the moves, each as one to each of the states that stand for its end.
+fn push_all<M: LabelSet>(
     alloc: Global,
+    lists: &mut MoveLists,
     letters: u32,
     moves: &[Move<M>],
     kept: &[Option<Vec<usize>>],
-) -> Result<StateMoves, AllocError>
+) -> Result<(), AllocError>
     requires { All (λ step. IsSized letters (kind_of M.letters step.kind)) moves.now }
-    ensures { IfOk result (λ state. IsLaidOut letters
-        (flat_map (passed_on (ends_of kept.now)) (map (move_of M.letters) moves.now)) state) }
+    ensures { OnOk result (GainsAll letters
+        (flat_map (passed_on (ends_of kept.now)) (map (move_of M.letters) moves.now))
+        lists.old lists.new) }
 {
-    let mut state = StateMoves {
-        alone: Vec::new(alloc),
-        by_set: Vec::new(alloc),
-        by_letter: Vec::new(alloc),
-    };
     for step in moves {
-        push_passed(alloc, &mut state, letters, step, kept)?;
+        push_passed(alloc, lists, letters, step, kept)?;
     }
-    Ok(state)
+    Ok(())
 }
 
 /// The moves of each state, laid out by what they read, each as one to each of the states that stand
@@ -178,17 +159,17 @@ pub(crate) fn states_of<M: LabelSet>(
     alloc: Global,
     relation: &Transducer<M>,
     kept: &[Option<Vec<usize>>],
-) -> Result<Vec<StateMoves>, AllocError>
+) -> Result<MoveLists, AllocError>
     requires { AreEnds relation.now (ends_of kept.now) }
-    ensures { IfOk result (λ states. AreLaidOut (passing (ends_of kept.now) relation.now)
-        states.items) }
+    ensures { IfOk result (λ lists. AreLaidOut (passing (ends_of kept.now) relation.now) lists.0) }
 {
     let letters = relation.letters();
-    let mut states = Vec::with_capacity(alloc, relation.states())?;
+    let mut lists = MoveLists::with_capacity(alloc, relation.states())?;
     for q in 0..relation.states() {
-        states.push(laid_out(alloc, letters, relation.moves(q), kept)?)?;
+        push_all(alloc, &mut lists, letters, relation.moves(q), kept)?;
+        lists = lists.end_state()?;
     }
-    Ok(states)
+    Ok(lists)
 }
 
 /// For each state whether it is final.

@@ -17,18 +17,6 @@ use rela_nfa::{Edge, Nfa};
 use rela_pairs::{BuildError, pass_limit};
 use std::alloc::{AllocError, Global};
 
-/// Whether the set, which has the letter, has no other. Time: constant for sets that are kept as
-/// one letter or in few words.
-pub(crate) fn is_only<L: LabelSet>(alloc: Global, set: &L, letter: u32) -> Result<bool, AllocError>
-    requires { has (L.letters set.now) letter ≡ true }
-    ensures { IfOk result (λ only. IsTrue only ↔
-        ((k : ℕ) → has (L.letters set.now) k ≡ true → k ≡ letter)) }
-{
-    let mut alone = L::none(alloc, set.size())?;
-    alone.add(alloc, letter)?;
-    Ok(set.same(&alone))
-}
-
 /// Adds an edge by the letter, if it is to be added.
 fn push_edge_if(
     builder: &mut CountedBuilder,
@@ -57,10 +45,9 @@ fn add_each<L: LabelSet>(builder: &mut CountedBuilder, set: &L, to: u32) -> Resu
     Ok(())
 }
 
-/// Adds an edge by each letter of the set. Time: constant where it has one letter or none, as by
-/// [`is_only`], and else a step for each letter below its size.
+/// Adds an edge by each letter of the set. Time: that of a look for the only letter, and a step for
+/// each letter below the set's size where it has several or none.
 fn add_letters<L: LabelSet>(
-    alloc: Global,
     builder: &mut CountedBuilder,
     set: &L,
     to: u32,
@@ -68,51 +55,39 @@ fn add_letters<L: LabelSet>(
     ensures { OnOk result (AddsMoves (record { label = Some (L.letters set.now); to = to } ∷ [])
         builder.old.parts builder.new.parts) }
 {
-    let Some(least) = set.least() else {
-        return Ok(());
-    };
-    if is_only(alloc, set, least)? {
-        return builder.push_edge(least, to);
+    match set.only() {
+        Some(letter) => builder.push_edge(letter, to),
+        None => add_each(builder, set, to),
     }
-    add_each(builder, set, to)
 }
 
 /// Adds what the edge does.
-fn add_edge<L: LabelSet>(
-    alloc: Global,
-    builder: &mut CountedBuilder,
-    edge: &Edge<L>,
-) -> Result<(), BuildError>
+fn add_edge<L: LabelSet>(builder: &mut CountedBuilder, edge: &Edge<L>) -> Result<(), BuildError>
     requires { edge.now.to < 2 ^ 32 }
     ensures { OnOk result (AddsMoves (move_of L.letters edge.now ∷ [])
         builder.old.parts builder.new.parts) }
 {
     let to = edge.to as u32;
     match &edge.label {
-        Some(set) => add_letters(alloc, builder, set, to),
+        Some(set) => add_letters(builder, set, to),
         None => builder.push_silent(to),
     }
 }
 
 /// Adds what the edges do.
-fn add_edges<L: LabelSet>(
-    alloc: Global,
-    builder: &mut CountedBuilder,
-    edges: &[Edge<L>],
-) -> Result<(), BuildError>
+fn add_edges<L: LabelSet>(builder: &mut CountedBuilder, edges: &[Edge<L>]) -> Result<(), BuildError>
     requires { All (λ edge. edge.to < 2 ^ 32) edges.now }
     ensures { OnOk result (AddsMoves (map (move_of L.letters) edges.now)
         builder.old.parts builder.new.parts) }
 {
     for edge in edges {
-        add_edge(alloc, builder, edge)?;
+        add_edge(builder, edge)?;
     }
     Ok(())
 }
 
 /// Builds a state that does what the state `q` does.
 fn add_copy<L: LabelSet>(
-    alloc: Global,
     builder: &mut CountedBuilder,
     nfa: &Nfa<L>,
     q: usize,
@@ -121,7 +96,7 @@ fn add_copy<L: LabelSet>(
     requires few { states nfa.now ≤ 2 ^ 31 }
     ensures { OnOk result (AddsCopy nfa.now q builder.old.parts builder.new.parts) }
 {
-    add_edges(alloc, builder, nfa.edges(q))?;
+    add_edges(builder, nfa.edges(q))?;
     builder.end_state(nfa.is_final(q))?;
     Ok(())
 }
@@ -167,7 +142,7 @@ fn by_letters_within<L: LabelSet>(
     }
     let mut builder = builder_for(alloc, nfa, most)?;
     for q in 0..nfa.states() {
-        add_copy(alloc, &mut builder, nfa, q)?;
+        add_copy(&mut builder, nfa, q)?;
     }
     Ok(builder.finish(nfa.start() as u32))
 }

@@ -34,12 +34,12 @@ pub struct LetterMove {
 }
 
 /// The moves that leave a state.
-#[derive(Debug, Drop)]
-pub struct StateMoves {
+#[derive(Clone, Copy, Debug)]
+pub struct StateMoves<'a> {
     /// Those that read nothing.
-    pub alone: Vec<AloneMove>,
+    pub alone: &'a [AloneMove],
     /// Those that read a letter of several, or of none.
-    pub by_set: Vec<SetMove>,
+    pub by_set: &'a [SetMove],
     /// Those that read one letter alone.
-    pub by_letter: Vec<LetterMove>,
+    pub by_letter: &'a [LetterMove],
 }

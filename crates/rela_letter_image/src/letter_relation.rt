@@ -2,12 +2,13 @@
 ghost use Rattle.std.specs.Prelude.{◌≡◌, ℕ, ◌<◌, ◌↔◌, List, IsTrue, IfOk};
 ghost use Rattle.rela_trans.specs.Machine.{IsFinal, IsMachine, machine_states, moves_of};
 ghost use Rattle.rela_trans.specs.Runs.{Relates};
-ghost use Rattle.rela_letter_image.specs.LetterMoves.{AreLettersOf, LeadBelow, all_moves};
+ghost use Rattle.rela_letter_image.specs.LetterMoves.{AreLettersOf, LeadBelow, all_moves, laid};
 ghost use Rattle.rela_letter_image.specs.Needs.{AreNeeds};
 
 use crate::branches::branch_ends;
 use crate::laying_out::{finals_of, states_of};
 use crate::letter_moves::StateMoves;
+use crate::move_lists::MoveLists;
 use crate::needs::needs_of;
 use rela_labels::LabelSet;
 use rela_trans::Transducer;
@@ -27,7 +28,7 @@ pub struct LetterRelation {
     /// For each state whether it is final.
     finals: Vec<bool>,
     /// The moves that leave each state.
-    states: Vec<StateMoves>,
+    states: MoveLists,
     /// For each state a word of letters that it needs, as by `needs_of`.
     needs: Vec<u64>,
 }
@@ -45,19 +46,19 @@ impl Model for LetterRelation {
       letters = relation.letters;
       start = relation.start;
       finals = relation.finals.items;
-      moves = map (all_moves relation.letters) relation.states.items;
+      moves = map (all_moves relation.letters) relation.states.0;
     } };
 
     ghost invariant = { λ relation. IsMachine (record {
       letters = relation.letters;
       start = relation.start;
       finals = relation.finals.items;
-      moves = map (all_moves relation.letters) relation.states.items;
-    }) × All (AreLettersOf relation.letters) relation.states.items × AreNeeds (record {
+      moves = map (all_moves relation.letters) relation.states.0;
+    }) × All (AreLettersOf relation.letters) relation.states.0 × AreNeeds (record {
       letters = relation.letters;
       start = relation.start;
       finals = relation.finals.items;
-      moves = map (all_moves relation.letters) relation.states.items;
+      moves = map (all_moves relation.letters) relation.states.0;
     }) relation.needs.items };
 }
 
@@ -123,14 +124,14 @@ impl LetterRelation {
     }
 
     /// The moves that leave the state.
-    pub fn moves(&self, q: usize) -> &StateMoves
+    pub fn moves(&self, q: usize) -> StateMoves<'_>
         requires { q < machine_states self.now }
-        ensures moves { all_moves self.now.letters result.now ≡ moves_of self.now q }
-        ensures below { AreLettersOf self.now.letters result.now }
-        ensures lead { LeadBelow (machine_states self.now) result.now }
+        ensures moves { all_moves self.now.letters (laid result) ≡ moves_of self.now q }
+        ensures below { AreLettersOf self.now.letters (laid result) }
+        ensures lead { LeadBelow (machine_states self.now) (laid result) }
         ensures machine { IsMachine self.now }
     {
-        &self.states[q]
+        self.states.get(q)
     }
 
     /// For each state a word of letters that it needs.

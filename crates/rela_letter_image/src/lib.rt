@@ -11,6 +11,7 @@ mod laying_out;
 mod letter_by_letter;
 mod letter_moves;
 mod letter_relation;
+mod move_lists;
 mod needs;
 mod product;
 mod reads;

@@ -1,10 +1,11 @@
 //! Letters that a relation needs: those that it reads on each way to a final state.
 ghost use Rattle.std.specs.Prelude.{◌≡◌, ℕ, ◌<◌, ◌⊎◌, ◌↔◌, IfOk, IsTrue, length, map, slice_index};
 ghost use Rattle.std.specs.List.{All};
-ghost use Rattle.rela_letter_image.specs.LetterMoves.{all_moves};
+ghost use Rattle.rela_letter_image.specs.LetterMoves.{all_moves, laid};
 ghost use Rattle.rela_letter_image.specs.Needs.{AreKept, AreNeeds, Has, IsWithin};
 
 use crate::letter_moves::{AloneMove, LetterMove, SetMove, StateMoves};
+use crate::move_lists::MoveLists;
 use std::alloc::{AllocError, Global};
 
 /// How often the words of all states are narrowed down at most.
@@ -92,32 +93,32 @@ fn letters_keep(moves: &[LetterMove], needs: &[u64], need: u64) -> bool
 
 /// Whether what the state needs is needed behind each of its moves too, or read by it, and nothing
 /// is needed where it is final.
-fn keeps(state: &StateMoves, is_final: bool, needs: &[u64], need: u64) -> bool
+fn keeps(state: StateMoves<'_>, is_final: bool, needs: &[u64], need: u64) -> bool
     ensures none { IsTrue result → IsTrue is_final → need ≡ 0 }
-    ensures kept { IsTrue result → AreKept needs.now need state.now }
+    ensures kept { IsTrue result → AreKept needs.now need (laid state.entry) }
 {
     if is_final && need != 0 {
         return false;
     }
-    alone_keep(&state.alone, needs, need)
-        && sets_keep(&state.by_set, needs, need)
-        && letters_keep(&state.by_letter, needs, need)
+    alone_keep(state.alone, needs, need)
+        && sets_keep(state.by_set, needs, need)
+        && letters_keep(state.by_letter, needs, need)
 }
 
 /// Whether what each state needs is needed behind each of its moves too, or read by it, and final
 /// states need nothing. Time: linear in the states and the moves.
-fn are_needs(states: &[StateMoves], finals: &[bool], needs: &[u64]) -> bool
-    requires each { length finals.now ≡ length states.now }
-    requires words { length needs.now ≡ length states.now }
+fn are_needs(states: &MoveLists, finals: &[bool], needs: &[u64]) -> bool
+    requires each { length finals.now ≡ length states.now.0 }
+    requires words { length needs.now ≡ length states.now.0 }
     ensures { IsTrue result → (letters start : ℕ) → AreNeeds (record {
       letters = letters;
       start = start;
       finals = finals.now;
-      moves = map (all_moves letters) states.now;
+      moves = map (all_moves letters) states.now.0;
     }) needs.now }
 {
-    for q in 0..states.len() {
-        if !keeps(&states[q], finals[q], needs, needs[q]) {
+    for q in 0..finals.len() {
+        if !keeps(states.get(q), finals[q], needs, needs[q]) {
             return false;
         }
     }
@@ -152,25 +153,25 @@ fn behind_letters(moves: &[LetterMove], needs: &[u64]) -> u64 {
 }
 
 /// What a state needs, by what those need to which it leads.
-fn needed(state: &StateMoves, is_final: bool, needs: &[u64]) -> u64 {
+fn needed(state: StateMoves<'_>, is_final: bool, needs: &[u64]) -> u64 {
     if is_final {
         return 0;
     }
-    behind_alone(&state.alone, needs)
-        & behind_sets(&state.by_set, needs)
-        & behind_letters(&state.by_letter, needs)
+    behind_alone(state.alone, needs)
+        & behind_sets(state.by_set, needs)
+        & behind_letters(state.by_letter, needs)
 }
 
 /// Narrows down what each state needs, from the last one to the first.
-fn narrow(states: &[StateMoves], finals: &[bool], needs: &mut [u64])
-    requires each { length finals.now ≡ length states.now }
-    requires words { length needs.old ≡ length states.now }
-    ensures { length needs.new ≡ length states.now }
+fn narrow(states: &MoveLists, finals: &[bool], needs: &mut [u64])
+    requires each { length finals.now ≡ length states.now.0 }
+    requires words { length needs.old ≡ length states.now.0 }
+    ensures { length needs.new ≡ length states.now.0 }
 {
-    let mut q = states.len();
+    let mut q = finals.len();
     while q > 0 {
         q -= 1;
-        needs[q] = needed(&states[q], finals[q], needs);
+        needs[q] = needed(states.get(q), finals[q], needs);
     }
 }
 
@@ -184,21 +185,21 @@ fn is_nothing(needs: &[u64]) -> bool {
 /// `ROUNDS` rounds. Time: linear in the states and the moves, for each round.
 pub(crate) fn needs_of(
     alloc: Global,
-    states: &[StateMoves],
+    states: &MoveLists,
     finals: &[bool],
 ) -> Result<Vec<u64>, AllocError>
-    requires { length finals.now ≡ length states.now }
+    requires { length finals.now ≡ length states.now.0 }
     ensures { IfOk result (λ needs. (letters start : ℕ) → AreNeeds (record {
       letters = letters;
       start = start;
       finals = finals.now;
-      moves = map (all_moves letters) states.now;
+      moves = map (all_moves letters) states.now.0;
     }) needs.items) }
 {
-    if states.len() > MOST_STATES {
+    if finals.len() > MOST_STATES {
         return Ok(Vec::new(alloc));
     }
-    let mut needs = vec![in alloc; u64::MAX; states.len()]?;
+    let mut needs = vec![in alloc; u64::MAX; finals.len()]?;
     for _ in 0..ROUNDS {
         narrow(states, finals, &mut needs);
         if is_nothing(&needs) {

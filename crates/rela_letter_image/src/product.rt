@@ -10,7 +10,7 @@ ghost use Rattle.rela_pairs.specs.declared.pair.Pair.{Pair};
 ghost use Rattle.rela_trans.specs.Machine.{machine_states, IsFinal as IsFinalMachine};
 ghost use Rattle.rela_letter_image.specs.Coarse.{coarse_of, fine_letters};
 ghost use Rattle.rela_letter_image.specs.Growth.{AddsState, Grows, with_parts};
-ghost use Rattle.rela_letter_image.specs.LetterMoves.{AreLettersOf, LeadBelow, all_moves, alone_move, only_letter, writing};
+ghost use Rattle.rela_letter_image.specs.LetterMoves.{all_moves, alone_move, AreLettersOf, laid, LeadBelow, only_letter, writing};
 ghost use Rattle.rela_letter_image.specs.Needs.{AreAhead, TellsLive, Told};
 ghost use Rattle.rela_letter_image.specs.Product.{IsProduct};
 ghost use Rattle.rela_letter_image.specs.Steps.{step_to, silent_steps, alone_by, alone_steps, edge_steps, steps_from};
@@ -98,7 +98,6 @@ fn add_set_written(
 /// Adds an edge to the pair by each fine letter whose coarse letter is in the set, which mostly has
 /// one letter. Time: a step for each fine letter.
 fn add_written(
-    alloc: Global,
     growing: &mut Growing,
     set: &WideSet,
     coarse: &[u32],
@@ -109,8 +108,7 @@ fn add_written(
     ensures { OnOk result (Grows (map (λ k. step_to (Some k) to)
         (fine_letters coarse.now set.now)) growing.old growing.new) }
 {
-    let found = letter_alone(alloc, set)?;
-    match found {
+    match letter_alone(set) {
         Some(only) => add_letter_written(growing, only, set.size(), coarse, to),
         None => add_set_written(growing, set, coarse, to),
     }
@@ -118,7 +116,6 @@ fn add_written(
 
 /// Adds what the transducer does alone by the move.
 fn add_alone(
-    alloc: Global,
     growing: &mut Growing,
     step: &AloneMove,
     left: usize,
@@ -135,13 +132,12 @@ fn add_alone(
     };
     match &step.written {
         None => growing.add_silent(to),
-        Some(set) => add_written(alloc, growing, set, coarse, to),
+        Some(set) => add_written(growing, set, coarse, to),
     }
 }
 
 /// Adds what the transducer does alone by the moves.
 fn add_moves(
-    alloc: Global,
     growing: &mut Growing,
     moves: &[AloneMove],
     left: usize,
@@ -154,7 +150,7 @@ fn add_moves(
         growing.old growing.new) }
 {
     for step in moves {
-        add_alone(alloc, growing, step, left, coarse)?;
+        add_alone(growing, step, left, coarse)?;
     }
     Ok(())
 }
@@ -166,12 +162,12 @@ fn add_edges(
     edges: &[LetterEdge],
     letters: u32,
     coarse: &[u32],
-    moves: &StateMoves,
+    moves: StateMoves<'_>,
 ) -> Result<(), BuildError>
     requires lefts { All (λ edge. edge.to < growing.old.shape.lefts) edges.now }
-    requires rights { LeadBelow growing.old.shape.rights moves.now }
-    requires below { AreLettersOf letters moves.now }
-    ensures { OnOk result (Grows (edge_steps letters coarse.now (all_moves letters moves.now)
+    requires rights { LeadBelow growing.old.shape.rights (laid moves) }
+    requires below { AreLettersOf letters (laid moves) }
+    ensures { OnOk result (Grows (edge_steps letters coarse.now (all_moves letters (laid moves.entry))
         edges.now) growing.old growing.new) }
 {
     for edge in edges {
@@ -188,12 +184,12 @@ fn add_reads(
     edges: &[LetterEdge],
     letters: u32,
     coarse: &[u32],
-    moves: &StateMoves,
+    moves: StateMoves<'_>,
 ) -> Result<(), BuildError>
     requires lefts { All (λ edge. edge.to < growing.old.shape.lefts) edges.now }
-    requires rights { LeadBelow growing.old.shape.rights moves.now }
-    requires below { AreLettersOf letters moves.now }
-    ensures { OnOk result (Grows (edge_steps letters coarse.now (all_moves letters moves.now)
+    requires rights { LeadBelow growing.old.shape.rights (laid moves) }
+    requires below { AreLettersOf letters (laid moves) }
+    ensures { OnOk result (Grows (edge_steps letters coarse.now (all_moves letters (laid moves.entry))
         edges.now) growing.old growing.new) }
 {
     if moves.by_set.is_empty() && moves.by_letter.is_empty() {
@@ -218,7 +214,6 @@ fn add_silents(growing: &mut Growing, ends: &[u32], right: usize) -> Result<(), 
 /// Adds what the two do from the pair. Time: the product of the numbers of edges and of moves that
 /// read, and a step for each fine letter for each move that writes alone.
 fn add_steps(
-    alloc: Global,
     growing: &mut Growing,
     paths: &LetterNfa,
     relation: &LetterRelation,
@@ -237,7 +232,7 @@ fn add_steps(
     let left = pair.left as u32;
     let moves = relation.moves(pair.right);
     add_silents(growing, paths.silent(left), pair.right)?;
-    add_moves(alloc, growing, &moves.alone, pair.left, coarse)?;
+    add_moves(growing, moves.alone, pair.left, coarse)?;
     add_reads(
         growing,
         paths.edges(left),
@@ -260,7 +255,6 @@ fn is_final_pair(paths: &LetterNfa, relation: &LetterRelation, pair: Pair) -> bo
 
 /// Builds the state of the pair: what the two do from it, and whether it is final.
 fn add_state(
-    alloc: Global,
     growing: &mut Growing,
     paths: &LetterNfa,
     relation: &LetterRelation,
@@ -276,7 +270,7 @@ fn add_state(
     ensures { OnOk result (AddsState coarse.now paths.now relation.now pair
         growing.old growing.new) }
 {
-    add_steps(alloc, growing, paths, relation, coarse, pair)?;
+    add_steps(growing, paths, relation, coarse, pair)?;
     let is_final = is_final_pair(paths, relation, pair);
     growing.end_state(is_final)?;
     Ok(())
@@ -318,7 +312,7 @@ fn product_told(
     // The pairs that were found stand in a queue: those whose states were built come first.
     'queue: while growing.states() < growing.pairs().len() {
         let pair = growing.pairs()[growing.states()];
-        add_state(alloc, &mut growing, paths, relation, coarse, pair)?;
+        add_state(&mut growing, paths, relation, coarse, pair)?;
     }
     Ok(growing.finish())
 }

@@ -4,7 +4,7 @@ ghost use Rattle.std.specs.List.{All};
 ghost use Rattle.rela_nfa.specs.Meeting.{pair_of};
 ghost use Rattle.rela_pairs.specs.Places.{Fits};
 ghost use Rattle.rela_letter_image.specs.Growth.{Grows};
-ghost use Rattle.rela_letter_image.specs.LetterMoves.{LeadBelow, reading, set_move};
+ghost use Rattle.rela_letter_image.specs.LetterMoves.{laid, LeadBelow, reading, set_move};
 ghost use Rattle.rela_letter_image.specs.Steps.{laid_out_steps, letter_steps, read_by, read_steps, step_if, step_to, written_by};
 
 use crate::growing::Growing;
@@ -131,12 +131,12 @@ pub(crate) fn add_edge_moves(
     growing: &mut Growing,
     edge: LetterEdge,
     coarse: u32,
-    moves: &StateMoves,
+    moves: StateMoves<'_>,
 ) -> Result<(), BuildError>
     requires left { edge.to < growing.old.shape.lefts }
-    requires rights { LeadBelow growing.old.shape.rights moves.now }
-    ensures { OnOk result (Grows (laid_out_steps coarse edge moves.now) growing.old growing.new) }
+    requires rights { LeadBelow growing.old.shape.rights (laid moves) }
+    ensures { OnOk result (Grows (laid_out_steps coarse edge (laid moves.entry)) growing.old growing.new) }
 {
-    add_by_sets(growing, edge, coarse, &moves.by_set)?;
-    add_by_letters(growing, edge, coarse, &moves.by_letter)
+    add_by_sets(growing, edge, coarse, moves.by_set)?;
+    add_by_letters(growing, edge, coarse, moves.by_letter)
 }

@@ -27,5 +27,6 @@ pub use counted::CountedBuilder;
 pub use difference::{Difference, Sought, Which};
 pub use edge::LetterEdge;
 pub use edge_lists::EdgeLists;
+pub use lists::Lists;
 pub use nfa::{LetterNfa, MAX_STATES};
 pub use rela_pairs::BuildError;

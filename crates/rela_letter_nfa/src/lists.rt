@@ -7,7 +7,7 @@ use std::marker::Model;
 /// Lists that stand one behind the other in one vector. The last is open: items can be put behind
 /// it. Contracts see the closed lists, and the open one.
 #[derive(Drop)]
-pub(crate) struct Lists<T> {
+pub struct Lists<T> {
     /// The items of all lists, those of one list behind those of the one before it.
     items: Vec<T>,
     /// The places among the items where a list begins: first 0, then the end of each closed list.
@@ -34,11 +34,7 @@ impl<T> Model for Lists<T> {
 impl<T: Drop> Lists<T> {
     /// No closed list, and an open one that is empty, with room for so many closed lists and for so
     /// many items in all of them.
-    pub(crate) fn with_capacity(
-        alloc: Global,
-        lists: usize,
-        items: usize,
-    ) -> Result<Lists<T>, AllocError>
+    pub fn with_capacity(alloc: Global, lists: usize, items: usize) -> Result<Lists<T>, AllocError>
         ensures { IfOk result (λ lists. lists ≡ ([], [])) }
     {
         let mut places = Vec::with_capacity(alloc, lists.saturating_add(1))?;
@@ -53,23 +49,24 @@ impl<T: Drop> Lists<T> {
     }
 
     /// Puts an item behind the open list.
-    pub(crate) fn push(&mut self, item: T) -> Result<(), AllocError>
-        ensures { OnOk result (self.new ≡ (self.old.0, self.old.1 ++ item ∷ [])) }
+    pub fn push(&mut self, item: T) -> Result<(), AllocError>
+        ensures pushed { OnOk result (self.new ≡ (self.old.0, self.old.1 ++ item ∷ [])) }
+        ensures closed { self.new.0 ≡ self.old.0 }
     {
         self.items.push(item)?;
         Ok(())
     }
 
     /// Closes the open list, behind which an empty one is open then.
-    pub(crate) fn close(&mut self) -> Result<(), AllocError>
+    pub fn close(&mut self) -> Result<(), AllocError>
         ensures { OnOk result (self.new ≡ (self.old.0 ++ self.old.1 ∷ [], [])) }
     {
         self.places.push(self.items.len())?;
         Ok(())
     }
 
-    /// The closed list of this number.
-    pub(crate) fn list(&self, number: usize) -> &[T]
+    /// The closed list of this number. Time: constant.
+    pub fn list(&self, number: usize) -> &[T]
         requires { number < length self.now.0 }
         ensures { result.now ≡ slice_index_or self.now.0 number [] }
     {

@@ -10,9 +10,8 @@ use Rattle.std.proofs.lemmas.List.FromFn.{get_or-map-range_with_len, length-map-
 use Rattle.rela_labels.specs.Letters.{has}
 use Rattle.rela_letter_nfa.specs.declared.edge.LetterEdge.{LetterEdge}
 use Rattle.rela_trans.specs.declared.moves.Move.{Move}
-use Rattle.rela_letter_image.specs.LetterMoves.{AreLettersOf, all_moves, alone_move, letter_move, only_letter, reading, set_move, writing}
+use Rattle.rela_letter_image.specs.LetterMoves.{Laid, AreLettersOf, all_moves, alone_move, letter_move, only_letter, reading, set_move, writing}
 use Rattle.rela_letter_image.specs.declared.letter_moves.LetterMove.{LetterMove}
-use Rattle.rela_letter_image.specs.declared.letter_moves.StateMoves.{StateMoves}
 use Rattle.rela_letter_source.specs.Steps.{JointStep, alone_by, alone_steps, edge_steps, laid_out_steps, letter_steps, read_by, read_if, read_steps, read_to, reading_of, same_by}
 use Rattle.rela_letter_source.specs.declared.configuration.Configuration.{Configuration}
 use Rattle.rela_letter_source.specs.declared.next.Next.{Next}
@@ -60,16 +59,16 @@ reads_not_alone next x set false to = refl
 -- ---- all moves of a state
 
 -- the moves of a state that read nothing are all by which it goes alone
-pub alone_all : (next : Option Next) (x : Configuration) (letters : ℕ) (state : StateMoves) → alone_steps next x (map alone_move state.alone.items) ≡ alone_steps next x (all_moves letters state)
+pub alone_all : (next : Option Next) (x : Configuration) (letters : ℕ) (state : Laid) → alone_steps next x (map alone_move state.alone) ≡ alone_steps next x (all_moves letters state)
 alone_all next x letters state =
     let f : Move (List Bool) → List JointStep = λ m. alone_by next x m.kind m.to in
-    let alone = map alone_move state.alone.items in
-    let by_set = map set_move state.by_set.items in
-    let by_letter = map (letter_move letters) state.by_letter.items in
-    let no_set : flat_map f by_set ≡ [] = flat_map-map f set_move state.by_set.items ∙ nothing_flat (λ m. f (set_move m)) state.by_set.items (λ m. reads_not_alone next x m.set m.writes m.to) in
+    let alone = map alone_move state.alone in
+    let by_set = map set_move state.by_set in
+    let by_letter = map (letter_move letters) state.by_letter in
+    let no_set : flat_map f by_set ≡ [] = flat_map-map f set_move state.by_set ∙ nothing_flat (λ m. f (set_move m)) state.by_set (λ m. reads_not_alone next x m.set m.writes m.to) in
     let no_letter : flat_map f by_letter ≡ [] =
-    flat_map-map f (letter_move letters) state.by_letter.items
-    ∙ nothing_flat (λ m. f (letter_move letters m)) state.by_letter.items (λ m. reads_not_alone next x (only_letter letters m.letter) m.writes m.to) in
+    flat_map-map f (letter_move letters) state.by_letter
+    ∙ nothing_flat (λ m. f (letter_move letters m)) state.by_letter (λ m. reads_not_alone next x (only_letter letters m.letter) m.writes m.to) in
     sym
     (flat_map-append f (alone ++ by_set) by_letter ∙ ap (λ l. l ++ flat_map f by_letter) (flat_map-append f alone by_set) ∙ ap (λ l. flat_map f alone ++ l ++ flat_map f by_letter) no_set
     ∙ ap (λ l. flat_map f alone ++ [] ++ l) no_letter ∙ append-nil (flat_map f alone ++ []) ∙ append-nil (flat_map f alone))
@@ -83,19 +82,19 @@ letters_read letters edge (m ∷ moves) below =
     ∙ ap (λ l. read_if (nat_eq m.letter edge.coarse) edge m.writes m.to ++ l) (letters_read letters edge moves (All-tail (λ n. n.letter < letters) m moves below))
 
 -- the others are all by which it reads
-pub read_all : (letters : ℕ) (edge : Reading) (state : StateMoves) → AreLettersOf letters state → laid_out_steps edge state ≡ read_steps edge (all_moves letters state)
+pub read_all : (letters : ℕ) (edge : Reading) (state : Laid) → AreLettersOf letters state → laid_out_steps edge state ≡ read_steps edge (all_moves letters state)
 read_all letters edge state below =
     let f : Move (List Bool) → List JointStep = λ m. read_by edge m.kind m.to in
-    let alone = map alone_move state.alone.items in
-    let by_set = map set_move state.by_set.items in
-    let by_letter = map (letter_move letters) state.by_letter.items in
-    let no_alone : flat_map f alone ≡ [] = flat_map-map f alone_move state.alone.items ∙ nothing_flat (λ m. f (alone_move m)) state.alone.items (λ m. alone_reads edge m.written m.to) in
+    let alone = map alone_move state.alone in
+    let by_set = map set_move state.by_set in
+    let by_letter = map (letter_move letters) state.by_letter in
+    let no_alone : flat_map f alone ≡ [] = flat_map-map f alone_move state.alone ∙ nothing_flat (λ m. f (alone_move m)) state.alone (λ m. alone_reads edge m.written m.to) in
     sym
     (flat_map-append f (alone ++ by_set) by_letter ∙ ap (λ l. l ++ flat_map f by_letter) (flat_map-append f alone by_set) ∙ ap (λ l. l ++ flat_map f by_set ++ flat_map f by_letter) no_alone
-    ∙ ap (λ l. flat_map f by_set ++ l) (letters_read letters edge state.by_letter.items below))
+    ∙ ap (λ l. flat_map f by_set ++ l) (letters_read letters edge state.by_letter below))
 
 -- where no move reads, nothing is done by edges
-pub none_read : (letters : ℕ) (coarse : List ℕ) (next : Option Next) (n : ℕ) (edges : List LetterEdge) (state : StateMoves) → AreLettersOf letters state → state.by_set.items ≡ [] → state.by_letter.items ≡ []
+pub none_read : (letters : ℕ) (coarse : List ℕ) (next : Option Next) (n : ℕ) (edges : List LetterEdge) (state : Laid) → AreLettersOf letters state → state.by_set ≡ [] → state.by_letter ≡ []
     → edge_steps letters coarse next n (all_moves letters state) edges ≡ []
 none_read letters coarse next n edges state below no_set no_letter =
     nothing_flat (λ e. read_steps (reading_of letters coarse next n e) (all_moves letters state)) edges

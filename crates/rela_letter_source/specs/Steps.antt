@@ -3,9 +3,8 @@ use Rattle.std.specs.Prelude.{ℕ, ◌+◌, Bool, List, [], ◌∷◌, ◌++◌,
 use Rattle.std.specs.List.{flat_map}
 use Rattle.rela_labels.specs.Letters.{has}
 use Rattle.rela_letter_image.specs.Coarse.{coarse_of}
-use Rattle.rela_letter_image.specs.LetterMoves.{set_move}
+use Rattle.rela_letter_image.specs.LetterMoves.{Laid, set_move}
 use Rattle.rela_letter_image.specs.declared.letter_moves.LetterMove.{LetterMove}
-use Rattle.rela_letter_image.specs.declared.letter_moves.StateMoves.{StateMoves}
 use Rattle.rela_letter_nfa.specs.declared.edge.LetterEdge.{LetterEdge}
 use Rattle.rela_letter_nfa.specs.LetterAutomaton.{LetterAutomaton, silents_of, edges_of}
 use Rattle.rela_trans.specs.Machine.{Machine, Kind, moves_of}
@@ -109,9 +108,9 @@ letter_steps reading moves =
     flat_map (λ m. read_if (nat_eq m.letter reading.coarse) reading m.writes m.to) moves
 
 -- what both do by the edge and the moves of a state
-abbrev pub laid_out_steps : Reading → StateMoves → List JointStep
-laid_out_steps reading state = read_steps reading (map set_move state.by_set.items)
-    ++ letter_steps reading state.by_letter.items
+abbrev pub laid_out_steps : Reading → Laid → List JointStep
+laid_out_steps reading state = read_steps reading (map set_move state.by_set)
+    ++ letter_steps reading state.by_letter
 
 -- the edge as it is read where n letters have been written
 abbrev pub reading_of : ℕ → List ℕ → Option Next → ℕ → LetterEdge → Reading

@@ -2,7 +2,7 @@
 ghost use Rattle.std.specs.Prelude.{◌≡◌, ℕ, ◌<◌, ◌↔◌, None, Some, IsTrue, IfOk, OnOk, List, map};
 ghost use Rattle.std.specs.List.{All};
 ghost use Rattle.rela_letter_image.specs.Coarse.{coarse_of};
-ghost use Rattle.rela_letter_image.specs.LetterMoves.{AreLettersOf, LeadBelow, all_moves, alone_move, reading, set_move, writing};
+ghost use Rattle.rela_letter_image.specs.LetterMoves.{all_moves, alone_move, AreLettersOf, laid, LeadBelow, reading, set_move, writing};
 ghost use Rattle.rela_letter_nfa.specs.LetterAutomaton.{states};
 ghost use Rattle.rela_letter_nfa.specs.Runs.{Accepts};
 ghost use Rattle.rela_trans.specs.Machine.{machine_states};
@@ -183,14 +183,14 @@ fn add_by_letters(
 fn add_edge_moves(
     growing: &mut Growing,
     edge: Reading,
-    moves: &StateMoves,
+    moves: StateMoves<'_>,
 ) -> Result<(), BuildError>
     requires left { edge.edge.to < growing.old.shape.lefts }
-    requires rights { LeadBelow growing.old.shape.rights moves.now }
-    ensures { OnOk result (Grows (laid_out_steps edge moves.now) growing.old growing.new) }
+    requires rights { LeadBelow growing.old.shape.rights (laid moves) }
+    ensures { OnOk result (Grows (laid_out_steps edge (laid moves.entry)) growing.old growing.new) }
 {
-    add_by_sets(growing, edge, &moves.by_set)?;
-    add_by_letters(growing, edge, &moves.by_letter)
+    add_by_sets(growing, edge, moves.by_set)?;
+    add_by_letters(growing, edge, moves.by_letter)
 }
 
 /// Adds what both do by one of the edges and one of the moves, of a transducer with this number of
@@ -202,13 +202,13 @@ fn add_edges(
     coarse: &[u32],
     next: Option<Next>,
     written: usize,
-    moves: &StateMoves,
+    moves: StateMoves<'_>,
 ) -> Result<(), BuildError>
     requires lefts { All (λ edge. edge.to < growing.old.shape.lefts) edges.now }
-    requires rights { LeadBelow growing.old.shape.rights moves.now }
-    requires below { AreLettersOf letters moves.now }
+    requires rights { LeadBelow growing.old.shape.rights (laid moves) }
+    requires below { AreLettersOf letters (laid moves) }
     ensures { OnOk result (Grows (edge_steps letters coarse.now next written
-        (all_moves letters moves.now) edges.now) growing.old growing.new) }
+        (all_moves letters (laid moves.entry)) edges.now) growing.old growing.new) }
 {
     for edge in edges {
         let edge = as_read(letters, coarse, next, written, *edge);
@@ -226,13 +226,13 @@ fn add_reads(
     coarse: &[u32],
     next: Option<Next>,
     written: usize,
-    moves: &StateMoves,
+    moves: StateMoves<'_>,
 ) -> Result<(), BuildError>
     requires lefts { All (λ edge. edge.to < growing.old.shape.lefts) edges.now }
-    requires rights { LeadBelow growing.old.shape.rights moves.now }
-    requires below { AreLettersOf letters moves.now }
+    requires rights { LeadBelow growing.old.shape.rights (laid moves) }
+    requires below { AreLettersOf letters (laid moves) }
     ensures { OnOk result (Grows (edge_steps letters coarse.now next written
-        (all_moves letters moves.now) edges.now) growing.old growing.new) }
+        (all_moves letters (laid moves.entry)) edges.now) growing.old growing.new) }
 {
     if moves.by_set.is_empty() && moves.by_letter.is_empty() {
         return Ok(());
@@ -277,7 +277,7 @@ fn add_steps(
     let next = next_letter(letters, coarse, word, x.written);
     let moves = relation.moves(x.machine);
     add_silents(growing, paths.silent(x.path), x)?;
-    add_moves(growing, &moves.alone, x, next)?;
+    add_moves(growing, moves.alone, x, next)?;
     add_reads(
         growing,
         paths.edges(x.path),

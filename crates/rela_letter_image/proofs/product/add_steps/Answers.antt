@@ -1,8 +1,7 @@
-use Rattle.std.proofs.Common.{◌∙◌, ap, map, subst}
+use Rattle.std.proofs.Common.{◌∙◌, ap, subst}
 use Rattle.std.proofs.lemmas.Result.{on_ok_weaker}
 use Rattle.rela_letter_image.specs.Growth.{Grows}
-use Rattle.rela_letter_image.specs.LetterMoves.{all_moves, alone_move}
-use Rattle.rela_letter_image.specs.Steps.{alone_steps}
+use Rattle.rela_letter_image.specs.LetterMoves.{all_moves, laid}
 use Rattle.rela_letter_image.proofs.GrownSteps.{grows_steps}
 use Rattle.rela_letter_image.proofs.LaidOut.{alone_all}
 use Rattle.rela_letter_image.proofs.product.add_steps.Goals as goal
@@ -10,10 +9,10 @@ use Rattle.rela_letter_image.proofs.product.add_steps.Goals as goal
 pub returns : goal.returns
 returns c =
     let letters = c.letters.result in
-    let state = c.moves-moves.result.now in
+    let state = laid c.moves-moves.result in
     let coarse = c.args.coarse.now in
     let pair = c.args.pair in
-    let alone = subst (λ l. Grows l c.add_silents.new.growing c.add_moves.new.growing) (ap (λ l. alone_steps coarse pair.left (map alone_move l)) c.deref.ensures.value ∙ alone_all coarse pair.left letters state) c.in_ok-add_moves.ensures in
+    let alone = subst (λ l. Grows l c.add_silents.new.growing c.add_moves.new.growing) (alone_all coarse pair.left letters state) c.in_ok-add_moves.ensures in
     let moves_are = ap (λ n. all_moves n state) c.letters.ensures.letters ∙ c.moves-moves.ensures.moves in
     on_ok_weaker c.add_reads.result
     (λ reads.

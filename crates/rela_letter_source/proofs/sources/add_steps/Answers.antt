@@ -1,8 +1,7 @@
-use Rattle.std.proofs.Common.{◌∙◌, ap, map, subst}
+use Rattle.std.proofs.Common.{◌∙◌, ap, subst}
 use Rattle.std.proofs.lemmas.Result.{on_ok_weaker}
-use Rattle.rela_letter_image.specs.LetterMoves.{all_moves, alone_move}
+use Rattle.rela_letter_image.specs.LetterMoves.{all_moves, laid}
 use Rattle.rela_letter_source.specs.Growth.{Grows}
-use Rattle.rela_letter_source.specs.Steps.{alone_steps}
 use Rattle.rela_letter_source.proofs.GrownSteps.{grows_steps}
 use Rattle.rela_letter_source.proofs.LaidOut.{alone_all}
 use Rattle.rela_letter_source.proofs.sources.add_steps.Goals as goal
@@ -12,9 +11,8 @@ returns c =
     let letters = c.letters-letters.result in
     let next = c.next_letter-next.result in
     let x = c.args.x in
-    let state = c.moves-moves.result.now in
-    let alone = subst (λ l. Grows l c.add_silents.new.growing c.add_moves.new.growing)
-    (ap (λ l. alone_steps next x (map alone_move l)) c.deref.ensures.value ∙ alone_all next x letters state) c.in_ok-add_moves.ensures in
+    let state = laid c.moves-moves.result in
+    let alone = subst (λ l. Grows l c.add_silents.new.growing c.add_moves.new.growing) (alone_all next x letters state) c.in_ok-add_moves.ensures in
     let moves_are = ap (λ n. all_moves n state) c.letters-letters.ensures.letters ∙ c.moves-moves.ensures.moves in
     on_ok_weaker c.add_reads.result
     (λ reads.

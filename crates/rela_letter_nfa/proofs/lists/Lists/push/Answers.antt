@@ -9,10 +9,18 @@ invariant_of-self-2 g c =
     subst (λ l. ArePlaces (length l) c.self.inside.places.items) (sym c.in_ok-push.ensures.items)
     (places_before (length items) (length (items ++ c.args.item ∷ [])) c.self.inside.places.items (omega (arith, length-append items (c.args.item ∷ []))) c.self.invariant)
 
-pub returns : goal.returns
-returns g c =
+pub returns-clause-pushed : goal.returns-clause-pushed
+returns-clause-pushed g c =
     let items = c.self.inside.items.items in
     let places = c.self.inside.places.items in
     (λ i. (parts_between (c.in_ok-push.ensures.items i) places, part_behind (c.in_ok-push.ensures.items i) places))
     ∙ (λ i. (between_kept items (c.args.item ∷ []) places c.self.invariant i, behind_more items (c.args.item ∷ []) places c.self.invariant i))
     ∙ (λ i. ((c.self.view_is i).0, (c.self.view_is i).1 ++ c.args.item ∷ []))
+
+pub returns-clause-closed : goal.returns-clause-closed
+returns-clause-closed g c =
+    let items = c.self.inside.items.items in
+    let places = c.self.inside.places.items in
+    (λ i. parts_between (c.in_ok-push.ensures.items i) places)
+    ∙ between_kept items (c.args.item ∷ []) places c.self.invariant
+    ∙ (λ i. (c.self.view_is i).0)
