@@ -11,7 +11,6 @@ use Rattle.rela_pairs.specs.Exploration.{Exploration, NumbersNext}
 use Rattle.rela_pairs.specs.Finding.{AreNumbers}
 use Rattle.rela_pairs.specs.Reachable.{Leads, Reachable, AreDistinct, MoreThan}
 use Rattle.rela_pairs.specs.declared.pair.Pair.{Pair}
-use Rattle.rela_pairs.proofs.Steps.{reachable_start, reachable_next}
 use Rattle.rela_nfa.specs.Automaton.{Automaton, Move, IsAutomaton, IsMove, moves_of, states}
 use Rattle.rela_nfa.specs.Meeting.{ReachBoth, AreReachedTogether, IsMeet, IsProduct, JointMove, pair_of, joint_moves, next_pairs, numbered, final_both, product_moves_at}
 use Rattle.rela_nfa.specs.Reading.{takes}
@@ -22,6 +21,10 @@ use Rattle.rela_nfa.proofs.Parts.{state_of_reach}
 use Rattle.rela_nfa.proofs.Reaching.{reach_start, reach_step, reach_each}
 
 -- ---- pairs that are reachable, and pairs that a word leads to
+
+leads_push : (next : Pair → List Pair) (s x y : Pair) (path : List Pair) → Leads next s path x → Contains (next x) y → Leads next s (path ++ y ∷ []) y
+leads_push next s x y [] here among = (subst (λ z. Contains (next z) y) (sym here) among, refl)
+leads_push next s x y (z ∷ rest) leads among = (leads.0, leads_push next z x y rest leads.1 among)
 
 module _ (a b : Automaton) where
   start_pair : Pair
@@ -44,8 +47,8 @@ module _ (a b : Automaton) where
 
   pub reachable_from_together : (x : Pair) → AreReachedTogether a b x → Reachable (next_pairs a b) (pair_of a.start b.start) x
   reachable_from_together x (word, reach) =
-      both_each a b (λ y w. Reachable (next_pairs a b) (pair_of a.start b.start) y) (reachable_start (next_pairs a b) (pair_of a.start b.start))
-      (λ y z letter w here step. reachable_next (next_pairs a b) (pair_of a.start b.start) y z here (step_next y z letter step)) x word reach
+      both_each a b (λ y w. Reachable (next_pairs a b) (pair_of a.start b.start) y) ([], refl)
+      (λ y z letter w (path, leads) step. (path ++ z ∷ [], leads_push (next_pairs a b) (pair_of a.start b.start) y z path leads (step_next y z letter step))) x word reach
 
   -- so there are as many of the one as of the other
   pub more_together : (limit : ℕ) → MoreThan limit (Reachable (next_pairs a b) (pair_of a.start b.start)) → MoreThan limit (AreReachedTogether a b)

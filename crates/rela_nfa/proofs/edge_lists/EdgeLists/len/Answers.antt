@@ -1,6 +1,6 @@
 use Rattle.std.proofs.Common.{length, map, sym, ap, ◌∙◌}
-use Rattle.rela_pairs.proofs.Parting.{parts_count}
 use Rattle.rela_nfa.specs.Stored.{move_of}
+use Rattle.rela_nfa.proofs.Parted.{parts_count}
 use Rattle.rela_nfa.proofs.edge_lists.EdgeLists.len.Goals as goal
 
 pub returns : goal.returns

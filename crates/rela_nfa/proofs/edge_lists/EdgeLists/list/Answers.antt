@@ -1,10 +1,9 @@
 use Rattle.std.proofs.Common.{◌≡◌, ◌+◌, ◌<◌, ◌≤◌, List, [], length, get_or, map, ap, ◌∙◌, arith, rules}
 use Rattle.std.proofs.lemmas.List.{get_or_default}
 use Rattle.rela_pairs.specs.Parting.{part}
-use Rattle.rela_pairs.proofs.Parting.{parts_count}
 use Rattle.rela_nfa.specs.Automaton.{Move}
 use Rattle.rela_nfa.specs.Stored.{move_of}
-use Rattle.rela_nfa.proofs.Parted.{list_in_order, list_within, list_mapped}
+use Rattle.rela_nfa.proofs.Parted.{parts_count, list_in_order, list_within, list_mapped}
 use Rattle.rela_nfa.proofs.edge_lists.EdgeLists.list.Given.{Over}
 use Rattle.rela_nfa.proofs.edge_lists.EdgeLists.list.Goals as goal
 

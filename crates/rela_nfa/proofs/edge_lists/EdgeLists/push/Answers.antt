@@ -1,9 +1,8 @@
 use Rattle.std.proofs.Common.{◌≡◌, ◌++◌, List, [], ◌∷◌, length, map, sym, ap, ◌∙◌, subst, arith, length-append}
 use Rattle.rela_pairs.specs.Parting.{parts, Rises}
-use Rattle.rela_pairs.proofs.Parting.{rises_more}
 use Rattle.rela_nfa.specs.Automaton.{Move}
 use Rattle.rela_nfa.specs.Stored.{move_of}
-use Rattle.rela_nfa.proofs.Parted.{lists_more}
+use Rattle.rela_nfa.proofs.Parted.{rises_more, lists_more}
 use Rattle.rela_nfa.proofs.edge_lists.EdgeLists.push.Goals as goal
 
 pub invariant_of-self-in_err-append : goal.invariant_of-self-in_err-append
