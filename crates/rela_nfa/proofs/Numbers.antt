@@ -1,9 +1,8 @@
 -- The pairs to which two automata go together, and their numbers.
-use Rattle.std.proofs.Common.{◌≡◌, ℕ, ◌<◌, Option, None, Some, inl, inr, List, [], length, get_or, sym, ap, ◌∙◌, subst}
-use Rattle.std.specs.List.{All, slice_get}
+use Rattle.std.proofs.Common.{◌≡◌, ℕ, ◌<◌, Option, None, Some, inl, inr, [], length, get_or, ap, subst}
+use Rattle.std.specs.List.{All}
 use Rattle.rela_pairs.specs.Exploration.{Exploration}
-use Rattle.rela_pairs.specs.Finding.{AreNumbers}
-use Rattle.std.proofs.lemmas.List.{get_or-map, length-map}
+use Rattle.std.proofs.lemmas.List.{get_or-map}
 use Rattle.std.proofs.lemmas.List.Elements.{All-map, Contains-get_or}
 use Rattle.rela_pairs.specs.declared.pair.Pair.{Pair}
 use Rattle.rela_nfa.specs.Automaton.{Automaton, IsAutomaton, states}
@@ -28,10 +27,6 @@ next_lead a b ok_a ok_b x left right =
         | inr both ↦ (leads_to_state a ok_a x.left y.left (Some both.0) both.2, leads_to_state b ok_b x.right y.right (Some both.0) both.3)
       ]
     ]
-
--- as many numbers as pairs
-pub numbers_length : (pairs xs : List Pair) (numbers : List ℕ) → AreNumbers pairs xs numbers → length numbers ≡ length xs
-numbers_length pairs xs numbers are = sym (length-map numbers (slice_get pairs)) ∙ ap length are ∙ length-map xs Some
 
 module _ (a b : Automaton) (explored : Exploration) (number : ℕ) (below : number < length explored.pairs) (none : Pair) where
   pub product_moves_of : product_moves_at a b explored number ≡ numbered (joint_moves a b (get_or explored.pairs number none)) (get_or explored.targets number [])

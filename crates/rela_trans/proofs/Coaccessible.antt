@@ -1,21 +1,24 @@
 -- The states from which moves lead on to a final state, found backwards from the final states.
-use Rattle.std.proofs.Common.{◌≡◌, ℕ, zero, suc, ◌+◌, ◌<◌, ◌≤◌, ◌⊎◌, ◌↔◌, Bool, true, false, IsTrue, cond, List, [], ◌∷◌, ◌++◌, length, get_or, set, map, take, refl, sym, ap, ◌∙◌, subst, inl, inr, arith}
+use Rattle.std.proofs.Common.{◌≡◌, ℕ, zero, suc, ◌+◌, ◌<◌, ◌≤◌, ◌⊎◌, ◌↔◌, Bool, true, false, IsTrue, cond, List, [], ◌∷◌, ◌++◌, length, get_or, set, map, take, refl, sym, ap, ◌∙◌, subst, inl, inr, arith, append_assoc, length-append}
 use Rattle.std.specs.List.{All, Contains, filter}
 use Rattle.std.proofs.lemmas.Bool.{cases_lt, cases_eq}
 use Rattle.std.proofs.lemmas.List.{append-nil, get_or_append_left, get_or_default, get_or-map, get_or_past, get_or-set_other, get_or-set_same, length-map, map-set, map_push, take-append-le, take_all, take_more}
 use Rattle.std.proofs.lemmas.List.Elements.{Contains-append_left, Contains-get_or, Contains-push, Contains-push_cases}
 use Rattle.rela_nfa.specs.StateSet.{AreFlagged, Inserts, Adds}
-use Rattle.rela_nfa.proofs.Flagged.{flag_within}
-use Rattle.rela_nfa.proofs.Growing.{adds_all, adds_both}
-use Rattle.rela_nfa.proofs.Moves.{Contains-nil}
 use Rattle.rela_pairs.specs.Reachable.{Leads, Reachable}
 use Rattle.rela_trans.specs.Coaccessible.{LeadsOn, ends_of, list_at, next_states}
 use Rattle.rela_trans.specs.Machine.{Machine, IsMachine, IsFinal, machine_states}
 use Rattle.std.specs.declared.vec.Vec.{Vec}
 use Rattle.rela_trans.specs.Stored.{lists_of, move_of}
 use Rattle.rela_trans.specs.declared.moves.Move.{Move}
+use Rattle.rela_trans.proofs.Flagged.{flag_within}
+use Rattle.rela_trans.proofs.ListLaws.{Contains-nil}
+use Rattle.rela_trans.proofs.Paths.{leads_push, reachable_next}
 
 -- ---- lists of states that grow
+
+keeps : {P : ℕ → Type 0} (old new : List ℕ) → Adds P old new → (q : ℕ) → Contains old q → Contains new q
+keeps old new adds q c = subst (λ l. Contains l q) (sym adds.longer.1) (Contains-append_left old adds.longer.0 q c)
 
 inserts_adds : (n : ℕ) (old new : List ℕ) → Inserts old new n → Adds (λ q. n ≡ q) old new
 inserts_adds n old new inserts = record {
@@ -25,6 +28,18 @@ inserts_adds n old new inserts = record {
     | inr more ↦ Contains-push_cases old n q (subst (λ l. Contains l q) more c)
   ];
   all = λ q same. subst (λ m. Contains new m) same inserts.0;
+}
+
+-- one after the other
+adds_both : (P Q R : ℕ → Type 0) (old mid new : List ℕ) → Adds P old mid → Adds Q mid new → ((m : ℕ) → P m → R m) → ((m : ℕ) → Q m → R m)
+    → ((m : ℕ) → R m → P m ⊎ Q m) → Adds R old new
+adds_both P Q R old mid new first second left right cases = record {
+  longer = (first.longer.0 ++ second.longer.0, second.longer.1 ∙ ap (λ l. l ++ second.longer.0) first.longer.1 ∙ append_assoc old first.longer.0 second.longer.0);
+  each = λ m c. elim (second.each m c) [
+    | inl before ↦ elim (first.each m before) [ inl there ↦ inl there | inr one ↦ inr (left m one) ]
+    | inr two ↦ inr (right m two)
+  ];
+  all = λ m holds. elim (cases m holds) [ inl one ↦ keeps mid new second m (first.all m one) | inr two ↦ second.all m two ];
 }
 
 -- one state more
@@ -52,30 +67,22 @@ adds_listed more i old mid new below before inserts =
     (adds_one (Contains (take i more)) (Contains (take i more ++ n ∷ [])) n old mid new before inserts
     (λ m c. Contains-append_left (take i more) (n ∷ []) m c) (Contains-push (take i more) n) (λ m c. Contains-push_cases (take i more) n m c))
 
-keeps : {P : ℕ → Type 0} (old new : List ℕ) → Adds P old new → (q : ℕ) → Contains old q → Contains new q
-keeps old new adds q c = subst (λ l. Contains l q) (sym adds.longer.1) (Contains-append_left old adds.longer.0 q c)
+pub adds_length : {P : ℕ → Type 0} (old new : List ℕ) → Adds P old new → length old ≤ length new
+adds_length old new adds = omega (arith, ap length adds.longer.1, length-append old adds.longer.0)
+
+-- to no state just those of P were added
+adds_all : (P : ℕ → Type 0) (now : List ℕ) → Adds P [] now → (q : ℕ) → Contains now q ↔ P q
+adds_all P now adds q = (λ c. elim (adds.each q c) [ inl none ↦ absurd (Contains-nil q none) | inr holds ↦ holds ], adds.all q)
 
 stays_at : {P : ℕ → Type 0} (old new : List ℕ) → Adds P old new → (k : ℕ) → k < length old → get_or new k 0 ≡ get_or old k 0
 stays_at old new adds k within = ap (λ l. get_or l k 0) adds.longer.1 ∙ get_or_append_left old adds.longer.0 0 k within
 
 -- ---- paths
 
-module _ (next : ℕ → List ℕ) where
-  leads_push : (path : List ℕ) (x y z : ℕ) → Leads next x path y → Contains (next y) z → Leads next x (path ++ z ∷ []) z
-  leads_push [] x y z here step = (subst (λ n. Contains (next n) z) (sym here) step, refl)
-  leads_push (w ∷ rest) x y z leads step = (leads.0, leads_push rest w y z leads.1 step)
-
-  reachable_push : (x y z : ℕ) → Reachable next x y → Contains (next y) z → Reachable next x z
-  reachable_push x y z (path, leads) step = (path ++ z ∷ [], leads_push path x y z leads step)
-
-  module _ (before : ℕ → List ℕ) (turned : (p q : ℕ) → Contains (next p) q → Contains (before q) p) where
-    leads_back : (path : List ℕ) (x y : ℕ) → Leads next x path y → (back : List ℕ) × Leads before y back x
-    leads_back [] x y here = ([], sym here)
-    leads_back (z ∷ rest) x y leads = let on = leads_back rest z y leads.1 in (on.0 ++ x ∷ [], push before on.0 y z x on.1 (turned x z leads.0))
-      where
-        push : (f : ℕ → List ℕ) (path : List ℕ) (a b c : ℕ) → Leads f a path b → Contains (f b) c → Leads f a (path ++ c ∷ []) c
-        push f [] a b c here step = (subst (λ n. Contains (f n) c) (sym here) step, refl)
-        push f (w ∷ rest) a b c leads step = (leads.0, push f rest w b c leads.1 step)
+module _ (next before : ℕ → List ℕ) (turned : (p q : ℕ) → Contains (next p) q → Contains (before q) p) where
+  leads_back : (path : List ℕ) (x y : ℕ) → Leads next x path y → (back : List ℕ) × Leads before y back x
+  leads_back [] x y here = ([], sym here)
+  leads_back (z ∷ rest) x y leads = let on = leads_back rest z y leads.1 in (on.0 ++ x ∷ [], leads_push before on.0 y z x on.1 (turned x z leads.0))
 
 -- ---- the queue: from the first states the lists lead to just the states so far, of which the first `done` have been followed
 pub record IsClosing (next : ℕ → List ℕ) (first now : List ℕ) (done : ℕ) : Type 0 where
@@ -97,7 +104,7 @@ module _ (next : ℕ → List ℕ) (first : List ℕ) where
           | inl old ↦ so_far.sound q old
           | inr step ↦
               let from = so_far.sound p (done, within, get_or_default before done p 0 within) in
-              (from.0, from.1, reachable_push next from.0 p q from.2 step)
+              (from.0, from.1, reachable_next next from.0 p q from.2 step)
         ];
         followed = λ k q below step. elim (cases_lt k done) [
           | inl less ↦ keeps before after adds q (so_far.followed k q less (subst (λ n. Contains (next n) q) (stays_at before after adds k (omega arith)) step))

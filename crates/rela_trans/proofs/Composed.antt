@@ -10,16 +10,16 @@ use Rattle.rela_pairs.specs.Exploration.{Exploration, NumbersNext}
 use Rattle.rela_pairs.specs.Finding.{AreNumbers}
 use Rattle.rela_pairs.specs.Reachable.{Leads, Reachable, AreDistinct, MoreThan}
 use Rattle.rela_pairs.specs.declared.pair.Pair.{Pair}
-use Rattle.rela_pairs.proofs.Steps.{reachable_start, reachable_next}
 use Rattle.rela_nfa.specs.Meeting.{pair_of}
-use Rattle.rela_nfa.proofs.Moves.{Contains-nil, Contains-cons_cases, Contains-map, Contains-map_back}
 use Rattle.rela_trans.specs.Composition.{Covers, ReachThrough, AreReachedThrough, IsComposition, IsProduct, joint_moves, next_pairs, numbered, final_both, product_moves_at}
 use Rattle.rela_trans.specs.Machine.{Machine, Kind, IsMachine, IsMove, IsSized, moves_of, machine_states}
 use Rattle.rela_trans.specs.Runs.{Does, StepIn, HasStep, ReachR, Relates}
 use Rattle.rela_trans.specs.declared.joint.JointMove.{JointMove}
 use Rattle.rela_trans.specs.declared.moves.Move.{Move}
 use Rattle.rela_trans.proofs.JointSteps.{JointStep, joint_in, joint_some, joint_sized, joint_out, through_start, through_step, through_each}
+use Rattle.rela_trans.proofs.ListLaws.{Contains-nil, Contains-cons_cases, Contains-map, Contains-map_back}
 use Rattle.rela_trans.proofs.Parts.{state_of_reach}
+use Rattle.rela_trans.proofs.Paths.{reachable_start, reachable_next}
 use Rattle.rela_trans.proofs.Reaching.{reach_start, reach_step, reach_each}
 
 -- ---- pairs that are reachable, and pairs that a word in the middle leads to

@@ -4,12 +4,12 @@ use Rattle.std.specs.List.{All}
 use Rattle.std.specs.Prelude.{replicate}
 use Rattle.std.proofs.lemmas.List.{append-nil, get_or_append_left, get_or-replicate, length-replicate}
 use Rattle.std.proofs.lemmas.List.Elements.{All-append}
-use Rattle.rela_nfa.proofs.Parts.{get_or_last}
 use Rattle.rela_trans.specs.Machine.{Machine, IsMachine, IsMove, IsFinal, machine_states}
 use Rattle.rela_trans.specs.Runs.{HasStep, ReachR, Relates}
 use Rattle.rela_trans.specs.Construction.{copied}
 use Rattle.rela_trans.specs.Relations.{PairJoins}
 use Rattle.rela_trans.specs.declared.moves.Move.{Move}
+use Rattle.rela_trans.proofs.ListLaws.{get_or_last}
 use Rattle.rela_trans.proofs.Parts.{IsPart, part_at, part_last, part_step, part_exit, part_cases, leads_to_state, state_of_reach, length-copied, copied_ok}
 use Rattle.rela_trans.proofs.Reaching.{subst_pair, reach_start, reach_step, reach_silent, reach_each, reach_renamed}
 

@@ -6,12 +6,12 @@ use Rattle.std.proofs.lemmas.List.{get_or-set_other, get_or-set_same, take_more}
 use Rattle.std.proofs.lemmas.List.Elements.{All-contains, Contains-append_left, Contains-get_or, Contains-push, Contains-push_cases}
 use Rattle.std.proofs.lemmas.List.Sums.{sum_by-set}
 use Rattle.std.specs.Option.{unwrap_or}
-use Rattle.rela_nfa.proofs.Moves.{Contains-nil}
 use Rattle.rela_trans.specs.Construction.{silent}
 use Rattle.rela_trans.specs.Detours.{ByDetours, Detours, IsDetour, IsEnd, IsPassed, IsWalked}
 use Rattle.rela_trans.specs.Machine.{Machine, IsMachine, IsMove, IsFinal, machine_states, moves_of}
 use Rattle.rela_trans.specs.declared.moves.Move.{Move}
 use Rattle.rela_trans.proofs.Accessors.{moves_ok}
+use Rattle.rela_trans.proofs.ListLaws.{Contains-nil}
 
 -- ---- one detour
 

@@ -11,9 +11,6 @@ use Rattle.rela_pairs.specs.declared.pair.Pair.{Pair}
 use Rattle.rela_nfa.specs.Automaton.{Automaton, Move as Edge, IsAutomaton, IsMove as IsEdge, moves_of as edges_of, states}
 use Rattle.rela_nfa.specs.Meeting.{pair_of}
 use Rattle.rela_nfa.specs.Relabelling.{relabelled}
-use Rattle.rela_nfa.proofs.Joint.{in_flat_map, from_flat_map}
-use Rattle.rela_nfa.proofs.Moves.{Contains-nil, Contains-cons_cases}
-use Rattle.rela_nfa.proofs.Parts.{moves_ok as edges_ok}
 use Rattle.rela_trans.specs.ImageMoves.{source_of}
 use Rattle.rela_trans.specs.Machine.{Machine, Kind, IsMachine, IsMove, moves_of, machine_states}
 use Rattle.rela_trans.specs.Reached.{only_letter, only_parent, may_have, may_read, reads_nothing, pair_if, alone_pairs, label_pairs, edge_pairs, reading_pairs}
@@ -24,9 +21,11 @@ use Rattle.rela_trans.specs.declared.moves.Move.{Move}
 use Rattle.rela_trans.specs.declared.moves.MoveKind.TheVariants.{Silent, In, Out, Same}
 use Rattle.rela_trans.specs.declared.tapes.Tape.TheVariants.{Both}
 use Rattle.rela_trans.proofs.Accessors.{moves_ok}
+use Rattle.rela_trans.proofs.Edges.{edges_ok}
 use Rattle.rela_trans.proofs.ImageMade.{source_lifted}
 use Rattle.rela_trans.proofs.JointSteps.{JointStep}
 use Rattle.rela_trans.proofs.Lifted.{same_moves as source_moves}
+use Rattle.rela_trans.proofs.ListLaws.{in_flat_map, from_flat_map, Contains-nil, Contains-cons_cases}
 use Rattle.rela_trans.proofs.Mapped.{get_or-map_nil, mapped_back}
 use Rattle.rela_trans.proofs.Relabelled.{IsRelabelled}
 use Rattle.rela_trans.proofs.Singles.{only_is}

@@ -5,8 +5,6 @@ use Rattle.std.proofs.lemmas.List.{append-nil, same_from_push}
 use Rattle.std.proofs.lemmas.List.Elements.{Contains-append_left, Contains-append_right, Contains-append_cases, All-contains}
 use Rattle.rela_pairs.specs.declared.pair.Pair.{Pair}
 use Rattle.rela_nfa.specs.Meeting.{pair_of}
-use Rattle.rela_nfa.proofs.Joint.{in_flat_map, from_flat_map}
-use Rattle.rela_nfa.proofs.Moves.{Contains-nil, Contains-cons_cases}
 use Rattle.rela_trans.specs.Composition.{Covers, ReachThrough, first_alone, second_alone, both_by_letter, made, first_moves, second_moves, moves_with, joint_moves}
 use Rattle.rela_trans.specs.Machine.{Machine, Kind, IsMachine, IsMove, IsSized, moves_of, machine_states}
 use Rattle.rela_trans.specs.Runs.{Does, HasStep, ReachR}
@@ -15,6 +13,7 @@ use Rattle.rela_trans.specs.declared.moves.Move.{Move}
 use Rattle.rela_trans.specs.declared.moves.MoveKind.TheVariants.{Silent, In, Out, Same}
 use Rattle.rela_trans.proofs.Accessors.{moves_ok}
 use Rattle.rela_trans.proofs.KindsTogether.{CanBeDone, first_does, second_does, both_does, first_made, second_made, both_made, first_can, second_can, both_can, first_sized, second_sized, both_sized}
+use Rattle.rela_trans.proofs.ListLaws.{in_flat_map, from_flat_map, Contains-nil, Contains-cons_cases}
 use Rattle.rela_trans.proofs.Reaching.{subst_pair, reach_start, reach_step, reach_each}
 
 -- ---- a joint step: one alone, or both by one symbol, which the first writes and the second reads

@@ -9,7 +9,6 @@ use Rattle.std.proofs.lemmas.List.FromFn.{get_or-map-range_with_len, length-map-
 use Rattle.rela_labels.specs.Partition.{block_of}
 use Rattle.rela_pairs.specs.Reachable.{Reachable}
 use Rattle.rela_pairs.specs.declared.pair.Pair.{Pair}
-use Rattle.rela_pairs.proofs.Steps.{reachable_start, reachable_next}
 use Rattle.rela_nfa.specs.Automaton.{Automaton, IsAutomaton}
 use Rattle.rela_nfa.specs.Meeting.{pair_of}
 use Rattle.rela_nfa.specs.Relabelling.{blocks_of}
@@ -27,6 +26,7 @@ use Rattle.rela_trans.proofs.Accessors.{moves_ok}
 use Rattle.rela_trans.proofs.Following.{whole, whole_is, whole_moves, source_edge, step_follows}
 use Rattle.rela_trans.proofs.ImageMade.{source_reached}
 use Rattle.rela_trans.proofs.JointSteps.{JointStep, through_each}
+use Rattle.rela_trans.proofs.Paths.{reachable_start, reachable_next}
 use Rattle.rela_trans.proofs.Reaching.{subst_pair, reach_start, reach_step, reach_each}
 use Rattle.rela_trans.proofs.Relabelled.{relabelled_sized, relabelled_reach}
 use Rattle.rela_trans.proofs.Steps.{no_step}

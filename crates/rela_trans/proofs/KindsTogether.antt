@@ -1,18 +1,16 @@
 -- What two kinds of moves do together, the second reading what the first writes.
-use Rattle.std.proofs.Common.{◌≡◌, ℕ, ◌<◌, ◌&&◌, Bool, true, false, if◌then◌else◌, List, [], ◌∷◌, length, get_or, Option, None, Some, refl, sym, ap, ◌∙◌, subst, inl, inr, arith}
+use Rattle.std.proofs.Common.{◌≡◌, ℕ, ◌&&◌, Bool, true, false, if◌then◌else◌, List, [], ◌∷◌, length, get_or, Option, None, Some, refl, sym, ap, ◌∙◌, subst, arith}
 use Rattle.std.specs.List.{list_any}
 use Rattle.std.specs.Option.{option_map}
-use Rattle.std.proofs.lemmas.Bool.{cases_lt, false≢true}
-use Rattle.std.proofs.lemmas.List.{get_or_past}
 use Rattle.std.proofs.lemmas.List.FromFn.{length-map-range_with_len}
 use Rattle.std.proofs.lemmas.Option.{same_Some, none-some}
 use Rattle.rela_labels.specs.Letters.{has}
 use Rattle.rela_nfa.specs.Meeting.{common}
-use Rattle.rela_nfa.proofs.Joint.{common_both, both_common, some_letter, any_letter}
 use Rattle.rela_trans.specs.Composition.{Covers, unless_empty, first_alone, second_alone, both_by_letter}
 use Rattle.rela_trans.specs.Machine.{Kind, IsSized}
 use Rattle.rela_trans.specs.Runs.{IsSymbolOf, Does}
 use Rattle.rela_trans.specs.declared.moves.MoveKind.TheVariants.{Silent, In, Out, Same}
+use Rattle.rela_trans.proofs.SharedLetters.{has_below, common_both, both_common, some_letter, any_letter}
 
 -- ---- a set, unless it is empty
 
@@ -35,9 +33,6 @@ one_symbol read set s (t, among, e) = subst (λ n. has set (read n) ≡ true) (s
 
 no_symbol_of : (read : ℕ → ℕ) (set : List Bool) → IsSymbolOf read set [] → ⊥
 no_symbol_of read set (s, among, e) = no_symbol s e
-
-pub has_below : (set : List Bool) (k : ℕ) → has set k ≡ true → k < length set
-has_below set k among = elim (cases_lt k (length set)) [ inl below ↦ below | inr past ↦ absurd (false≢true (sym (get_or_past set k false past) ∙ among)) ]
 
 -- ---- what is made does what the two do
 

@@ -3,12 +3,12 @@ use Rattle.std.proofs.Common.{◌≡◌, ℕ, zero, suc, ◌↔◌, Bool, true, 
 use Rattle.std.specs.List.{All, Contains, filter}
 use Rattle.std.proofs.lemmas.List.{length-map}
 use Rattle.std.proofs.lemmas.List.Elements.{All-filter, All-map, All-weaker}
-use Rattle.rela_nfa.proofs.Moves.{Contains-nil, Contains-cons_cases, Contains-map, Contains-map_back}
 use Rattle.rela_pairs.specs.Reachable.{Leads}
 use Rattle.rela_trans.specs.Coaccessible.{LeadsOn, kept_by, next_states}
 use Rattle.rela_trans.specs.Machine.{Machine, IsMachine, IsMove, IsFinal, machine_states, moves_of}
 use Rattle.rela_trans.specs.Runs.{Step, HasStep, Follow, ReachR, Relates}
 use Rattle.rela_trans.specs.declared.moves.Move.{Move}
+use Rattle.rela_trans.proofs.ListLaws.{Contains-nil, Contains-cons_cases, Contains-map, Contains-map_back}
 use Rattle.rela_trans.proofs.Reaching.{reach_start, reach_step, reach_each}
 
 -- the same transducer, of whose moves those are kept that lead to a state whose flag is set: one that leads on

@@ -3,6 +3,9 @@ pub mod Coaccessible
 pub mod Composed
 pub mod Concats
 pub mod Detouring
+pub mod Directed
+pub mod Edges
+pub mod Flagged
 pub mod Following
 pub mod ImageMade
 pub mod ImagePairs
@@ -12,12 +15,14 @@ pub mod Kept
 pub mod KindsTogether
 pub mod LeadingOn
 pub mod Lifted
+pub mod ListLaws
 pub mod Mapped
 pub mod MappedWords
 pub mod Marked
 pub mod NumberedMoves
 pub mod OneMore
 pub mod Parts
+pub mod Paths
 pub mod Reaching
 pub mod ReadLetters
 pub mod Relabelled

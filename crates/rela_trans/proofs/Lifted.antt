@@ -1,5 +1,5 @@
 -- What a transducer reaches and relates that follows an automaton on its tapes.
-use Rattle.std.proofs.Common.{◌≡◌, ℕ, ◌↔◌, Bool, true, false, List, [], ◌∷◌, ◌++◌, length, get_or, map, Option, None, Some, inl, inr, refl, sym, ap, ◌∙◌, subst, arith, length-append}
+use Rattle.std.proofs.Common.{◌≡◌, ℕ, ◌↔◌, Bool, true, false, List, [], ◌∷◌, ◌++◌, length, get_or, map, Option, None, Some, inl, inr, refl, sym, ap, ◌∙◌, subst, arith}
 use Rattle.std.specs.List.{All, range_with_len}
 use Rattle.std.specs.Option.{ForSome, option_map, option_to_list}
 use Rattle.std.proofs.lemmas.Bool.{cases_lt, false≢true}
@@ -9,16 +9,15 @@ use Rattle.std.proofs.lemmas.List.FromFn.{get_or-map-range_with_len, length-map-
 use Rattle.rela_nfa.specs.Automaton.{Automaton, IsAutomaton, IsMove as IsEdge, moves_of as edges_of, states}
 use Rattle.rela_nfa.specs.Reading.{takes}
 use Rattle.rela_nfa.specs.Runs.{HasStep as HasEdge, Reach, Accepts}
-use Rattle.rela_nfa.proofs.Joint.{step_edge, edge_step}
-use Rattle.rela_nfa.proofs.Parts.{moves_ok as edges_ok}
-use Rattle.rela_nfa.proofs.Reaching.{reach_start as word_start, reach_step as word_step, reach_each as word_each}
 use Rattle.rela_trans.specs.Machine.{Machine, IsMachine, IsMove, IsSized, moves_of, machine_states}
 use Rattle.rela_trans.specs.Relations.{PairJoins}
 use Rattle.rela_trans.specs.Runs.{Does, HasStep, ReachR, Relates}
 use Rattle.rela_trans.specs.Tapes.{lifted_kind, lifted, lifted_at, OnTape}
 use Rattle.rela_trans.specs.declared.tapes.Tape.{Tape}
 use Rattle.rela_trans.specs.declared.tapes.Tape.TheVariants.{Input, Output, Both}
+use Rattle.rela_trans.proofs.Edges.{step_edge, edge_step, edges_ok, word_start, word_step, word_each}
 use Rattle.rela_trans.proofs.Mapped.{mapped_back, mapped_on}
+use Rattle.rela_trans.proofs.MappedWords.{map_last}
 use Rattle.rela_trans.proofs.Reaching.{subst_pair, reach_start, reach_step, reach_each}
 
 -- what is read where the word stands on the tape
@@ -86,18 +85,6 @@ does_on read tape (Some set) None taken = absurd (false≢true taken)
 does_on read Input (Some set) (Some s) taken = ((s, taken, refl), refl)
 does_on read Output (Some set) (Some s) taken = (refl, (s, taken, refl))
 does_on read Both (Some set) (Some s) taken = ((s, taken, refl), refl)
-
--- the last of a word of which each symbol is read as its letter
-map_last : (f : ℕ → ℕ) (w v : List ℕ) (j : ℕ) → v ++ j ∷ [] ≡ map f w → (front : List ℕ) × (s : ℕ) × (w ≡ front ++ s ∷ []) × (v ≡ map f front) × (j ≡ f s)
-map_last f [] v j same = absurd (omega (arith, ap length same, length-append v (j ∷ [])))
-map_last f (s ∷ []) [] j same = let at : j ≡ f s = cc in ([], s, refl, refl, at)
-map_last f (s ∷ t ∷ w) [] j same = absurd (omega (arith, ap length same))
-map_last f (s ∷ []) (x ∷ v) j same = absurd (omega (arith, ap length same, length-append v (j ∷ [])))
-map_last f (s ∷ t ∷ w) (x ∷ v) j same =
-    let head : x ≡ f s = cc in
-    let tail : v ++ j ∷ [] ≡ map f (t ∷ w) = cc in
-    let last = map_last f (t ∷ w) v j tail in
-    (s ∷ last.0, last.1, ap (λ l. s ∷ l) last.2, (λ i. head i ∷ last.3 i), last.4)
 
 -- the states of the automaton, each of its edges a move
 pub record IsLifted (tape : Tape) (a : Automaton) (r : Machine) : Type 0 where

@@ -1,10 +1,10 @@
 -- Steps of a transducer whose moves stand for other data, one for one.
 use Rattle.std.proofs.Common.{◌≡◌, ℕ, zero, suc, Bool, List, [], ◌∷◌, get_or, map, refl, sym, ap, subst}
 use Rattle.std.specs.List.{Contains}
-use Rattle.rela_nfa.proofs.Moves.{Contains-map, Contains-map_back}
 use Rattle.rela_trans.specs.Machine.{Machine, Kind, moves_of}
 use Rattle.rela_trans.specs.Runs.{Does, HasStep}
 use Rattle.rela_trans.specs.declared.moves.Move.{Move}
+use Rattle.rela_trans.proofs.ListLaws.{Contains-map, Contains-map_back}
 
 pub get_or-map_nil : {X Y : Type 0} (f : X → Y) (xs : List (List X)) (k : ℕ) → get_or (map (map f) xs) k [] ≡ map f (get_or xs k [])
 get_or-map_nil f [] k = refl

@@ -1,12 +1,12 @@
 -- Joint moves that get the numbers of their ends from the last to the first.
-use Rattle.std.proofs.Common.{◌≡◌, ℕ, ◌+◌, ◌<◌, Bool, inl, inr, List, [], ◌∷◌, ◌++◌, length, get_or, map, take, drop, reverse, refl, sym, ap, ◌∙◌, subst, arith}
-use Rattle.std.specs.List.{All}
+use Rattle.std.proofs.Common.{◌≡◌, ℕ, ◌+◌, ◌<◌, Bool, Some, inl, inr, List, [], ◌∷◌, ◌++◌, length, get_or, map, take, drop, reverse, refl, sym, ap, ◌∙◌, subst, arith}
+use Rattle.std.specs.List.{All, slice_get}
 use Rattle.std.proofs.lemmas.List.{drop_more, drop-map, get_or-map, length-map, reverse-append, reverse-reverse, map-append, same_from_push, take_more}
 use Rattle.std.proofs.lemmas.List.Elements.{All-map, Contains-get_or}
 use Rattle.std.proofs.lemmas.Option.{slice_get-get_or}
 use Rattle.rela_pairs.specs.Exploration.{Exploration, NumbersNext}
+use Rattle.rela_pairs.specs.Finding.{AreNumbers}
 use Rattle.rela_pairs.specs.declared.pair.Pair.{Pair}
-use Rattle.rela_nfa.proofs.Numbers.{numbers_length}
 use Rattle.rela_trans.specs.Composition.{joint_of, joint_moves, next_pairs, numbered, product_moves_at}
 use Rattle.rela_trans.specs.Machine.{Machine, IsMachine, machine_states}
 use Rattle.rela_trans.specs.Stored.{kind_of}
@@ -72,9 +72,10 @@ popped all old new n x front below last = same_from_push new (take n all) x (get
 module _ (a b : Machine) (explored : Exploration) (number : ℕ) (below : number < length explored.pairs) (none : Pair) where
   pub targets_count : NumbersNext (next_pairs a b) explored → length (get_or explored.targets number []) ≡ length (joint_moves a b (get_or explored.pairs number none))
   targets_count targets =
-      numbers_length explored.pairs (next_pairs a b (get_or explored.pairs number none)) (get_or explored.targets number [])
-      (targets number (get_or explored.pairs number none) (slice_get-get_or explored.pairs number none below))
-      ∙ length-map (joint_moves a b (get_or explored.pairs number none)) (λ (j : JointMove (List Bool)). j.to)
+      let x : Pair = get_or explored.pairs number none in
+      let are : AreNumbers explored.pairs (next_pairs a b x) (get_or explored.targets number []) = targets number x (slice_get-get_or explored.pairs number none below) in
+      sym (length-map (get_or explored.targets number []) (slice_get explored.pairs)) ∙ ap length are ∙ length-map (next_pairs a b x) Some
+      ∙ length-map (joint_moves a b x) (λ (j : JointMove (List Bool)). j.to)
 
   pub product_moves_of : product_moves_at a b explored number ≡ numbered (joint_moves a b (get_or explored.pairs number none)) (get_or explored.targets number [])
   product_moves_of = ap (λ l. numbered l (get_or explored.targets number [])) (get_or-map (joint_moves a b) explored.pairs number none [] below)

@@ -6,13 +6,12 @@ use Rattle.std.proofs.lemmas.Bool.{cases_Bool, cases_lt, cond_both}
 use Rattle.std.proofs.lemmas.List.{get_or_past}
 use Rattle.std.proofs.lemmas.List.Elements.{All-nil, All-cons, All-append, All-map, All-weaker, All-contains}
 use Rattle.std.proofs.lemmas.List.FromFn.{get_or-map-range_with_len, length-map-range_with_len}
-use Rattle.rela_nfa.proofs.Moves.{Contains-cons_cases, Contains-nil}
-use Rattle.rela_nfa.proofs.Parts.{get_or_block, get_or_last}
 use Rattle.rela_trans.specs.Machine.{Machine, IsMachine, IsMove, IsFinal, moves_of, machine_states}
 use Rattle.rela_trans.specs.Runs.{StepIn, HasStep, ReachR}
 use Rattle.rela_trans.specs.Construction.{shifted, silent, leaving, copied}
 use Rattle.rela_trans.specs.declared.moves.Move.{Move}
 use Rattle.rela_trans.proofs.Accessors.{moves_ok}
+use Rattle.rela_trans.proofs.ListLaws.{Contains-cons_cases, Contains-nil, get_or_block, get_or_last}
 use Rattle.rela_trans.proofs.Reaching.{reach_each}
 use Rattle.rela_trans.proofs.Steps.{no_step, step_left, step_right, step_cases, silent_step, silent_step_only, shifted_step, shifted_step_back}
 

@@ -6,8 +6,8 @@ use Rattle.rela_trans.specs.Machine.{Machine, Kind, IsMachine, IsMove, IsSized, 
 use Rattle.rela_trans.specs.Runs.{IsSymbolOf, Does, HasStep, ReachR, Relates}
 use Rattle.rela_trans.specs.declared.moves.MoveKind.TheVariants.{Silent, In, Out, Same}
 use Rattle.rela_trans.proofs.Accessors.{moves_ok}
-use Rattle.rela_trans.proofs.KindsTogether.{has_below}
 use Rattle.rela_trans.proofs.Reaching.{reach_each}
+use Rattle.rela_trans.proofs.SharedLetters.{has_below}
 
 module _ (letters : ℕ) where
   abbrev AreLetters : List ℕ → Type 0

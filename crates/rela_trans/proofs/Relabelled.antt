@@ -1,10 +1,10 @@
 -- What a transducer reaches and relates over a finer partition.
-use Rattle.std.proofs.Common.{◌≡◌, ℕ, ◌<◌, ◌↔◌, Bool, false, List, [], ◌∷◌, ◌++◌, length, get_or, map, sym, ap, ◌∙◌, subst, arith}
+use Rattle.std.proofs.Common.{◌≡◌, ℕ, zero, suc, ◌<◌, ◌↔◌, Bool, false, List, [], ◌∷◌, ◌++◌, length, get_or, map, sym, ap, ◌∙◌, subst, arith}
 use Rattle.std.specs.List.{All}
 use Rattle.std.proofs.lemmas.List.{get_or-map, length-map}
 use Rattle.std.proofs.lemmas.List.Elements.{All-map, All-weaker, All-contains, Contains-append_left, Contains-append_right, Contains-get_or}
 use Rattle.rela_labels.specs.Letters.{has}
-use Rattle.rela_labels.specs.Partition.{block_of}
+use Rattle.rela_labels.specs.Partition.{block_of, block_count}
 use Rattle.rela_nfa.specs.Relabelling.{relabelled}
 use Rattle.rela_trans.specs.Machine.{Machine, Kind, IsMachine, IsMove, IsSized, moves_of, machine_states}
 use Rattle.rela_trans.specs.Runs.{Does, IsSymbolOf, HasStep, ReachR, Relates}
@@ -12,6 +12,12 @@ use Rattle.rela_trans.specs.Relabelling.{relabelled_kind, relabelled_move}
 use Rattle.rela_trans.specs.declared.moves.MoveKind.TheVariants.{Silent, In, Out, Same}
 use Rattle.rela_trans.proofs.Mapped.{get_or-map_nil, mapped_back, mapped_on}
 use Rattle.rela_trans.proofs.Reaching.{reach_start, reach_step, reach_each}
+
+pub block_below : (partition : List ℕ) (s : ℕ) → s < length partition → block_of partition s < block_count partition
+unfolding block_count
+block_below [] s below = absurd (omega (arith, below))
+block_below (b ∷ others) zero below = omega arith
+block_below (b ∷ others) (suc s) below = omega (arith, block_below others s (omega (arith, below)))
 
 -- the same transducer with other sets
 pub record IsRelabelled (parents : List ℕ) (t r : Machine) : Type 0 where

@@ -4,7 +4,6 @@ use Rattle.std.specs.List.{All, Contains}
 use Rattle.std.specs.declared.vec.Vec.{Vec}
 use Rattle.std.proofs.lemmas.List.{get_or-map, length-map}
 use Rattle.std.proofs.lemmas.List.Elements.{All-contains, All-map, All-weaker}
-use Rattle.rela_nfa.proofs.Moves.{Contains-nil, Contains-cons_cases, Contains-map_back}
 use Rattle.rela_trans.specs.Coaccessible.{next_states}
 use Rattle.rela_trans.specs.Construction.{silent}
 use Rattle.rela_trans.specs.Detours.{ByDetours, Detours, IsDetour, IsEnd, redirected}
@@ -16,6 +15,7 @@ use Rattle.rela_trans.specs.declared.moves.MoveKind.TheVariants.{Silent}
 use Rattle.rela_trans.proofs.Accessors.{moves_ok}
 use Rattle.rela_trans.proofs.Detouring.{detours_below}
 use Rattle.rela_trans.proofs.InPlace.{at_first}
+use Rattle.rela_trans.proofs.ListLaws.{Contains-nil, Contains-cons_cases, Contains-map_back}
 use Rattle.rela_trans.proofs.Mapped.{get_or-map_nil, mapped_back, mapped_on}
 
 -- the moves of one more list lead where those of the first lists do

@@ -5,8 +5,8 @@ use Rattle.std.specs.Option.{option_map}
 use Rattle.std.proofs.lemmas.Bool.{cases_Bool, cases_eq, eq-eqb, ne_eqb, false≢true, false_from_ne_true}
 use Rattle.std.proofs.lemmas.Option.{same_Some}
 use Rattle.rela_labels.specs.Letters.{has}
-use Rattle.rela_nfa.proofs.Joint.{any_letter, none_in}
 use Rattle.rela_trans.specs.Reached.{only_letter}
+use Rattle.rela_trans.proofs.SharedLetters.{any_letter, none_in}
 
 -- k is the one letter of the set
 pub record IsOnly (set : List Bool) (k : ℕ) : Type 0 where

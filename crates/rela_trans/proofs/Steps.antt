@@ -2,12 +2,12 @@
 use Rattle.std.proofs.Common.{◌≡◌, ℕ, ◌+◌, ◌⊎◌, Bool, List, [], ◌++◌, map, refl, sym, ap, subst, inl, inr}
 use Rattle.std.specs.List.{Contains}
 use Rattle.std.proofs.lemmas.List.Elements.{Contains-append_left, Contains-append_right, Contains-append_cases}
-use Rattle.rela_nfa.proofs.Moves.{Contains-nil, Contains-map, Contains-map_back}
 use Rattle.rela_trans.specs.Machine.{Kind}
 use Rattle.rela_trans.specs.Runs.{Does, StepIn}
 use Rattle.rela_trans.specs.Construction.{shifted, silent}
 use Rattle.rela_trans.specs.declared.moves.Move.{Move}
 use Rattle.rela_trans.specs.declared.moves.MoveKind.TheVariants.{Silent}
+use Rattle.rela_trans.proofs.ListLaws.{Contains-nil, Contains-map, Contains-map_back}
 
 module _ (read : ℕ → ℕ) (input output : List ℕ) (q : ℕ) where
   module _ (xs ys : List (Move (List Bool))) where

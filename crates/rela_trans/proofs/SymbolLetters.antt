@@ -8,9 +8,9 @@ use Rattle.rela_trans.specs.Machine.{Machine, Kind, IsMachine, IsMove, IsSized, 
 use Rattle.rela_trans.specs.Runs.{IsSymbolOf, Does, HasStep, ReachR, Relates}
 use Rattle.rela_trans.specs.declared.moves.MoveKind.TheVariants.{Silent, In, Out, Same}
 use Rattle.rela_trans.proofs.Accessors.{moves_ok}
-use Rattle.rela_trans.proofs.KindsTogether.{has_below}
 use Rattle.rela_trans.proofs.MappedWords.{no_word, one_symbol, split_word}
 use Rattle.rela_trans.proofs.Reaching.{subst_pair, reach_start, reach_step, reach_each}
+use Rattle.rela_trans.proofs.SharedLetters.{has_below}
 
 module _ (read : ℕ → ℕ) where
   -- ---- from symbols to letters

@@ -2,12 +2,11 @@
 use Rattle.std.proofs.Common.{◌≡◌, ℕ, ◌+◌, ◌<◌, ◌⊎◌, ◌↔◌, Bool, false, List, [], ◌∷◌, ◌++◌, length, get_or, map, None, refl, sym, ap, ◌∙◌, subst, inl, inr, arith, length-append}
 use Rattle.std.specs.List.{All, Contains}
 use Rattle.std.proofs.lemmas.List.Elements.{All-nil, All-cons, All-append}
-use Rattle.rela_nfa.proofs.Moves.{Contains-cons_cases, Contains-nil}
-use Rattle.rela_nfa.proofs.Parts.{get_or_block, get_or_last}
 use Rattle.rela_trans.specs.Machine.{Machine, IsMachine, IsMove, IsFinal, moves_of, machine_states}
 use Rattle.rela_trans.specs.Runs.{StepIn, HasStep, ReachR, Relates}
 use Rattle.rela_trans.specs.Construction.{silent, copied}
 use Rattle.rela_trans.specs.declared.moves.Move.{Move}
+use Rattle.rela_trans.proofs.ListLaws.{Contains-cons_cases, Contains-nil, get_or_block, get_or_last}
 use Rattle.rela_trans.proofs.Steps.{silent_step, silent_step_only}
 use Rattle.rela_trans.proofs.Parts.{IsPart, part_at, part_last, part_step, part_cases, leads_to_state, state_of_reach, length-copied, copied_ok, silents_ok}
 use Rattle.rela_trans.proofs.Reaching.{subst_pair, reach_start, reach_step, reach_silent, reach_each, reach_renamed}

@@ -10,7 +10,6 @@ use Rattle.rela_pairs.specs.declared.pair.Pair.{Pair}
 use Rattle.rela_nfa.specs.Automaton.{Automaton, Move as Edge, IsAutomaton, moves_of as edges_of}
 use Rattle.rela_nfa.specs.Directing.{Label, directed, extended, silent_label, silent_labels}
 use Rattle.rela_nfa.specs.Meeting.{common, pair_of}
-use Rattle.rela_nfa.proofs.InTurn.{extended_more, map-flat_map}
 use Rattle.rela_trans.specs.Composition.{unless_empty, first_alone, second_alone, both_by_letter, made, first_moves, second_moves, moves_with, joint_moves, next_pairs, numbered}
 use Rattle.rela_trans.specs.ImageMoves.{source_of, source_alone, read_by, source_moves, read_moves, image_moves, written_label, written_labels, alone_labels, read_labels, image_labels}
 use Rattle.rela_trans.specs.Images.{written_by, written_edges}
@@ -20,7 +19,9 @@ use Rattle.rela_trans.specs.declared.joint.JointMove.{JointMove}
 use Rattle.rela_trans.specs.declared.moves.Move.{Move}
 use Rattle.rela_trans.specs.declared.moves.MoveKind.TheVariants.{Silent, In, Out, Same}
 use Rattle.rela_trans.specs.declared.tapes.Tape.TheVariants.{Both}
+use Rattle.rela_trans.proofs.Directed.{extended_more}
 use Rattle.rela_trans.proofs.Lifted.{same_moves}
+use Rattle.rela_trans.proofs.ListLaws.{map-flat_map}
 
 abbrev Joint : Type 0
 Joint = JointMove (List Bool)

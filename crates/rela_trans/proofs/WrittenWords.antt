@@ -1,5 +1,5 @@
 -- What an automaton reads that stands for what a transducer writes.
-use Rattle.std.proofs.Common.{◌≡◌, ℕ, zero, suc, ◌<◌, ◌↔◌, Bool, true, false, if◌then◌else◌, List, [], ◌∷◌, ◌++◌, length, get_or, map, Option, None, Some, Result, Ok, Err, IfOk, refl, sym, ap, ◌∙◌, subst, inl, inr, arith, length-append}
+use Rattle.std.proofs.Common.{◌≡◌, ℕ, zero, suc, ◌<◌, ◌↔◌, Bool, true, false, if◌then◌else◌, List, [], ◌∷◌, ◌++◌, length, get_or, map, Option, None, Some, Result, Ok, Err, IfOk, refl, sym, ap, ◌∙◌, subst, inl, inr, arith}
 use Rattle.std.specs.List.{All, Contains, list_any}
 use Rattle.std.specs.Option.{option_to_list}
 use Rattle.std.proofs.lemmas.Bool.{false≢true}
@@ -9,9 +9,6 @@ use Rattle.rela_labels.specs.Letters.{has}
 use Rattle.rela_nfa.specs.Automaton.{Automaton, Move as Edge, IsAutomaton, IsMove as IsEdge, moves_of as edges_of, states}
 use Rattle.rela_nfa.specs.Reading.{takes}
 use Rattle.rela_nfa.specs.Runs.{Reach, Accepts, HasStep as HasEdge, StepIn as EdgeIn}
-use Rattle.rela_nfa.proofs.Joint.{step_edge, edge_step, in_flat_map, from_flat_map, some_letter, any_letter}
-use Rattle.rela_nfa.proofs.Moves.{Contains-nil, Contains-cons_cases}
-use Rattle.rela_nfa.proofs.Reaching.{reach_start as start_read, reach_step as step_read, reach_each as each_read}
 use Rattle.rela_trans.specs.Composition.{Covers}
 use Rattle.rela_trans.specs.Images.{written_by, written_edges, IsWritten}
 use Rattle.rela_trans.specs.Machine.{Machine, Kind, IsMachine, IsMove, IsSized, moves_of, machine_states}
@@ -19,23 +16,11 @@ use Rattle.rela_trans.specs.Runs.{Does, HasStep, ReachR, Relates}
 use Rattle.rela_trans.specs.declared.moves.Move.{Move}
 use Rattle.rela_trans.specs.declared.moves.MoveKind.TheVariants.{Silent, In, Out, Same}
 use Rattle.rela_trans.proofs.Accessors.{moves_ok}
-use Rattle.rela_trans.proofs.KindsTogether.{has_below}
-use Rattle.rela_trans.proofs.MappedWords.{no_word}
+use Rattle.rela_trans.proofs.Edges.{step_edge, edge_step, word_start, word_step, word_each}
+use Rattle.rela_trans.proofs.ListLaws.{in_flat_map, from_flat_map, Contains-nil, Contains-cons_cases}
+use Rattle.rela_trans.proofs.MappedWords.{map_last, no_word}
 use Rattle.rela_trans.proofs.Reaching.{reach_start, reach_step, reach_each}
-
--- ---- words that were mapped
-
--- the last of a word that was mapped
-map_last : (f : ℕ → ℕ) (w v : List ℕ) (j : ℕ) → v ++ j ∷ [] ≡ map f w → (front : List ℕ) × (s : ℕ) × (w ≡ front ++ s ∷ []) × (v ≡ map f front) × (j ≡ f s)
-map_last f [] v j same = absurd (omega (arith, ap length same, length-append v (j ∷ [])))
-map_last f (s ∷ []) [] j same = let at : j ≡ f s = cc in ([], s, refl, refl, at)
-map_last f (s ∷ t ∷ w) [] j same = absurd (omega (arith, ap length same))
-map_last f (s ∷ []) (x ∷ v) j same = absurd (omega (arith, ap length same, length-append v (j ∷ [])))
-map_last f (s ∷ t ∷ w) (x ∷ v) j same =
-    let head : x ≡ f s = cc in
-    let tail : v ++ j ∷ [] ≡ map f (t ∷ w) = cc in
-    let last = map_last f (t ∷ w) v j tail in
-    (s ∷ last.0, last.1, ap (λ l. s ∷ l) last.2, (λ i. head i ∷ last.3 i), last.4)
+use Rattle.rela_trans.proofs.SharedLetters.{some_letter, any_letter, has_below}
 
 get_or-map_nil : {X Y : Type 0} (f : List X → List Y) → f [] ≡ [] → (xs : List (List X)) (k : ℕ) → get_or (map f xs) k [] ≡ f (get_or xs k [])
 get_or-map_nil f nil [] k = sym nil
@@ -178,7 +163,7 @@ module _ (t : Machine) (r : Automaton) (built : IsWritten t r) (ok : IsMachine t
 
     back : (q : ℕ) (w : List ℕ) → Reach r q w → (v : List ℕ) → w ≡ map read v → Written q v
     back =
-        each_read r (λ q w. (v : List ℕ) → w ≡ map read v → Written q v) (λ p q letter w reads there step. one p q letter w there step)
+        word_each r (λ q w. (v : List ℕ) → w ≡ map read v → Written q v) (λ p q letter w reads there step. one p q letter w there step)
         (λ v nil. subst (λ n. Written n v) (sym built.start) (subst (λ z. Written t.start z) (sym (no_word read v nil)) ([], reach_start read t)))
       where
         one : (p q : ℕ) (letter : Option ℕ) (w : List ℕ) → ((v : List ℕ) → w ≡ map read v → Written p v) → HasEdge r p letter q
@@ -198,8 +183,8 @@ module _ (t : Machine) (r : Automaton) (built : IsWritten t r) (ok : IsMachine t
         reach_each read t (λ q u v. Reach r q (map read v))
         (λ p q u v input output reach here step.
         let edge = edge_on p q input output step in
-        subst (λ w. Reach r q w) (ap (λ l. map read v ++ l) edge.2 ∙ sym (map-append read v output)) (step_read r p q edge.0 (map read v) here edge.1))
-        (subst (λ n. Reach r n []) built.start (start_read r))
+        subst (λ w. Reach r q w) (ap (λ l. map read v ++ l) edge.2 ∙ sym (map-append read v output)) (word_step r p q edge.0 (map read v) here edge.1))
+        (subst (λ n. Reach r n []) built.start (word_start r))
 
     pub written_reached : (q : ℕ) (v : List ℕ) → Reach r q (map read v) ↔ ((u : List ℕ) × ReachR read t q u v)
     written_reached q v = (λ reach. back q (map read v) reach v refl, λ (u, reach). on q u v reach)

@@ -2,10 +2,10 @@ use Rattle.std.proofs.Common.{map, sym, ap, ◌∙◌}
 use Rattle.std.proofs.lemmas.List.{take_all}
 use Rattle.rela_nfa.specs.Directing.{extended}
 use Rattle.rela_nfa.specs.Stored.{move_of as edge_of}
-use Rattle.rela_nfa.proofs.InTurn.{labels_more}
 use Rattle.rela_trans.specs.Composition.{second_alone}
 use Rattle.rela_trans.specs.ImageMoves.{alone_labels, written_labels}
 use Rattle.rela_trans.specs.Stored.{move_of}
+use Rattle.rela_trans.proofs.Directed.{labels_more}
 use Rattle.rela_trans.proofs.image_edges.add_alone.Goals as goal
 
 pub loop-second-preserved : goal.loop-second-preserved

@@ -4,10 +4,10 @@ use Rattle.std.proofs.lemmas.List.{take_all}
 use Rattle.rela_nfa.specs.Automaton.{Move as Edge, moves_of as edges_of}
 use Rattle.rela_nfa.specs.Directing.{extended, silent_labels}
 use Rattle.rela_nfa.specs.Stored.{move_of as edge_of}
-use Rattle.rela_nfa.proofs.InTurn.{labels_more}
 use Rattle.rela_trans.specs.ImageMoves.{alone_labels, read_labels}
 use Rattle.rela_trans.specs.Machine.{IsSized, moves_of}
 use Rattle.rela_trans.specs.Stored.{kind_of}
+use Rattle.rela_trans.proofs.Directed.{labels_more}
 use Rattle.rela_trans.proofs.WrittenEdges.{edges_made}
 use Rattle.rela_trans.proofs.image_edges.add_edges_from.Goals as goal
 

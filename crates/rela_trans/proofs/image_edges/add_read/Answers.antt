@@ -3,9 +3,9 @@ use Rattle.std.specs.Option.{option_map}
 use Rattle.std.proofs.lemmas.List.{take_all}
 use Rattle.rela_nfa.specs.Directing.{extended}
 use Rattle.rela_nfa.specs.Stored.{move_of as edge_of}
-use Rattle.rela_nfa.proofs.InTurn.{labels_more}
 use Rattle.rela_trans.specs.ImageMoves.{read_by, read_labels, written_labels}
 use Rattle.rela_trans.specs.Stored.{move_of}
+use Rattle.rela_trans.proofs.Directed.{labels_more}
 use Rattle.rela_trans.proofs.image_edges.add_read.Goals as goal
 
 pub loop-second-preserved : goal.loop-second-preserved

@@ -1,10 +1,10 @@
 use Rattle.std.proofs.Common.{Bool, List, ◌++◌, map, ◌∙◌, sym, ap}
 use Rattle.std.proofs.lemmas.List.{take_all}
 use Rattle.rela_nfa.specs.Meeting.{pair_of}
-use Rattle.rela_nfa.proofs.InTurn.{mapped_more}
 use Rattle.rela_trans.specs.Composition.{made, second_alone, second_moves}
 use Rattle.rela_trans.specs.Stored.{move_of}
 use Rattle.rela_trans.specs.declared.joint.JointMove.{JointMove}
+use Rattle.rela_trans.proofs.OneMore.{mapped_more}
 use Rattle.rela_trans.proofs.image_pairs.add_alone.Goals as goal
 
 pub loop-second-preserved : goal.loop-second-preserved

@@ -3,13 +3,13 @@ use Rattle.std.specs.List.{All, flat_map}
 use Rattle.std.proofs.lemmas.List.{take_all}
 use Rattle.rela_nfa.specs.Automaton.{Move as Edge, moves_of as edges_of}
 use Rattle.rela_nfa.specs.Stored.{move_of as edge_of}
-use Rattle.rela_nfa.proofs.InTurn.{mapped_more}
 use Rattle.rela_trans.specs.Composition.{second_moves}
 use Rattle.rela_trans.specs.ImageMoves.{source_moves, read_moves}
 use Rattle.rela_trans.specs.Machine.{IsSized, moves_of}
 use Rattle.rela_trans.specs.Stored.{kind_of}
 use Rattle.rela_trans.specs.declared.joint.JointMove.{JointMove}
 use Rattle.rela_trans.proofs.ImageMade.{image_lead}
+use Rattle.rela_trans.proofs.OneMore.{mapped_more}
 use Rattle.rela_trans.proofs.WrittenEdges.{next_made}
 use Rattle.rela_trans.proofs.image_pairs.add_followers.Goals as goal
 

@@ -3,11 +3,11 @@ use Rattle.std.specs.Option.{option_map}
 use Rattle.std.proofs.lemmas.List.{take_all}
 use Rattle.rela_nfa.specs.Meeting.{pair_of}
 use Rattle.rela_nfa.specs.Stored.{move_of as edge_of}
-use Rattle.rela_nfa.proofs.InTurn.{mapped_more}
 use Rattle.rela_trans.specs.Composition.{made}
 use Rattle.rela_trans.specs.ImageMoves.{read_by, read_moves}
 use Rattle.rela_trans.specs.Stored.{move_of}
 use Rattle.rela_trans.specs.declared.joint.JointMove.{JointMove}
+use Rattle.rela_trans.proofs.OneMore.{mapped_more}
 use Rattle.rela_trans.proofs.image_pairs.add_read.Goals as goal
 
 pub loop-second-preserved : goal.loop-second-preserved

@@ -2,10 +2,10 @@ use Rattle.std.proofs.Common.{Bool, List, ◌++◌, map, ◌∙◌, sym, ap}
 use Rattle.std.proofs.lemmas.List.{take_all}
 use Rattle.rela_nfa.specs.Meeting.{pair_of}
 use Rattle.rela_nfa.specs.Stored.{move_of as edge_of}
-use Rattle.rela_nfa.proofs.InTurn.{mapped_more}
 use Rattle.rela_trans.specs.Composition.{made}
 use Rattle.rela_trans.specs.ImageMoves.{source_alone, source_moves}
 use Rattle.rela_trans.specs.declared.joint.JointMove.{JointMove}
+use Rattle.rela_trans.proofs.OneMore.{mapped_more}
 use Rattle.rela_trans.proofs.image_pairs.add_silent.Goals as goal
 
 pub loop-edge-preserved : goal.loop-edge-preserved

@@ -1,9 +1,8 @@
 use Rattle.std.proofs.Common.{List, Bool, if◌then◌else◌, Option, None, Some, ◌∙◌, sym, ap}
 use Rattle.std.proofs.lemmas.Bool.{both_ways}
 use Rattle.rela_nfa.specs.Meeting.{common}
-use Rattle.rela_nfa.proofs.Joint.{meet_letters, some_in}
 use Rattle.rela_trans.specs.Composition.{unless_empty}
-use Rattle.rela_trans.proofs.SharedLetters.{none_shared}
+use Rattle.rela_trans.proofs.SharedLetters.{meet_letters, some_in, none_shared}
 use Rattle.rela_trans.proofs.joint.common_letters.Goals as goal
 
 pub returns-then-is_disjoint : goal.returns-then-is_disjoint

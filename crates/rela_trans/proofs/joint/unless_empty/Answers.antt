@@ -1,6 +1,6 @@
 use Rattle.std.proofs.Common.{List, Bool, if◌then◌else◌, Option, None, Some, sym, ap}
 use Rattle.std.proofs.lemmas.Bool.{both_ways}
-use Rattle.rela_nfa.proofs.Joint.{none_in, some_in}
+use Rattle.rela_trans.proofs.SharedLetters.{none_in, some_in}
 use Rattle.rela_trans.proofs.joint.unless_empty.Goals as goal
 
 pub returns-then-is_empty : goal.returns-then-is_empty

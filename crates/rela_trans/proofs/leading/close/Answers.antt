@@ -2,11 +2,10 @@ use Rattle.std.proofs.Common.{◌≡◌, ◌<◌, List, ℕ, length, get_or, ap,
 use Rattle.std.specs.List.{All, Contains}
 use Rattle.std.proofs.lemmas.List.{get_or_default}
 use Rattle.rela_nfa.specs.StateSet.{Adds}
-use Rattle.rela_nfa.proofs.Flagged.{members_within}
-use Rattle.rela_nfa.proofs.Growing.{adds_length}
 use Rattle.rela_trans.specs.Coaccessible.{list_at}
 use Rattle.rela_trans.specs.Stored.{lists_of}
-use Rattle.rela_trans.proofs.Coaccessible.{closing_more, closing_all, list_read}
+use Rattle.rela_trans.proofs.Coaccessible.{adds_length, closing_more, closing_all, list_read}
+use Rattle.rela_trans.proofs.Flagged.{members_within}
 use Rattle.rela_trans.proofs.leading.close.Goals as goal
 
 pub bounds-lists-index : goal.bounds-lists-index

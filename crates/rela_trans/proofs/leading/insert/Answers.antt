@@ -1,4 +1,4 @@
-use Rattle.rela_nfa.proofs.Flagged.{flagged_more}
+use Rattle.rela_trans.proofs.Flagged.{flagged_more}
 use Rattle.rela_trans.proofs.leading.insert.Goals as goal
 
 pub returns-in_ok-push-clause-flagged : goal.returns-in_ok-push-clause-flagged

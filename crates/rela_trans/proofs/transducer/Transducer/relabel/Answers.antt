@@ -1,10 +1,9 @@
 use Rattle.std.proofs.Common.{◌≡◌, ℕ, ◌<◌, map, length, ◌∙◌, sym, ap, subst, arith}
 use Rattle.rela_labels.specs.Partition.{block_of, block_count}
-use Rattle.rela_nfa.proofs.Relabelled.{block_below}
 use Rattle.rela_trans.specs.Machine.{Machine, IsMachine}
 use Rattle.rela_trans.specs.Relabelling.{relabelled_move}
 use Rattle.rela_trans.specs.Stored.{moves_in}
-use Rattle.rela_trans.proofs.Relabelled.{IsRelabelled, relabelled_states, relabelled_ok, relabelled_reach, relabelled_relation}
+use Rattle.rela_trans.proofs.Relabelled.{block_below, IsRelabelled, relabelled_states, relabelled_ok, relabelled_reach, relabelled_relation}
 use Rattle.rela_trans.proofs.transducer.Transducer.relabel.Given.{Over}
 use Rattle.rela_trans.proofs.transducer.Transducer.relabel.Goals as goal
 

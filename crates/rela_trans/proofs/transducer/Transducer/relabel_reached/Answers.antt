@@ -1,12 +1,12 @@
 use Rattle.std.proofs.Common.{◌≡◌, ℕ, ◌<◌, Bool, false, List, IsTrue, get_or, map, length, ◌∙◌, sym, ap, subst, arith}
 use Rattle.std.specs.List.{range_with_len}
 use Rattle.rela_labels.specs.Partition.{block_of, block_count}
-use Rattle.rela_nfa.proofs.Relabelled.{block_below}
 use Rattle.rela_trans.specs.Machine.{Machine, IsMachine, machine_states}
 use Rattle.rela_trans.specs.Reached.{IsKept, MayReach, kept_moves}
 use Rattle.rela_trans.specs.Stored.{moves_in}
 use Rattle.rela_trans.specs.declared.moves.Move.{Move}
 use Rattle.rela_trans.proofs.Kept.{kept_states, kept_ok, kept_reach, kept_relation}
+use Rattle.rela_trans.proofs.Relabelled.{block_below}
 use Rattle.rela_trans.proofs.transducer.Transducer.relabel_reached.Given.{Over}
 use Rattle.rela_trans.proofs.transducer.Transducer.relabel_reached.Goals as goal
 
