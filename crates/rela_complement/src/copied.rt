@@ -31,7 +31,7 @@ pub(crate) fn finals_of<L: LabelSet>(alloc: Global, nfa: &Nfa<L>) -> Result<Vec<
 fn edges_of<L: LabelSet>(alloc: Global, nfa: &Nfa<L>) -> Result<EdgeLists<L>, AllocError>
     ensures { IfOk result (λ edges. edges ≡ nfa.now.edges) }
 {
-    let mut edges = EdgeLists::with_capacity(alloc, nfa.states())?;
+    let mut edges = EdgeLists::with_capacity(alloc, nfa.states(), nfa.edge_count())?;
     let mut leaving = Vec::new(alloc);
     for q in 0..nfa.states() {
         push_copies(alloc, &mut leaving, nfa.edges(q))?;

@@ -33,7 +33,7 @@ fn relabelled_edges(
     requires { length letters.now < 2 ^ 32 }
     ensures { IfOk result (λ edges. edges ≡ map (map (relabelled_move letters.now)) nfa.now.edges) }
 {
-    let mut edges = EdgeLists::with_capacity(alloc, nfa.states())?;
+    let mut edges = EdgeLists::with_capacity(alloc, nfa.states(), nfa.edge_count())?;
     let mut leaving = Vec::new(alloc);
     for q in 0..nfa.states() {
         push_relabelled(alloc, &mut leaving, nfa.edges(q), letters)?;

@@ -92,7 +92,7 @@ impl Graph {
     {
         let count = self.nodes().len();
         let cyclic = self.cyclic_nodes(alloc)?;
-        let mut edges = EdgeLists::with_capacity(alloc, count + 2)?;
+        let mut edges = EdgeLists::with_capacity(alloc, count + 2, 0)?;
         let mut leaving = Vec::new(alloc);
         self.add_edges_to_starts(alloc, &mut leaving, letters)?;
         edges.push(&mut leaving)?;

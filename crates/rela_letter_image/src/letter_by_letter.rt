@@ -101,15 +101,6 @@ fn add_copy<L: LabelSet>(
     Ok(())
 }
 
-/// How many edges the automaton has. Time: linear in its states.
-fn edge_count<L: LabelSet>(nfa: &Nfa<L>) -> usize {
-    let mut count = 0usize;
-    for q in 0..nfa.states() {
-        count = count.saturating_add(nfa.edges(q).len());
-    }
-    count
-}
-
 /// A builder without any state, with room for the states of the automaton, and for as many edges as
 /// it has, but not for more than `most`.
 fn builder_for<L: LabelSet>(
@@ -119,7 +110,7 @@ fn builder_for<L: LabelSet>(
 ) -> Result<CountedBuilder, AllocError>
     ensures { IfOk result (λ counted. counted.parts ≡ no_parts) }
 {
-    let edges = edge_count(nfa).min(most);
+    let edges = nfa.edge_count().min(most);
     CountedBuilder::with_capacity(alloc, most, nfa.states(), 0, edges)
 }
 

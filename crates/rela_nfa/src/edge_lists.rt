@@ -43,15 +43,18 @@ impl<L: LabelSet> EdgeLists<L> {
         }
     }
 
-    /// No state, with room for this many states, but for none of their edges.
-    pub fn with_capacity(alloc: Global, states: usize) -> Result<EdgeLists<L>, AllocError>
+    /// No state, with room for so many states, and for so many edges in all of them. More can be pushed:
+    /// then the room grows.
+    pub fn with_capacity(
+        alloc: Global,
+        states: usize,
+        edges: usize,
+    ) -> Result<EdgeLists<L>, AllocError>
         ensures { IfOk result (λ lists. lists ≡ []) }
     {
         let starts = Vec::with_capacity(alloc, states)?;
-        Ok(EdgeLists {
-            edges: Vec::new(alloc),
-            starts,
-        })
+        let edges = Vec::with_capacity(alloc, edges)?;
+        Ok(EdgeLists { edges, starts })
     }
 
     /// The lists of edges, one behind the other. The edges are moved. Time and space: linear in the
@@ -77,6 +80,11 @@ impl<L: LabelSet> EdgeLists<L> {
         self.starts.reserve_exact(states)?;
         self.edges.reserve_exact(edges)?;
         Ok(())
+    }
+
+    /// How many edges all states have, to reserve memory by.
+    pub(crate) fn edges(&self) -> usize {
+        self.edges.len()
     }
 
     /// How many states there are.

@@ -114,6 +114,11 @@ impl<L: LabelSet> Nfa<L> {
         self.finals.len()
     }
 
+    /// How many edges all states have, to reserve memory by. Time: constant.
+    pub fn edge_count(&self) -> usize {
+        self.edges.edges()
+    }
+
     /// The state from which runs begin.
     pub fn start(&self) -> usize
         ensures start { result ≡ self.now.start }

@@ -71,7 +71,7 @@ impl<L: LabelSet> Nfa<L> {
         let count = self.states();
         let mut finals = vec![in alloc; false; count]?;
         finals.extend_from_slice(&other.finals)?;
-        let mut edges = EdgeLists::with_capacity(alloc, finals.len())?;
+        let mut edges = EdgeLists::with_capacity(alloc, finals.len(), 0)?;
         self.copy_onto(alloc, &mut edges, 0, Some(count + other.start()))?;
         other.copy_onto(alloc, &mut edges, count, None)?;
         Ok(Nfa {

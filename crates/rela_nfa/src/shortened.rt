@@ -100,7 +100,7 @@ fn direct_lists<L: LabelSet>(
     ensures { IfOk result (λ edges. edges
         ≡ map (direct_moves nfa.now ends.now) (range_with_len 0 (states nfa.now))) }
 {
-    let mut edges = EdgeLists::with_capacity(alloc, nfa.states())?;
+    let mut edges = EdgeLists::with_capacity(alloc, nfa.states(), nfa.edge_count())?;
     let mut direct = Vec::new(alloc);
     for q in 0..nfa.states() {
         add_direct(alloc, &mut direct, nfa, ends, q)?;

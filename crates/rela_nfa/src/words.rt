@@ -92,7 +92,7 @@ fn edges_of_letter<L: LabelSet>(alloc: Global, set: L) -> Result<EdgeLists<L>, A
         label: Some(set),
         to: 1,
     })?;
-    let mut edges = EdgeLists::with_capacity(alloc, 2)?;
+    let mut edges = EdgeLists::with_capacity(alloc, 2, 1)?;
     edges.push(&mut leaving)?;
     // The vector is empty now.
     edges.push(&mut leaving)?;
@@ -110,7 +110,7 @@ fn edges_of_word<L: LabelSet>(
     requires letters { All (λ k. k < letters) word.now }
     ensures { IfOk result (λ edges. edges ≡ links (map (single letters) word.now)) }
 {
-    let mut edges = EdgeLists::with_capacity(alloc, word.len())?;
+    let mut edges = EdgeLists::with_capacity(alloc, word.len(), word.len())?;
     let mut leaving = Vec::new(alloc);
     for letter in word {
         let set = one_letter(alloc, letters, *letter)?;
@@ -162,7 +162,7 @@ fn one_state<L: LabelSet>(alloc: Global, letters: u32, is_final: bool) -> Result
 fn no_edges<L: LabelSet>(alloc: Global) -> Result<EdgeLists<L>, AllocError>
     ensures { IfOk result (λ edges. edges ≡ [] ∷ []) }
 {
-    let mut edges = EdgeLists::with_capacity(alloc, 1)?;
+    let mut edges = EdgeLists::with_capacity(alloc, 1, 0)?;
     let mut leaving = Vec::new(alloc);
     edges.push(&mut leaving)?;
     Ok(edges)

@@ -34,6 +34,12 @@ impl Explored {
         self.found.pairs()
     }
 
+    /// How many pairs follow the pairs, one as often as it follows one, to reserve memory by. Time:
+    /// constant.
+    pub fn follower_count(&self) -> usize {
+        self.targets.numbers()
+    }
+
     /// The numbers of the pairs that follow the one of this number, in their order; one may come
     /// more than once.
     pub fn targets(&self, number: usize) -> &[usize]

@@ -44,6 +44,11 @@ impl Lists {
         self.starts.len()
     }
 
+    /// How many numbers all lists have, to reserve memory by.
+    pub(crate) fn numbers(&self) -> usize {
+        self.numbers.len()
+    }
+
     /// The list of this number.
     pub(crate) fn list(&self, number: usize) -> &[usize]
         requires { number < length self.now }

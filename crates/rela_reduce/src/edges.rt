@@ -22,7 +22,7 @@ pub(crate) fn edge_lists<L: LabelSet>(
         (lists_of lists.now) }
     ensures { IfOk result (λ edges. edges ≡ edges_by labels.now (lists_of lists.now)) }
 {
-    let mut edges = EdgeLists::with_capacity(alloc, lists.len())?;
+    let mut edges = EdgeLists::with_capacity(alloc, lists.len(), 0)?;
     for arrows in lists {
         let mut list = edges_of(alloc, arrows, labels)?;
         edges.push(&mut list)?;

@@ -116,7 +116,7 @@ fn redirected_lists<L: LabelSet>(
     requires { length ends.now ≡ states a.now }
     ensures { IfOk result (λ edges. edges ≡ map (map (redirected ends.now)) a.now.edges) }
 {
-    let mut edges = EdgeLists::with_capacity(alloc, a.states())?;
+    let mut edges = EdgeLists::with_capacity(alloc, a.states(), a.edge_count())?;
     let mut leaving = Vec::new(alloc);
     for q in 0..a.states() {
         push_redirected(alloc, &mut leaving, a.edges(q), ends)?;

@@ -22,7 +22,7 @@ pub(crate) fn silent_part<L: LabelSet>(alloc: Global, a: &Nfa<L>) -> Result<Nfa<
 fn silent_lists<L: LabelSet>(alloc: Global, a: &Nfa<L>) -> Result<EdgeLists<L>, AllocError>
     ensures { IfOk result (λ edges. edges ≡ map silents a.now.edges) }
 {
-    let mut edges = EdgeLists::with_capacity(alloc, a.states())?;
+    let mut edges = EdgeLists::with_capacity(alloc, a.states(), 0)?;
     let mut leaving = Vec::new(alloc);
     for q in 0..a.states() {
         push_silent(&mut leaving, a.edges(q))?;

@@ -156,7 +156,7 @@ pub(crate) fn image_edges<L: LabelSet>(
         explored.now) (range_with_len 0 (length explored.now.pairs)))) }
 {
     let pairs = explored.pairs();
-    let mut edges = EdgeLists::with_capacity(alloc, pairs.len())?;
+    let mut edges = EdgeLists::with_capacity(alloc, pairs.len(), explored.follower_count())?;
     let mut leaving = Vec::new(alloc);
     for number in 0..pairs.len() {
         let targets = explored.targets(number);
