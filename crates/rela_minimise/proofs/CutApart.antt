@@ -6,12 +6,12 @@ use Rattle.std.proofs.lemmas.List.{get_or-replicate, get_or_append_left, get_or_
 use Rattle.std.proofs.lemmas.List.Elements.{All-get_or, All-head, All-tail}
 use Rattle.rela_labels.specs.Letters.{has}
 use Rattle.rela_subset.specs.Deterministic.{Deterministic, IsDeterministic, IsFinal, IsOver, led_from, next, states}
-use Rattle.rela_subset.proofs.Words.{next_within}
 use Rattle.rela_minimise.specs.Classes.{AreClasses, finality}
 use Rattle.rela_minimise.specs.Cutting.{AreApart, AreCoarse, AreCounted, GoesTo, IsCut, IsCutting, IsParted, IsPassed, LeadTogether, no_pair}
 use Rattle.rela_minimise.specs.Refining.{AreColumns, IsColumn, IsMap}
 use Rattle.rela_minimise.specs.declared.class_pairs.ClassPair.{ClassPair}
 use Rattle.rela_minimise.proofs.Alike.{accept_next, truth_same}
+use Rattle.rela_minimise.proofs.LetterTargets.{next_within}
 
 -- no state has gone yet
 pub cutting_none : (column : List ℕ) (count : ℕ) (classes : List ℕ) (firsts : List (Option ℕ)) (pairs : List ClassPair) (parts : List ℕ) → firsts ≡ replicate count None → pairs ≡ [] → parts ≡ []

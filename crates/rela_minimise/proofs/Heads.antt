@@ -7,8 +7,8 @@ use Rattle.rela_nfa.specs.Automaton.{IsMove}
 use Rattle.rela_nfa.specs.Stored.{move_of}
 use Rattle.rela_nfa.specs.declared.edge.Edge.{Edge}
 use Rattle.rela_subset.specs.Deterministic.{Deterministic, IsDeterministic, moves_of, states}
-use Rattle.rela_subset.proofs.Words.{moves_at}
 use Rattle.rela_minimise.specs.Classes.{AreClasses, AreFirst, AreInOrder}
+use Rattle.rela_minimise.proofs.LetterTargets.{moves_at}
 
 -- the edges of a state lead to states
 pub edges_lead : {L : Type 0} (letters : L → List Bool) (edges : List (Edge L)) (d : Deterministic) → IsDeterministic d → (n q : ℕ) → n ≡ states d → q < states d

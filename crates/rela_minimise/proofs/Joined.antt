@@ -12,9 +12,9 @@ use Rattle.rela_nfa.specs.Stored.{move_of}
 use Rattle.rela_nfa.specs.declared.edge.Edge.{Edge}
 use Rattle.rela_subset.specs.Deterministic.{Deterministic, IsDeterministic, moves_of, states, takes, target}
 use Rattle.rela_subset.specs.Expansion.{IsPutIn}
-use Rattle.rela_subset.proofs.Words.{moves_at, split_at}
 use Rattle.rela_minimise.specs.Classes.{onto}
 use Rattle.rela_minimise.specs.Joining.{AreOnto, HasSize, IsPut}
+use Rattle.rela_minimise.proofs.LetterTargets.{moves_at, split_at}
 
 -- the edge with this label and end
 abbrev pub edge_of : List Bool → ℕ → Move

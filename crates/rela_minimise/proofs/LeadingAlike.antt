@@ -10,9 +10,8 @@ use Rattle.rela_nfa.specs.Automaton.{IsMove, Move}
 use Rattle.rela_nfa.specs.Stored.{move_of}
 use Rattle.rela_nfa.specs.declared.edge.Edge.{Edge}
 use Rattle.rela_subset.specs.Deterministic.{Deterministic, IsDeterministic, moves_of, next, states, takes, target}
-use Rattle.rela_subset.proofs.Targets.{step_target}
-use Rattle.rela_subset.proofs.Words.{moves_at, split_at, target_at}
 use Rattle.rela_minimise.specs.Refining.{AreColumns, IsColumn, IsMap, LeadAlike}
+use Rattle.rela_minimise.proofs.LetterTargets.{moves_at, split_at, step_target, target_at}
 
 first_true : (a b : Bool) → (a && b) ≡ true → a ≡ true
 first_true true b both = refl
@@ -48,7 +47,7 @@ module _ {L : Type 0} (letters : L → List Bool) (d : Deterministic) (ok : IsDe
   leads k inside =
       let split : count_by (takes k) (moves_of d q) ≡ cond (has d.over k) 1 0 = split_at d ok q q_in k in
       let small = bit_small (has d.over k) in
-      ap (λ o. unwrap_or o 0) (step_target (moves_of d q) k edge.to (omega (arith, split, small)) (letters label, among, inside))
+      ap (λ o. unwrap_or o 0) (step_target (moves_of d q) k (letters label) edge.to (omega (arith, split, small)) among inside)
 
   -- where the edge leads by a letter of the label
   pub meets_leads : (k : ℕ) → has (letters label) k ≡ true → edge.to ≡ next d q k

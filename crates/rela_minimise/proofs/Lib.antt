@@ -19,3 +19,6 @@ pub mod Joined
 pub mod Ordered
 pub mod Alike
 pub mod Quotients
+pub mod Fewer
+pub mod LetterTargets
+pub mod ListsFound

@@ -5,9 +5,11 @@ use Rattle.std.proofs.lemmas.Bool.{cases_eq, cases_lt}
 use Rattle.std.proofs.lemmas.List.{get_or-map, get_or-set_other, get_or-set_same, length-set, take-append-le, take_all, take_more}
 use Rattle.std.proofs.lemmas.List.Elements.{All-push, Contains-append_left, Contains-push, Contains-push_cases}
 use Rattle.std.specs.declared.vec.Vec.{Vec}
-use Rattle.rela_subset.proofs.Targets.{Contains-nil}
 use Rattle.rela_minimise.specs.Refining.{Marks, PrecedesNew, is_stale}
 use Rattle.rela_minimise.specs.Stored.{lists_of}
+
+pub none_among : (q : ℕ) → ¬ Contains [] q
+none_among q among = omega (arith, among.1)
 
 pub marks_none : (P : ℕ → Type 0) (stale : List Bool) (waiting : List ℕ) → ((q : ℕ) → ¬ P q) → Marks P stale waiting stale waiting
 marks_none P stale waiting none = record {
@@ -94,7 +96,7 @@ one_more lists states i read below is p (q, among, precedes) = elim (in_take sta
 ]
 
 pub one_none : (lists : List (List ℕ)) (states : List ℕ) (p : ℕ) → ¬ PrecedesOne lists (take 0 states) p
-one_none lists states p (q, among, precedes) = Contains-nil q among
+one_none lists states p (q, among, precedes) = none_among q among
 
 pub new_more : (lists members : List (List ℕ)) (first i : ℕ) (read : List ℕ) → read ≡ get_or members i [] → (p : ℕ) → PrecedesNew lists members first (i + 1) p → PrecedesNew lists members first i p ⊎ PrecedesOne lists read p
 new_more lists members first i read is p (c, from, below, (q, among, precedes)) = elim (cases_lt c i) [

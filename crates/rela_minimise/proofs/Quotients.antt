@@ -8,10 +8,10 @@ use Rattle.std.proofs.lemmas.List.Elements.{All-from_get_or, All-head, All-tail}
 use Rattle.rela_labels.specs.Letters.{has}
 use Rattle.rela_nfa.specs.Automaton.{IsMove, Move}
 use Rattle.rela_subset.specs.Deterministic.{Deterministic, IsAccepted, IsByArrival, IsDeterministic, IsOver, IsReachable, IsSplit, led_from, moves_of, next, state_after, states, takes, target}
-use Rattle.rela_subset.proofs.Words.{led_within, next_within, split_at, target_at}
 use Rattle.rela_minimise.specs.Classes.{AcceptSame, AreAlike, AreClasses, AreFirst, finality, onto}
 use Rattle.rela_minimise.specs.Joining.{HasSize, IsQuotient}
 use Rattle.rela_minimise.proofs.Alike.{accept_final, accept_next, alike_states}
+use Rattle.rela_minimise.proofs.LetterTargets.{led_within, next_within, split_at, target_at}
 
 target_onto : (classes : List ℕ) (k : ℕ) (moves : List Move) (t : ℕ) → target moves k ≡ Some t → target (map (onto classes) moves) k ≡ Some (get_or classes t 0)
 target_onto classes k [] t is = let never : None ≡ Some t = is in absurd (cc)

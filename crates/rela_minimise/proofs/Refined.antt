@@ -9,11 +9,10 @@ use Rattle.std.proofs.lemmas.Map.Steps.{le-length_from_below}
 use Rattle.std.proofs.lemmas.Map.Views.{list_any-from_Contains}
 use Rattle.rela_labels.specs.Letters.{has}
 use Rattle.rela_subset.specs.Deterministic.{Deterministic, IsDeterministic, IsOver, IsFinal, led_from, moves_of, next, states}
-use Rattle.rela_subset.proofs.Targets.{target_step}
-use Rattle.rela_subset.proofs.Words.{next_within, target_at}
 use Rattle.rela_minimise.specs.Classes.{AreClasses, finality}
 use Rattle.rela_minimise.specs.Refining.{AreColumns, ArePredecessors, AreWaiting, IsAfter, IsCoarse, IsRefining, IsSound, IsStable, IsStart, Marks, PrecedesNew, Stage, class_of, is_stale}
 use Rattle.rela_minimise.proofs.Alike.{truth_same}
+use Rattle.rela_minimise.proofs.LetterTargets.{next_within, target_at, target_step}
 use Rattle.rela_minimise.proofs.Signing.{same_final, same_leads, signature_same}
 
 all_waiting : (n : ℕ) (stale : List Bool) (waiting : List ℕ) → length stale ≡ n → length waiting ≡ n → ((q : ℕ) → q < n → get_or waiting q 0 ≡ q) → AreWaiting n stale waiting

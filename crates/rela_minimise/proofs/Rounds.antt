@@ -6,11 +6,11 @@ use Rattle.std.proofs.lemmas.List.{get_or-append-add, get_or_append_left, length
 use Rattle.std.proofs.lemmas.List.Elements.{All-contains, All-from_get_or}
 use Rattle.rela_subset.specs.Deterministic.{Deterministic, IsDeterministic, next, states}
 use Rattle.rela_subset.specs.Sets.{AreDistinct}
-use Rattle.rela_subset.proofs.Words.{next_within}
 use Rattle.rela_minimise.specs.Classes.{AcceptSame}
 use Rattle.rela_minimise.specs.Refining.{AreFrom, AreColumns, AreOrigins, AreWaiting, Goes, HasSettled, IsAfter, IsCoarse, IsHeld, IsSplit, IsStable, Settles, Stage, class_of, is_stale, signature}
 use Rattle.rela_minimise.proofs.Alike.{accept_final, accept_next}
 use Rattle.rela_minimise.proofs.Assigning.{goes_below}
+use Rattle.rela_minimise.proofs.LetterTargets.{next_within}
 use Rattle.rela_minimise.proofs.Signing.{same_final, same_leads, signature_same}
 
 module _ (d : Deterministic) (ok : IsDeterministic d) (columns : List (List ℕ)) (are : AreColumns d columns) (start s s' : Stage) (found : List (List ℕ)) (waiting targets : List ℕ)

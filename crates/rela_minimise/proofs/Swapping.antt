@@ -8,9 +8,9 @@ use Rattle.std.proofs.lemmas.List.{get_or-map, get_or-set_other, get_or-set_same
 use Rattle.std.proofs.lemmas.List.Edits.{length-swap, swapped_from_swap}
 use Rattle.std.proofs.lemmas.List.Elements.{Contains-append_left, Contains-get_or, Contains-push, Contains-push_cases}
 use Rattle.rela_subset.specs.Deterministic.{Deterministic, IsDeterministic, next, states}
-use Rattle.rela_subset.proofs.Words.{next_within}
 use Rattle.rela_minimise.specs.Refining.{AreFrom, AreColumns, IsAfter, IsHeld, IsSwapped, KeepsAfter, Stage, class_of, other_of, signature}
 use Rattle.rela_minimise.specs.Stored.{lists_of}
+use Rattle.rela_minimise.proofs.LetterTargets.{next_within}
 use Rattle.rela_minimise.proofs.OneByOne.{in_take}
 use Rattle.rela_minimise.proofs.Signing.{same_final, same_leads, signature_same}
 

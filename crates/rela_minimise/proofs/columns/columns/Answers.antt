@@ -1,7 +1,7 @@
 use Rattle.std.proofs.Common.{◌∙◌, ap}
 use Rattle.std.proofs.lemmas.List.{map_push}
-use Rattle.rela_subset.proofs.Fewer.{fewer_left}
 use Rattle.rela_minimise.specs.Stored.{lists_of}
+use Rattle.rela_minimise.proofs.Fewer.{fewer_left}
 use Rattle.rela_minimise.proofs.LeadingAlike.{columns_more, columns_none}
 use Rattle.rela_minimise.proofs.columns.columns.Goals as goal
 

@@ -1,13 +1,12 @@
 use Rattle.std.proofs.Common.{◌+◌, take, subst}
 use Rattle.std.specs.List.{Contains}
 use Rattle.std.proofs.lemmas.List.{take_all}
-use Rattle.rela_subset.proofs.Targets.{Contains-nil}
 use Rattle.rela_minimise.specs.Refining.{Marks}
-use Rattle.rela_minimise.proofs.OneByOne.{in_take, marks_both, marks_none}
+use Rattle.rela_minimise.proofs.OneByOne.{in_take, marks_both, marks_none, none_among}
 use Rattle.rela_minimise.proofs.marking.mark_all.Goals as goal
 
 pub loop-q-init : goal.loop-q-init
-loop-q-init c = marks_none (Contains (take 0 c.args.states.now)) c.args.stale.now c.args.waiting.now.items (λ q. Contains-nil q)
+loop-q-init c = marks_none (Contains (take 0 c.args.states.now)) c.args.stale.now c.args.waiting.now.items (λ q. none_among q)
 
 pub loop-q-preserved : goal.loop-q-preserved
 loop-q-preserved c =
