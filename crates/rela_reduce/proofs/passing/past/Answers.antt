@@ -4,10 +4,10 @@ use Rattle.rela_reduce.proofs.PastDetours.{detour_in}
 use Rattle.rela_reduce.proofs.passing.past.Goals as goal
 
 pub detour-requires-in-Some : goal.detour-requires-in-Some
-detour-requires-in-Some g c = detour_in c.args.a.now c.start.ensures.automaton c.args.q c.in-Some.r ((c.detour.ensures c.in-Some.r).0 c.in-Some.is)
+detour-requires-in-Some g c = detour_in c.args.a.now c.start.ensures.automaton c.args.q c.in-Some.r c.requires ((c.detour.ensures c.in-Some.r).0 c.in-Some.is)
 
 pub returns-then-is_none-clause-state : goal.returns-then-is_none-clause-state
-returns-then-is_none-clause-state g c = detour_in c.args.a.now c.start.ensures.automaton c.args.q c.in-Some.r ((c.detour.ensures c.in-Some.r).0 c.in-Some.is)
+returns-then-is_none-clause-state g c = detour_in c.args.a.now c.start.ensures.automaton c.args.q c.in-Some.r c.requires ((c.detour.ensures c.in-Some.r).0 c.in-Some.is)
 
 pub returns-then-is_none-clause-past : goal.returns-then-is_none-clause-past
 returns-then-is_none-clause-past g c =
