@@ -6,7 +6,6 @@ use Rattle.rela_labels.specs.Partition.{block_count}
 use Rattle.rela_nfa.specs.Automaton.{Automaton, IsAutomaton, states}
 use Rattle.rela_nfa.specs.Languages.{IsLetterOf}
 use Rattle.rela_nfa.specs.Runs.{Reach, Accepts}
-use Rattle.rela_nfa.proofs.Parts.{state_of_reach}
 use Rattle.rela_rir.specs.Built.{OneState, LetterStates, StarStates}
 use Rattle.rela_rir.specs.Places.{Place, Start, End, Begin, EmptyPlaces, LetterPlaces, PathSetPlaces, PartsApart, NoParts}
 use Rattle.rela_rir.specs.Tables.{IsTable, IsExact}
@@ -17,6 +16,7 @@ use Rattle.rela_rir.proofs.Tables.{table_of_same, exact_of_same}
 use Rattle.rela_build.specs.Made.{Leads, IsBuilt, IsLetterAutomaton}
 use Rattle.rela_build.specs.PathSets.{no_paths}
 use Rattle.rela_build.specs.Reading.{read_by, HoldsJust}
+use Rattle.rela_build.proofs.LetterWords.{state_reached}
 use Rattle.rela_build.proofs.MadeTerms.{well}
 use Rattle.rela_build.proofs.ReadWords.{read_as, no_letters, OneOf, letter, own}
 
@@ -25,7 +25,7 @@ module _ (blocks : List ℕ) where
   f = read_by blocks
 
   below : (a : Automaton) (n : ℕ) → IsAutomaton a → states a ≡ n → (q : ℕ) (w : List ℕ) → Leads blocks a q w → q < n
-  below a n ok count q w h = let less = state_of_reach a ok q (map f w) h in omega (arith, less, count)
+  below a n ok count q w h = let less = state_reached a ok q (map f w) h in omega (arith, less, count)
 
   at_start : (a : Automaton) → ((v : List ℕ) → Reach a 0 v ↔ (v ≡ [])) → (w : List ℕ) → Leads blocks a 0 w ↔ (w ≡ [])
   at_start a start = read_as f (Reach a 0) (λ w. w ≡ []) (λ w. w ≡ []) start (no_letters f)

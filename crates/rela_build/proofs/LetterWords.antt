@@ -1,13 +1,13 @@
 -- Words of letters that automata and transducers read, and words of symbols that are read as them.
-use Rattle.std.proofs.Common.{◌≡◌, ℕ, ◌<◌, List, [], ◌∷◌, ◌++◌, Bool, length, map, Option, None, Some, refl, sym, subst, arith}
+use Rattle.std.proofs.Common.{◌≡◌, ℕ, ◌<◌, List, [], ◌∷◌, ◌++◌, Bool, length, map, Option, None, Some, refl, sym, subst, inl, inr, arith}
 use Rattle.std.specs.List.{All}
 use Rattle.std.specs.Option.{option_to_list}
+use Rattle.std.proofs.lemmas.Bool.{cases_lt}
+use Rattle.std.proofs.lemmas.List.{get_or_past}
 use Rattle.std.proofs.lemmas.List.Elements.{All-nil, All-cons, All-head, All-tail, All-append, All-contains}
 use Rattle.rela_labels.specs.Partition.{block_count}
-use Rattle.rela_labels.proofs.LettersOfWords.{has_below}
 use Rattle.rela_nfa.specs.Automaton.{Automaton, IsAutomaton, IsMove as IsEdge, moves_of as edges_of, states}
 use Rattle.rela_nfa.specs.Runs.{Reach, Follow, HasStep as HasEdge, Step, spelled}
-use Rattle.rela_nfa.proofs.Parts.{moves_ok as edges_ok}
 use Rattle.rela_trans.specs.Composition.{Covers}
 use Rattle.rela_trans.specs.Machine.{Machine, Kind, IsMachine, IsMove, IsSized, machine_states, moves_of}
 use Rattle.rela_trans.specs.Runs.{IsSymbolOf, Does, ReachR}
@@ -15,7 +15,7 @@ use Rattle.rela_trans.specs.declared.moves.MoveKind.TheVariants.{Silent, In, Out
 use Rattle.rela_trans.proofs.Accessors.{moves_ok}
 use Rattle.rela_trans.proofs.Reaching.{reach_each}
 use Rattle.rela_build.specs.Reading.{read_by}
-use Rattle.rela_build.proofs.Readings.{is_symbol}
+use Rattle.rela_build.proofs.Readings.{has_below, is_symbol}
 
 abbrev pub Below : ℕ → List ℕ → Type 0
 Below n w = All (λ k. k < n) w
@@ -23,9 +23,27 @@ Below n w = All (λ k. k < n) w
 -- ---- automata
 
 module _ (a : Automaton) (ok : IsAutomaton a) where
+  edges_ok : (p : ℕ) → All (IsEdge a.letters (states a)) (edges_of a p)
+  edges_ok p = elim (cases_lt p (states a)) [
+    | inl below ↦ ok.moves p [] (omega (arith, below, ok.each))
+    | inr past ↦ subst (All (IsEdge a.letters (states a))) (sym (get_or_past a.edges p [] (omega (arith, past, ok.each)))) (All-nil (IsEdge a.letters (states a)))
+  ]
+
+  edge_leads : (p q : ℕ) (letter : Option ℕ) → HasEdge a p letter q → q < states a
+  edge_leads p q None among = (All-contains (IsEdge a.letters (states a)) (edges_of a p) (record { label = None; to = q }) (edges_ok p) among).leads
+  edge_leads p q (Some k) (set, among, reads) = (All-contains (IsEdge a.letters (states a)) (edges_of a p) (record { label = Some set; to = q }) (edges_ok p) among).leads
+
+  run_leads : (steps : List Step) (p q : ℕ) → p < states a → Follow a p steps q → q < states a
+  run_leads [] p q below here = subst (λ n. n < states a) here below
+  run_leads (step ∷ rest) p q below follows = run_leads rest step.to q (edge_leads p step.to step.letter follows.0) follows.1
+
+  -- a word leads to states alone
+  pub state_reached : (q : ℕ) (word : List ℕ) → Reach a q word → q < states a
+  state_reached q word (steps, follows, spells) = run_leads steps a.start q ok.starts follows
+
   edge_letter : (p q k : ℕ) → HasEdge a p (Some k) q → k < a.letters
   edge_letter p q k (set, among, reads) =
-      let sized = (All-contains (IsEdge a.letters (states a)) (edges_of a p) (record { label = Some set; to = q }) (edges_ok a ok p) among).sized set refl in
+      let sized = (All-contains (IsEdge a.letters (states a)) (edges_of a p) (record { label = Some set; to = q }) (edges_ok p) among).sized set refl in
       let within = has_below set k reads in
       omega arith
 

@@ -4,7 +4,6 @@ use Rattle.std.proofs.lemmas.List.{length-map}
 use Rattle.rela_labels.specs.Partition.{block_count}
 use Rattle.rela_nfa.specs.Automaton.{Automaton, states}
 use Rattle.rela_nfa.specs.Runs.{Reach, Accepts}
-use Rattle.rela_nfa.proofs.Parts.{state_of_reach as state_of_word}
 use Rattle.rela_pairs.specs.declared.pair.Pair.{Pair}
 use Rattle.rela_rir.specs.Meaning.{In, InR}
 use Rattle.rela_rir.specs.Places.{Scene}
@@ -25,6 +24,7 @@ use Rattle.rela_build.specs.Lettering.{Lettering}
 use Rattle.rela_build.specs.Made.{Leads, LeadsR, IsMade, IsMadeR}
 use Rattle.rela_build.specs.PathSets.{Paths, scene_of}
 use Rattle.rela_build.specs.Reading.{read_by}
+use Rattle.rela_build.proofs.LetterWords.{state_reached}
 use Rattle.rela_build.proofs.PairStates.{two_of, numbered}
 use Rattle.rela_build.proofs.PlacedTerms.{placed, placed_r, by_form_r}
 use Rattle.rela_build.proofs.ReadPairs.{same_as, pairs_joined, pairs_repeated}
@@ -88,7 +88,7 @@ module _ (E : Type 0) (l : Lettering) (paths : Paths) where
         λ both. (relation f v o).1 ((one.language v).1 both.0, (two.language o).1 both.1),
       ))
       (built.product m E x y (states a) (states b) (Leads l.blocks a) (Leads l.blocks b) (L u) (placed E l paths x a one) (placed E l paths y b two) (record {
-        count = λ q z h. state_of_word a one.automaton q (map f z.0) h.0;
+        count = λ q z h. state_reached a one.automaton q (map f z.0) h.0;
         first = λ q z. first f q z.0 z.1;
         second = λ q z. (
           λ h. let both = (second f q z.0 z.1).0 h in ((one.language z.0).0 both.0, both.1),

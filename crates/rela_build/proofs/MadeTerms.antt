@@ -6,7 +6,6 @@ use Rattle.rela_nfa.specs.Automaton.{Automaton, IsAutomaton, states}
 use Rattle.rela_nfa.specs.Languages.{Joins, Repeats}
 use Rattle.rela_nfa.specs.Meeting.{IsMeet}
 use Rattle.rela_nfa.specs.Runs.{Reach, Accepts}
-use Rattle.rela_nfa.proofs.Parts.{state_of_reach}
 use Rattle.rela_pairs.specs.declared.pair.Pair.{Pair}
 use Rattle.rela_rir.specs.Built.{OneState, ComplementStates}
 use Rattle.rela_rir.specs.Meaning.{In, InR, IsPathWord}
@@ -30,6 +29,7 @@ use Rattle.rela_build.specs.Made.{Leads, LeadsR, IsBuilt, IsLetterAutomaton, IsM
 use Rattle.rela_build.specs.Notes.{IsComplementOf}
 use Rattle.rela_build.specs.PathSets.{Paths, scene_of}
 use Rattle.rela_build.specs.Reading.{read_by, HoldsJust}
+use Rattle.rela_build.proofs.LetterWords.{state_reached}
 use Rattle.rela_build.proofs.PairStates.{two_of, numbered}
 use Rattle.rela_build.proofs.PlacedTerms.{placed, placed_r, by_form}
 use Rattle.rela_build.proofs.ReadWords.{read_as, no_letters, joined, repeated, over}
@@ -56,7 +56,7 @@ module _ (E : Type 0) (l : Lettering) (paths : Paths) where
   made_letters t a made = made.letters
 
   below : (a : Automaton) → IsAutomaton a → (q : ℕ) (w : List ℕ) → L a q w → q < states a
-  below a ok q w h = state_of_reach a ok q (map f w) h
+  below a ok q w h = state_reached a ok q (map f w) h
 
   begun : (a : Automaton) → ((v : List ℕ) → Reach a 0 v ↔ (v ≡ [])) → (w : List ℕ) → L a 0 w ↔ (w ≡ [])
   begun a start = read_as f (Reach a 0) (λ w. w ≡ []) (λ w. w ≡ []) start (no_letters f)

@@ -1,13 +1,24 @@
 -- Symbols and their letters.
-use Rattle.std.proofs.Common.{◌≡◌, ℕ, suc, ◌+◌, ◌<◌, ◌≤◌, Bool, true, List, [], ◌∷◌, length, get_or, inl, inr, ◌∙◌, arith}
-use Rattle.std.proofs.lemmas.Bool.{cases_lt}
+use Rattle.std.proofs.Common.{◌≡◌, ℕ, zero, suc, ◌+◌, ◌<◌, ◌≤◌, Bool, true, false, List, [], ◌∷◌, length, get_or, inl, inr, sym, ◌∙◌, arith}
+use Rattle.std.proofs.lemmas.Bool.{cases_lt, false≢true}
 use Rattle.std.proofs.lemmas.List.{get_or_default, get_or_past}
 use Rattle.rela_labels.specs.Letters.{has}
 use Rattle.rela_labels.specs.Partition.{block_of, block_count, IsPartition}
-use Rattle.rela_labels.proofs.LettersOfWords.{has_below}
-use Rattle.rela_labels.proofs.BlocksInOrder.{all_within_count}
 use Rattle.rela_trans.specs.Composition.{Covers}
 use Rattle.rela_build.specs.Reading.{read_by}
+
+-- only a set that is long enough has a letter
+pub has_below : (set : List Bool) (k : ℕ) → has set k ≡ true → k < length set
+has_below set k among = elim (cases_lt k (length set)) [
+  | inl below ↦ below
+  | inr past ↦ absurd (false≢true (sym (get_or_past set k false past) ∙ among))
+]
+
+within_count : (blocks : List ℕ) (s d : ℕ) → s < length blocks → get_or blocks s d < block_count blocks
+unfolding block_count
+within_count [] s d below = absurd (omega (arith, below))
+within_count (b ∷ others) zero d below = omega arith
+within_count (b ∷ others) (suc s) d below = let rest = within_count others s d (omega (arith, below)) in omega arith
 
 pub read_symbol : (blocks : List ℕ) (s : ℕ) → s < length blocks → read_by blocks s ≡ block_of blocks s
 read_symbol blocks s below = get_or_default blocks s (block_count blocks) 0 below
@@ -16,7 +27,7 @@ pub read_past : (blocks : List ℕ) (s : ℕ) → length blocks ≤ s → read_b
 read_past blocks s past = get_or_past blocks s (block_count blocks) past
 
 pub read_below : (blocks : List ℕ) (s : ℕ) → s < length blocks → read_by blocks s < block_count blocks
-read_below blocks s below = all_within_count blocks s (block_count blocks) below
+read_below blocks s below = within_count blocks s (block_count blocks) below
 
 -- only a symbol has a letter
 pub is_symbol : (blocks : List ℕ) (s : ℕ) → read_by blocks s < block_count blocks → s < length blocks
