@@ -4,7 +4,7 @@ use Rattle.std.specs.List.{All, concat}
 use Rattle.std.proofs.lemmas.List.Elements.{All-nil, All-cons, All-append, All-weaker}
 use Rattle.rela_rir.specs.Words.{WordSet, Relation, Concatenation, Star, PairConcatenation}
 use Rattle.rela_rir.specs.Meaning.{IsPathWord}
-use Rattle.rela_rir.proofs.Inclusions.{Within}
+use Rattle.rela_translate.proofs.Inclusions.{Within}
 use Rattle.rela_rir.specs.declared.set.SymbolSet.{SymbolSet}
 use Rattle.rela_translate.specs.Lang.{Lang}
 use Rattle.rela_translate.specs.Zones.{Meaning, path_symbols, drop_symbol, Paths, unit_meaning, meaning_of}

@@ -2,9 +2,9 @@
 use Rattle.std.proofs.Common.{◌≡◌, ℕ, List, refl, sym, subst}
 use Rattle.rela_rir.specs.Words.{WordSet, Relation, Concatenation, PairConcatenation}
 use Rattle.rela_rir.specs.Meaning.{Setting, In, InR, IsPathWord}
-use Rattle.rela_rir.proofs.Inclusions as within
-use Rattle.rela_rir.proofs.Inclusions.{Within, WithinR}
-use Rattle.rela_rir.proofs.MeaningForms.{in_one, in_union, in_concat, in_meet, in_complement, in_identity_r, in_product_r, in_union_r, in_concat_r, in_compose_r}
+use Rattle.rela_translate.proofs.Inclusions as within
+use Rattle.rela_translate.proofs.Inclusions.{Within, WithinR}
+use Rattle.rela_translate.proofs.TermMeanings.{in_one, in_union, in_concat, in_meet, in_complement, in_identity_r, in_product_r, in_union_r, in_concat_r, in_compose_r}
 use Rattle.rela_rir.specs.declared.term.PathTerm.{PathTerm}
 use Rattle.rela_rir.specs.declared.term.RelTerm.{RelTerm}
 use Rattle.rela_rir.specs.declared.term.PathTerm.TheVariants as P

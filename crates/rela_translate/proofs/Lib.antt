@@ -1,6 +1,8 @@
 pub mod TermForms
 pub mod Markers
 pub mod MeaningForms
+pub mod Inclusions
+pub mod TermMeanings
 pub mod Claims
 pub mod Equals
 pub mod Meanings

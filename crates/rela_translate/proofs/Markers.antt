@@ -2,10 +2,13 @@
 use Rattle.std.proofs.Common.{◌≡◌, ◌∙◌, ℕ, ◌+◌, ◌≤◌, zero, suc, List, [], ◌∷◌, ◌++◌, length, length-append, sym, ap, subst, arith}
 use Rattle.std.specs.List.{All, range_with_len}
 use Rattle.std.proofs.lemmas.List.Elements.{All-nil, All-cons}
-use Rattle.rela_rir.specs.Size.{nodes_of_rel}
-use Rattle.rela_rir.proofs.SizeForms as size
+use Rattle.rela_rir.specs.Size.{nodes_of_path, nodes_of_rel, layer_nodes, layer_nodes_rel}
 use Rattle.rela_rir.specs.declared.term.PathTerm.{PathTerm}
 use Rattle.rela_rir.specs.declared.term.PathTerm.TheVariants as P
+use Rattle.rela_rir.specs.declared.term.PathTerm.TheOpen as F
+use Rattle.rela_rir.specs.declared.term.PathTerm.TheFolds.{map-RelTerm, fold-roll-RelTerm}
+use Rattle.rela_rir.specs.declared.term.PathTerm.TheViews.{roll-RelTerm}
+use Rattle.rela_rir.specs.declared.term.RelTerm.{RelTerm}
 use Rattle.rela_rir.specs.declared.term.RelTerm.TheVariants as R
 use Rattle.rela_translate.specs.Zones.{marker_symbol}
 use Rattle.rela_translate.specs.Terms.{path_of, zone_of, before_of, outside, unit_terms}
@@ -72,6 +75,23 @@ any_of_few p k all = (all 0 k (omega arith)).1
 
 pub ruleset unit_markers = (any_of_positive, any_of_few)
 
+-- ---- how many nodes the forms of relation terms have
+
+nodes_roll : (x : F.RelTerm-F PathTerm RelTerm) → nodes_of_rel (roll-RelTerm x) ≡ layer_nodes_rel (map-RelTerm PathTerm RelTerm ℕ ℕ nodes_of_path nodes_of_rel x)
+nodes_roll x = fold-roll-RelTerm ℕ ℕ layer_nodes layer_nodes_rel x
+
+nodes_product : (x y : PathTerm) → nodes_of_rel (R.Product x y) ≡ nodes_of_path x + nodes_of_path y + 1
+nodes_product x y = ap nodes_of_rel (sym (R.rolls-Product x y)) ∙ nodes_roll (F.Product x y)
+
+nodes_union : (r s : RelTerm) → nodes_of_rel (R.Union r s) ≡ nodes_of_rel r + nodes_of_rel s + 1
+nodes_union r s = ap nodes_of_rel (sym (R.rolls-Union r s)) ∙ nodes_roll (F.RelTerm::Union r s)
+
+nodes_concat : (r s : RelTerm) → nodes_of_rel (R.Concat r s) ≡ nodes_of_rel r + nodes_of_rel s + 1
+nodes_concat r s = ap nodes_of_rel (sym (R.rolls-Concat r s)) ∙ nodes_roll (F.RelTerm::Concat r s)
+
+nodes_compose : (r s : RelTerm) → nodes_of_rel (R.Compose r s) ≡ nodes_of_rel r + nodes_of_rel s + 1
+nodes_compose r s = ap nodes_of_rel (sym (R.rolls-Compose r s)) ∙ nodes_roll (F.Compose r s)
+
 -- no more markers than nodes of the before relation
 abbrev Few : Core → Type 0
 Few body = length (markers_of body) ≤ nodes_of_rel (before_of 0 body)
@@ -82,7 +102,7 @@ unit_few z (Add p) = omega arith
 unit_few z (Remove p) = omega arith
 unit_few z (Replace p q) = omega arith
 unit_few z Drop = omega arith
-unit_few z (AnyOf p k) = omega (arith, size.nodes_product_r (P.Union z (path_of p)) (P.One (marker_symbol 0 k)))
+unit_few z (AnyOf p k) = omega (arith, nodes_product (P.Union z (path_of p)) (P.One (marker_symbol 0 k)))
 unit_few z (Ignore p) = omega arith
 
 few_unit : (z : Expr) (c : Change) → Few (B.Unit z c)
@@ -91,12 +111,12 @@ few_unit z c = rw (markers_unit z c, before_unit 0 z c) (unit_few (path_of z) c)
 few_then : (s t : Core) → Few s → Few t → Few (B.Then s t)
 few_then s t one two =
     rw (markers_then s t, before_then 0 s t)
-    (omega (arith, one, two, length-append (markers_of s) (markers_of t), size.nodes_concat_r (before_of 0 s) (before_of 0 t)))
+    (omega (arith, one, two, length-append (markers_of s) (markers_of t), nodes_concat (before_of 0 s) (before_of 0 t)))
 
 few_else : (s t : Core) → Few s → Few t → Few (B.Else s t)
 few_else s t one two =
     rw (markers_else s t, before_else 0 s t)
-    (omega (arith, one, two, length-append (markers_of s) (markers_of t), size.nodes_union_r (before_of 0 s) (outside (zone_of 0 s) (before_of 0 t)), size.nodes_compose_r (R.Identity (P.Complement (zone_of 0 s))) (before_of 0 t)))
+    (omega (arith, one, two, length-append (markers_of s) (markers_of t), nodes_union (before_of 0 s) (outside (zone_of 0 s) (before_of 0 t)), nodes_compose (R.Identity (P.Complement (zone_of 0 s))) (before_of 0 t)))
 
 layer_few : (y : C.Core-F ((body : Core) × Few body)) → Few (roll-Core (map-Core ((body : Core) × Few body) Core (λ e. e.0) y))
 layer_few (C.Unit z c) = subst Few (sym (B.rolls-Unit z c)) (few_unit z c)

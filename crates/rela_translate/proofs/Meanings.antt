@@ -3,9 +3,9 @@ use Rattle.std.proofs.Common.{◌≡◌, ◌∙◌, ℕ, ap, List, sym, subst}
 use Rattle.std.specs.Prelude.{◌↔◌, Result, Ok, Err, IfOk}
 use Rattle.rela_rir.specs.Words.{WordSet, Relation, Star, ImageOf}
 use Rattle.rela_rir.specs.Meaning.{Setting, In, InR, IsPathWord}
-use Rattle.rela_rir.proofs.Inclusions as within
-use Rattle.rela_rir.proofs.Inclusions.{Within}
-use Rattle.rela_rir.proofs.MeaningForms.{in_empty, in_class, in_star, in_pre, in_post, in_image}
+use Rattle.rela_translate.proofs.Inclusions as within
+use Rattle.rela_translate.proofs.Inclusions.{Within}
+use Rattle.rela_translate.proofs.TermMeanings.{in_empty, in_class, in_star, in_pre, in_post, in_image}
 use Rattle.rela_rir.specs.declared.set.SymbolSet.{SymbolSet}
 use Rattle.rela_rir.specs.declared.term.PathTerm.{PathTerm}
 use Rattle.rela_rir.specs.declared.term.RelTerm.{RelTerm}
