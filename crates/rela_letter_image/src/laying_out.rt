@@ -50,7 +50,8 @@ pub(crate) fn letter_alone<M: LabelSet>(set: &M) -> Option<u32>
     set.only()
 }
 
-/// Adds to the open state a move that reads a letter of the set, and writes it too if `writes` says so.
+/// Adds to the open state a move that reads a letter of the set, and writes it too if `writes` says
+/// so.
 fn push_reading<M: LabelSet>(
     alloc: Global,
     lists: &mut MoveLists,
@@ -74,7 +75,8 @@ fn push_reading<M: LabelSet>(
     }
 }
 
-/// Adds to the open state the move, of a transducer with so many letters, as one that leads to this state.
+/// Adds to the open state the move, of a transducer with so many letters, as one that leads to this
+/// state.
 fn push_move<M: LabelSet>(
     alloc: Global,
     lists: &mut MoveLists,

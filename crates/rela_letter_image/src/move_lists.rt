@@ -7,9 +7,9 @@ use rela_letter_nfa::Lists;
 use std::alloc::{AllocError, Global};
 use std::marker::Model;
 
-/// The moves of all states, laid out by what they read. Those of one kind stand one behind the other,
-/// state after state. The last state is open: moves can be put behind its others. Contracts see the moves
-/// of each state that has been ended, and those of the open one.
+/// The moves of all states, laid out by what they read. Those of one kind stand one behind the
+/// other, state after state. The last state is open: moves can be put behind its others. Contracts
+/// see the moves of each state that has been ended, and those of the open one.
 #[derive(Drop)]
 pub(crate) struct MoveLists {
     /// For each state those that read nothing.

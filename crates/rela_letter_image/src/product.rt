@@ -167,8 +167,9 @@ fn add_edges(
     requires lefts { All (λ edge. edge.to < growing.old.shape.lefts) edges.now }
     requires rights { LeadBelow growing.old.shape.rights (laid moves) }
     requires below { AreLettersOf letters (laid moves) }
-    ensures { OnOk result (Grows (edge_steps letters coarse.now (all_moves letters (laid moves.entry))
-        edges.now) growing.old growing.new) }
+    ensures { OnOk result (Grows
+        (edge_steps letters coarse.now (all_moves letters (laid moves.entry)) edges.now)
+        growing.old growing.new) }
 {
     for edge in edges {
         let letter = coarse_letter(coarse, letters, edge.letter);
@@ -189,8 +190,9 @@ fn add_reads(
     requires lefts { All (λ edge. edge.to < growing.old.shape.lefts) edges.now }
     requires rights { LeadBelow growing.old.shape.rights (laid moves) }
     requires below { AreLettersOf letters (laid moves) }
-    ensures { OnOk result (Grows (edge_steps letters coarse.now (all_moves letters (laid moves.entry))
-        edges.now) growing.old growing.new) }
+    ensures { OnOk result (Grows
+        (edge_steps letters coarse.now (all_moves letters (laid moves.entry)) edges.now)
+        growing.old growing.new) }
 {
     if moves.by_set.is_empty() && moves.by_letter.is_empty() {
         return Ok(());

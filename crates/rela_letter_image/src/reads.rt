@@ -135,7 +135,8 @@ pub(crate) fn add_edge_moves(
 ) -> Result<(), BuildError>
     requires left { edge.to < growing.old.shape.lefts }
     requires rights { LeadBelow growing.old.shape.rights (laid moves) }
-    ensures { OnOk result (Grows (laid_out_steps coarse edge (laid moves.entry)) growing.old growing.new) }
+    ensures { OnOk result (Grows (laid_out_steps coarse edge (laid moves.entry))
+        growing.old growing.new) }
 {
     add_by_sets(growing, edge, coarse, moves.by_set)?;
     add_by_letters(growing, edge, coarse, moves.by_letter)
