@@ -1,5 +1,5 @@
 -- What is inside terms, form by form: counted terms with many places, and the parts of complements.
-use Rattle.std.proofs.Common.{◌≡◌, ℕ, ◌⊎◌, inl, inr, [], ◌∷◌, ◌++◌, sym, ap, ◌∙◌}
+use Rattle.std.proofs.Common.{◌≡◌, ℕ, ◌⊎◌, [], ◌∷◌, ◌++◌, refl, sym, ap, ◌∙◌}
 use Rattle.rela_rir.specs.Complements.{complemented_parts, complemented_parts_r}
 use Rattle.rela_rir.specs.Limit.{Reached, ReachedR, ReachedInside, ReachedInsideR}
 use Rattle.rela_rir.specs.Places.{Scene}
@@ -8,54 +8,53 @@ use Rattle.rela_rir.specs.declared.term.RelTerm.{RelTerm}
 use Rattle.rela_rir.specs.declared.term.PathTerm.TheOpen as F
 use Rattle.rela_rir.specs.declared.term.PathTerm.TheVariants as P
 use Rattle.rela_rir.specs.declared.term.RelTerm.TheVariants as R
-use Rattle.rela_rir.proofs.ComplementForms.{parts_roll, parts_roll_r}
-use Rattle.rela_rir.proofs.InsideForms.{counted, counted_r, uncounted, uncounted_r}
+use Rattle.rela_build.proofs.TermParts.{parts_roll, parts_roll_r, by_parts, by_parts_r, itself, itself_r}
 
 module _ (m : Scene) (k : ℕ) where
   pub in_union : (x y : PathTerm) → ReachedInside m k x ⊎ ReachedInside m k y → ReachedInside m k (P.Union x y)
-  in_union x y some = (uncounted m k (F.PathTerm::Union x y) (P.Union x y) (P.rolls-Union x y) (λ never. never)).1 some
+  in_union x y some = by_parts m k (F.PathTerm::Union x y) (P.Union x y) (P.rolls-Union x y) some
 
   pub in_concat : (x y : PathTerm) → ReachedInside m k x ⊎ ReachedInside m k y → ReachedInside m k (P.Concat x y)
-  in_concat x y some = (uncounted m k (F.PathTerm::Concat x y) (P.Concat x y) (P.rolls-Concat x y) (λ never. never)).1 some
+  in_concat x y some = by_parts m k (F.PathTerm::Concat x y) (P.Concat x y) (P.rolls-Concat x y) some
 
   pub in_star : (x : PathTerm) → ReachedInside m k x → ReachedInside m k (P.Star x)
-  in_star x some = (uncounted m k (F.PathTerm::Star x) (P.Star x) (P.rolls-Star x) (λ never. never)).1 some
+  in_star x some = by_parts m k (F.PathTerm::Star x) (P.Star x) (P.rolls-Star x) some
 
   pub in_meet : (x y : PathTerm) → ReachedInside m k x ⊎ ReachedInside m k y → ReachedInside m k (P.Meet x y)
-  in_meet x y some = (counted m k (F.Meet x y) (P.Meet x y) (P.rolls-Meet x y) tt).1 (inr some)
+  in_meet x y some = by_parts m k (F.Meet x y) (P.Meet x y) (P.rolls-Meet x y) some
 
   pub in_complement : (x : PathTerm) → ReachedInside m k x → ReachedInside m k (P.Complement x)
-  in_complement x some = (counted m k (F.Complement x) (P.Complement x) (P.rolls-Complement x) tt).1 (inr some)
+  in_complement x some = by_parts m k (F.Complement x) (P.Complement x) (P.rolls-Complement x) some
 
   pub in_image : (x : PathTerm) (r : RelTerm) → ReachedInside m k x ⊎ ReachedInsideR m k r → ReachedInside m k (P.Image x r)
-  in_image x r some = (counted m k (F.Image x r) (P.Image x r) (P.rolls-Image x r) tt).1 (inr some)
+  in_image x r some = by_parts m k (F.Image x r) (P.Image x r) (P.rolls-Image x r) some
 
   pub in_identity_r : (x : PathTerm) → ReachedInside m k x → ReachedInsideR m k (R.Identity x)
-  in_identity_r x some = (uncounted_r m k (F.Identity x) (R.Identity x) (R.rolls-Identity x) (λ never. never)).1 some
+  in_identity_r x some = by_parts_r m k (F.Identity x) (R.Identity x) (R.rolls-Identity x) some
 
   pub in_product_r : (x y : PathTerm) → ReachedInside m k x ⊎ ReachedInside m k y → ReachedInsideR m k (R.Product x y)
-  in_product_r x y some = (uncounted_r m k (F.Product x y) (R.Product x y) (R.rolls-Product x y) (λ never. never)).1 some
+  in_product_r x y some = by_parts_r m k (F.Product x y) (R.Product x y) (R.rolls-Product x y) some
 
   pub in_union_r : (r s : RelTerm) → ReachedInsideR m k r ⊎ ReachedInsideR m k s → ReachedInsideR m k (R.Union r s)
-  in_union_r r s some = (uncounted_r m k (F.RelTerm::Union r s) (R.Union r s) (R.rolls-Union r s) (λ never. never)).1 some
+  in_union_r r s some = by_parts_r m k (F.RelTerm::Union r s) (R.Union r s) (R.rolls-Union r s) some
 
   pub in_concat_r : (r s : RelTerm) → ReachedInsideR m k r ⊎ ReachedInsideR m k s → ReachedInsideR m k (R.Concat r s)
-  in_concat_r r s some = (uncounted_r m k (F.RelTerm::Concat r s) (R.Concat r s) (R.rolls-Concat r s) (λ never. never)).1 some
+  in_concat_r r s some = by_parts_r m k (F.RelTerm::Concat r s) (R.Concat r s) (R.rolls-Concat r s) some
 
   pub in_star_r : (r : RelTerm) → ReachedInsideR m k r → ReachedInsideR m k (R.Star r)
-  in_star_r r some = (uncounted_r m k (F.RelTerm::Star r) (R.Star r) (R.rolls-Star r) (λ never. never)).1 some
+  in_star_r r some = by_parts_r m k (F.RelTerm::Star r) (R.Star r) (R.rolls-Star r) some
 
   pub in_compose_r : (r s : RelTerm) → ReachedInsideR m k r ⊎ ReachedInsideR m k s → ReachedInsideR m k (R.Compose r s)
-  in_compose_r r s some = (counted_r m k (F.Compose r s) (R.Compose r s) (R.rolls-Compose r s) tt).1 (inr some)
+  in_compose_r r s some = by_parts_r m k (F.Compose r s) (R.Compose r s) (R.rolls-Compose r s) some
 
   pub at_meet : (x y : PathTerm) → Reached m (P.Meet x y) k → ReachedInside m k (P.Meet x y)
-  at_meet x y reached = (counted m k (F.Meet x y) (P.Meet x y) (P.rolls-Meet x y) tt).1 (inl reached)
+  at_meet x y reached = itself m k (F.Meet x y) (P.Meet x y) (P.rolls-Meet x y) refl tt reached
 
   pub at_image : (x : PathTerm) (r : RelTerm) → Reached m (P.Image x r) k → ReachedInside m k (P.Image x r)
-  at_image x r reached = (counted m k (F.Image x r) (P.Image x r) (P.rolls-Image x r) tt).1 (inl reached)
+  at_image x r reached = itself m k (F.Image x r) (P.Image x r) (P.rolls-Image x r) refl tt reached
 
   pub at_compose_r : (r s : RelTerm) → ReachedR m (R.Compose r s) k → ReachedInsideR m k (R.Compose r s)
-  at_compose_r r s reached = (counted_r m k (F.Compose r s) (R.Compose r s) (R.rolls-Compose r s) tt).1 (inl reached)
+  at_compose_r r s reached = itself_r m k (F.Compose r s) (R.Compose r s) (R.rolls-Compose r s) refl tt reached
 
 -- ---- the parts of complements
 

@@ -1,24 +1,22 @@
 -- Automata of single symbols and of no paths, from what their calls tell.
 use Rattle.std.proofs.Common.{◌≡◌, ℕ, ◌+◌, ◌<◌, ◌≤◌, ◌↔◌, Bool, List, [], ◌∷◌, length, map, take, refl, sym, ap, ◌∙◌, subst, arith}
-use Rattle.std.specs.Prelude.{Option, None}
-use Rattle.std.proofs.lemmas.Option.{none-some}
 use Rattle.rela_labels.specs.Partition.{block_count}
 use Rattle.rela_nfa.specs.Automaton.{Automaton, IsAutomaton, states}
 use Rattle.rela_nfa.specs.Languages.{IsLetterOf}
 use Rattle.rela_nfa.specs.Runs.{Reach, Accepts}
-use Rattle.rela_rir.specs.Built.{OneState, LetterStates, StarStates}
-use Rattle.rela_rir.specs.Places.{Place, Start, End, Begin, EmptyPlaces, LetterPlaces, PathSetPlaces, PartsApart, NoParts}
-use Rattle.rela_rir.specs.Tables.{IsTable, IsExact}
-use Rattle.rela_rir.proofs.ExactTables as exact
-use Rattle.rela_rir.proofs.FormTables.{same, begun, BegunAt, with_start}
-use Rattle.rela_rir.proofs.LeafTables as leaf
-use Rattle.rela_rir.proofs.Tables.{table_of_same, exact_of_same}
+use Rattle.rela_rir.specs.Built.{OneState, LetterStates}
+use Rattle.rela_rir.specs.Places.{Start, Begin, LetterPlaces, PathSetPlaces, PartsApart, NoParts}
+use Rattle.rela_rir.specs.Tables.{IsExact}
 use Rattle.rela_build.specs.Made.{Leads, IsBuilt, IsLetterAutomaton}
 use Rattle.rela_build.specs.PathSets.{no_paths}
 use Rattle.rela_build.specs.Reading.{read_by, HoldsJust}
+use Rattle.rela_build.proofs.LetterTables.{one_table, one_exact, only_start, start_alone, at_no_letter, only_begin, begin_alone, at_no_path, start_and_end, letter_table, letter_exact}
 use Rattle.rela_build.proofs.LetterWords.{state_reached}
 use Rattle.rela_build.proofs.MadeTerms.{well}
 use Rattle.rela_build.proofs.ReadWords.{read_as, no_letters, OneOf, letter, own}
+
+same : {A : Type 0} → A ↔ A
+same = ((λ a. a), λ a. a)
 
 module _ (blocks : List ℕ) where
   abbrev f : ℕ → ℕ
@@ -42,9 +40,9 @@ module _ (blocks : List ℕ) where
         automaton = ok;
         letters = of ∙ size;
         language = language;
-        table = leaf.start_and_end;
-        placed = leaf.letter_states P (Leads blocks a) are;
-        exact = λ e. subst (λ (k : ℕ). IsExact k (Leads blocks a) (LetterPlaces P) leaf.start_and_end) (sym count) (exact.letter_states P (Leads blocks a) are);
+        table = start_and_end;
+        placed = letter_table P (Leads blocks a) are;
+        exact = λ e. subst (λ (k : ℕ). IsExact k (Leads blocks a) (LetterPlaces P) start_and_end) (sym count) (letter_exact P (Leads blocks a) are);
       }
 
   pub of_class : (P : ℕ → Type 0) (set : List Bool) (u w : Automaton) (n : ℕ) → w ≡ u → IsAutomaton w → HoldsJust blocks P set → n ≡ block_count blocks
@@ -74,56 +72,35 @@ module _ (blocks : List ℕ) where
 
   -- ---- no symbol
 
-  no_letter_places : (P : ℕ → Type 0) → ((s : ℕ) → ¬ P s) → (p : Place) (w : List ℕ) → EmptyPlaces p w ↔ LetterPlaces P p w
-  no_letter_places P never Start w = same
-  no_letter_places P never End w = ((λ h. absurd h), λ h. absurd (never h.0 h.2))
-  no_letter_places P never p w = same
-
   pub of_no_class : (P : ℕ → Type 0) (u w : Automaton) (n : ℕ) → w ≡ u → IsAutomaton w → ((s : ℕ) → ¬ P s) → n ≡ block_count blocks
       → u.letters ≡ n → states u ≡ 1 → ((v : List ℕ) → Reach u 0 v ↔ (v ≡ [])) → ((v : List ℕ) → ¬ Accepts u v) → IsLetterAutomaton blocks P w
   unfolding IsLetterAutomaton
   of_no_class P u w n is ok never size of count start language =
       well (IsLetterAutomaton blocks P) u w is ok (λ ok.
-      let states : OneState (Leads blocks u) = record { begin = at_start u start; count = below u 1 ok count } in
+      let one : OneState (Leads blocks u) = record { begin = at_start u start; count = below u 1 ok count } in
       record {
         automaton = ok;
         letters = of ∙ size;
         language = λ w. (λ h. absurd (language (map f w) h), λ one. absurd (never one.0 one.2));
-        table = leaf.only_start;
-        placed = table_of_same (λ q w. same) (no_letter_places P never) (λ p r apart. apart) (leaf.one_state (Leads blocks u) states);
-        exact = λ e. subst (λ (k : ℕ). IsExact k (Leads blocks u) (LetterPlaces P) leaf.only_start) (sym count)
-            (exact_of_same (λ q w. same) (no_letter_places P never) (exact.one_state (Leads blocks u) states));
+        table = only_start;
+        placed = one_table (Leads blocks u) one (LetterPlaces P) only_start Start refl start_alone (λ w. same) (at_no_letter P never);
+        exact = λ e. subst (λ (k : ℕ). IsExact k (Leads blocks u) (LetterPlaces P) only_start) (sym count)
+            (one_exact (Leads blocks u) one (LetterPlaces P) only_start Start refl start_alone (λ w. same) (at_no_letter P never));
       })
 
   -- ---- no path
-
-  abbrev nowhere : Place → Option ℕ
-  nowhere p = None
-
-  nowhere_table : IsTable (λ q w. ⊥) (λ p (w : List ℕ). ⊥) (PartsApart NoParts NoParts) nowhere
-  nowhere_table = record { reached = λ q w. ((λ h. absurd h), λ stands. absurd stands.reached); apart = λ p r k l one two differ. absurd (none-some k one) }
-
-  nowhere_exact : IsExact 0 (λ q w. ⊥) (λ p (w : List ℕ). ⊥) nowhere
-  nowhere_exact = record { below = λ p q entry. absurd (none-some q entry); entered = λ p w at. absurd at; only = λ p q w entry has. has }
-
-  no_path_places : (p : Place) (w : List ℕ) → BegunAt (λ (v : List ℕ). v ≡ []) (λ p w. ⊥) p w ↔ PathSetPlaces no_paths.at_pre p w
-  no_path_places Begin w = same
-  no_path_places p w = same
 
   pub of_no_paths : (u w : Automaton) (n : ℕ) → w ≡ u → IsAutomaton w → n ≡ block_count blocks → u.letters ≡ n → states u ≡ 1
       → ((v : List ℕ) → Reach u 0 v ↔ (v ≡ [])) → ((v : List ℕ) → ¬ Accepts u v) → IsBuilt (Unit {0}) blocks no_paths.pre (PathSetPlaces no_paths.at_pre) (PartsApart NoParts NoParts) w
   of_no_paths u w n is ok size of count start language =
       well (IsBuilt (Unit {0}) blocks no_paths.pre (PathSetPlaces no_paths.at_pre) (PartsApart NoParts NoParts)) u w is ok (λ ok.
-      let states : StarStates (λ (v : List ℕ). v ≡ []) (λ q w. ⊥) (Leads blocks u) = record {
-        begin = at_start u start;
-        copies = λ q w. ((λ h. let less = below u 1 ok count (1 + q) w h in absurd (omega (arith, less))), λ h. absurd h);
-      } in
+      let one : OneState (Leads blocks u) = record { begin = at_start u start; count = below u 1 ok count } in
       record {
         automaton = ok;
         letters = of ∙ size;
         language = λ w. (language (map f w), λ h. absurd h);
-        table = begun nowhere;
-        placed = table_of_same (λ q w. same) no_path_places (λ p r apart. apart) (with_start nowhere_table (λ w h. h) states);
-        exact = λ e. subst (λ (k : ℕ). IsExact k (Leads blocks u) (PathSetPlaces no_paths.at_pre) (begun nowhere)) (sym count)
-            (exact_of_same (λ q w. same) no_path_places (exact.with_start nowhere_exact states));
+        table = only_begin;
+        placed = one_table (Leads blocks u) one (PathSetPlaces no_paths.at_pre) only_begin Begin refl begin_alone (λ w. same) at_no_path;
+        exact = λ e. subst (λ (k : ℕ). IsExact k (Leads blocks u) (PathSetPlaces no_paths.at_pre) only_begin) (sym count)
+            (one_exact (Leads blocks u) one (PathSetPlaces no_paths.at_pre) only_begin Begin refl begin_alone (λ w. same) at_no_path);
       })

@@ -9,13 +9,12 @@ use Rattle.rela_labels.specs.Partition.{block_count}
 use Rattle.rela_nfa.specs.Automaton.{Automaton, IsAutomaton, IsMove as IsEdge, moves_of as edges_of, states}
 use Rattle.rela_nfa.specs.Runs.{Reach, Follow, HasStep as HasEdge, Step, spelled}
 use Rattle.rela_trans.specs.Composition.{Covers}
-use Rattle.rela_trans.specs.Machine.{Machine, Kind, IsMachine, IsMove, IsSized, machine_states, moves_of}
-use Rattle.rela_trans.specs.Runs.{IsSymbolOf, Does, ReachR}
+use Rattle.rela_trans.specs.Machine.{Machine, Kind, IsMachine, IsSized}
+use Rattle.rela_trans.specs.Runs.{Step as MachineStep, Follow as FollowMoves, inputs, outputs, IsSymbolOf, Does, ReachR}
 use Rattle.rela_trans.specs.declared.moves.MoveKind.TheVariants.{Silent, In, Out, Same}
-use Rattle.rela_trans.proofs.Accessors.{moves_ok}
-use Rattle.rela_trans.proofs.Reaching.{reach_each}
 use Rattle.rela_build.specs.Reading.{read_by}
 use Rattle.rela_build.proofs.Readings.{has_below, is_symbol}
+use Rattle.rela_build.proofs.TransducerRuns.{move_ok}
 
 abbrev pub Below : ℕ → List ℕ → Type 0
 Below n w = All (λ k. k < n) w
@@ -76,15 +75,20 @@ module _ (letters : ℕ) where
   made_letters (Same set) input output size does =
       let below = one_letter set input size does.0 in (below, subst (Below letters) (sym does.1) below)
 
--- the letters of words that lead to a state of a transducer
-pub reached_letters_r : (t : Machine) → IsMachine t → (q : ℕ) (u v : List ℕ) → ReachR (λ k. k) t q u v → Below t.letters u × Below t.letters v
-reached_letters_r t ok q u v reach =
-    reach_each (λ k. k) t (λ q u v. Below t.letters u × Below t.letters v)
-    (λ p q u v input output reach before step.
-    let move = (All-contains (IsMove t.letters (machine_states t)) (moves_of t p) (record { kind = step.0; to = q }) (moves_ok t ok p) step.1).sized in
-    let made = made_letters t.letters step.0 input output move step.2 in
-    (All-append (λ k. k < t.letters) u input before.0 made.0, All-append (λ k. k < t.letters) v output before.1 made.1))
-    (All-nil (λ k. k < t.letters), All-nil (λ k. k < t.letters)) q u v reach
+module _ (t : Machine) (ok : IsMachine t) where
+  moved_letters : (steps : List MachineStep) (p q : ℕ) → FollowMoves (λ k. k) t p steps q → Below t.letters (inputs steps) × Below t.letters (outputs steps)
+  moved_letters [] p q here = (All-nil (λ k. k < t.letters), All-nil (λ k. k < t.letters))
+  moved_letters (step ∷ rest) p q follows =
+      let sized = (move_ok (λ k. k) t ok p step.to step.input step.output follows.0).sized in
+      let made = made_letters t.letters follows.0.0 step.input step.output sized follows.0.2 in
+      let later = moved_letters rest step.to q follows.1 in
+      (All-append (λ k. k < t.letters) step.input (inputs rest) made.0 later.0, All-append (λ k. k < t.letters) step.output (outputs rest) made.1 later.1)
+
+  -- the letters of words that lead to a state of a transducer
+  pub reached_letters_r : (q : ℕ) (u v : List ℕ) → ReachR (λ k. k) t q u v → Below t.letters u × Below t.letters v
+  reached_letters_r q u v reach =
+      let both = moved_letters reach.0 t.start q reach.1 in
+      (subst (Below t.letters) reach.2 both.0, subst (Below t.letters) reach.3 both.1)
 
 -- ---- words of symbols
 

@@ -6,7 +6,11 @@ pub mod ClassLetters
 pub mod OwnLetters
 pub mod NamedForms
 pub mod ReadPairs
+pub mod TransducerRuns
 pub mod LetterWords
+pub mod TermMeanings
+pub mod TermPlaces
+pub mod TermParts
 pub mod Insides
 pub mod NotesInOrder
 pub mod PairStates
@@ -15,4 +19,5 @@ pub mod MadeTerms
 pub mod LimitForms
 pub mod MadePairs
 pub mod NoteForms
+pub mod LetterTables
 pub mod LetterAutomata

@@ -18,7 +18,6 @@ use Rattle.rela_trans.specs.Composition.{Covers, AreReachedThrough}
 use Rattle.rela_trans.specs.Images.{AreReachedFrom}
 use Rattle.rela_trans.specs.Machine.{Machine}
 use Rattle.rela_trans.specs.Runs.{ReachR}
-use Rattle.rela_trans.proofs.SymbolLetters.{symbols_reached}
 use Rattle.rela_build.specs.Lettering.{Lettering}
 use Rattle.rela_build.specs.Made.{Leads, LeadsR, IsMade, IsMadeR}
 use Rattle.rela_build.specs.PathSets.{Paths, scene_of}
@@ -27,6 +26,7 @@ use Rattle.rela_build.proofs.Insides.{at_meet, at_image, at_compose_r}
 use Rattle.rela_build.proofs.LetterWords.{Below, reached_letters, reached_letters_r, symbols_of, word_for}
 use Rattle.rela_build.proofs.PairStates.{two_of, many_states}
 use Rattle.rela_build.proofs.PlacedTerms.{plainly, plainly_r}
+use Rattle.rela_build.proofs.TransducerRuns.{symbols_reached}
 
 module _ (E : Type 0) (l : Lettering) (paths : Paths) (covers : Covers (read_by l.blocks) (block_count l.blocks)) (symbols : length l.blocks ≡ l.path_symbols + l.markers) where
   abbrev m : Scene

@@ -13,13 +13,11 @@ use Rattle.rela_rir.specs.declared.term.PathTerm.{PathTerm}
 use Rattle.rela_rir.specs.declared.term.RelTerm.{RelTerm}
 use Rattle.rela_rir.specs.declared.term.RelTerm.TheVariants as R
 use Rattle.rela_rir.proofs.BuiltTerms as built
-use Rattle.rela_rir.proofs.MeaningForms.{in_identity_r, in_product_r, in_union_r, in_concat_r, in_star_r, in_compose_r}
+use Rattle.rela_build.proofs.TermMeanings.{in_identity_r, in_product_r, in_union_r, in_concat_r, in_star_r, in_compose_r}
 use Rattle.rela_trans.specs.Composition.{Covers, IsComposition}
 use Rattle.rela_trans.specs.Machine.{Machine, IsMachine, machine_states}
 use Rattle.rela_trans.specs.Relations.{PairJoins, PairRepeats}
 use Rattle.rela_trans.specs.Runs.{ReachR, Relates}
-use Rattle.rela_trans.proofs.Parts.{state_of_reach}
-use Rattle.rela_trans.proofs.SymbolLetters.{letters_reached}
 use Rattle.rela_build.specs.Lettering.{Lettering}
 use Rattle.rela_build.specs.Made.{Leads, LeadsR, IsMade, IsMadeR}
 use Rattle.rela_build.specs.PathSets.{Paths, scene_of}
@@ -28,6 +26,7 @@ use Rattle.rela_build.proofs.LetterWords.{state_reached}
 use Rattle.rela_build.proofs.PairStates.{two_of, numbered}
 use Rattle.rela_build.proofs.PlacedTerms.{placed, placed_r, by_form_r}
 use Rattle.rela_build.proofs.ReadPairs.{same_as, pairs_joined, pairs_repeated}
+use Rattle.rela_build.proofs.TransducerRuns.{state_of_reach, letters_reached}
 
 -- what is well formed is as it was
 pub well : (Is : Machine → Type 0) (u w : Machine) → w ≡ u → IsMachine w → (IsMachine u → Is u) → Is w

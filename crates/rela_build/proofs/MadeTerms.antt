@@ -16,13 +16,12 @@ use Rattle.rela_rir.specs.declared.term.PathTerm.{PathTerm}
 use Rattle.rela_rir.specs.declared.term.RelTerm.{RelTerm}
 use Rattle.rela_rir.specs.declared.term.PathTerm.TheVariants as P
 use Rattle.rela_rir.proofs.BuiltTerms as built
-use Rattle.rela_rir.proofs.MeaningForms.{in_none, in_empty, in_class, in_one, in_union, in_concat, in_star, in_meet, in_complement, in_pre, in_post, in_image}
-use Rattle.rela_rir.proofs.PlaceForms.{at_class, at_one, at_pre, at_post, apart_class, apart_one, apart_pre, apart_post}
+use Rattle.rela_build.proofs.TermMeanings.{in_none, in_empty, in_class, in_one, in_union, in_concat, in_star, in_meet, in_complement, in_pre, in_post, in_image}
+use Rattle.rela_build.proofs.TermPlaces.{at_class, at_one, at_pre, at_post, apart_class, apart_one, apart_pre, apart_post}
 use Rattle.rela_trans.specs.Composition.{Covers}
 use Rattle.rela_trans.specs.Images.{IsImage}
 use Rattle.rela_trans.specs.Machine.{Machine, machine_states}
 use Rattle.rela_trans.specs.Runs.{Relates}
-use Rattle.rela_trans.proofs.SymbolLetters.{letters_reached}
 use Rattle.rela_build.specs.Complement.{IsOver, IsComplement, ReachApart}
 use Rattle.rela_build.specs.Lettering.{Lettering, IsInEntry}
 use Rattle.rela_build.specs.Made.{Leads, LeadsR, IsBuilt, IsLetterAutomaton, IsMade, IsMadeR}
@@ -33,6 +32,7 @@ use Rattle.rela_build.proofs.LetterWords.{state_reached}
 use Rattle.rela_build.proofs.PairStates.{two_of, numbered}
 use Rattle.rela_build.proofs.PlacedTerms.{placed, placed_r, by_form}
 use Rattle.rela_build.proofs.ReadWords.{read_as, no_letters, joined, repeated, over}
+use Rattle.rela_build.proofs.TransducerRuns.{letters_reached}
 
 -- what is well formed is as it was
 pub well : (Is : Automaton → Type 0) (u w : Automaton) → w ≡ u → IsAutomaton w → (IsAutomaton u → Is u) → Is w
