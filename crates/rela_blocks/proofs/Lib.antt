@@ -1,4 +1,5 @@
 pub mod NamedByChecks
+pub mod LetterLaws
 pub mod PathLetters
 pub mod BuiltPaths
 pub mod Placed
