@@ -36,3 +36,4 @@ pub mod Entries
 pub mod Marks
 pub mod CheckMaking
 pub mod Tables
+pub mod RisingLists
