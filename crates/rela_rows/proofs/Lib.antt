@@ -1,5 +1,6 @@
 pub mod Loops
 pub mod PathTexts
+pub mod PathWords
 pub mod RowLaws
 pub mod Shared
 pub mod Shown

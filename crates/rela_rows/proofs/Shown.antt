@@ -1,7 +1,7 @@
 -- What the relations of a check make of paths is made of path symbols and markers, and each of those has a text.
-use Rattle.std.proofs.Common.{◌≡◌, ℕ, ◌+◌, ◌<◌, ◌≤◌, ◌⊎◌, inl, inr, List, [], ◌∷◌, length, refl, sym, subst, arith}
+use Rattle.std.proofs.Common.{◌≡◌, ℕ, ◌+◌, ◌<◌, ◌≤◌, ◌⊎◌, inl, inr, List, [], ◌∷◌, ◌++◌, length, refl, sym, subst, arith}
 use Rattle.std.specs.List.{All}
-use Rattle.std.proofs.lemmas.List.Elements.{All-nil, All-cons, All-append, All-weaker}
+use Rattle.std.proofs.lemmas.List.Elements.{All-nil, All-cons, All-head, All-tail, All-append, All-weaker}
 use Rattle.rela_engine.specs.RowOf.{Says}
 use Rattle.rela_blocks.specs.Scenes.{paths_of}
 use Rattle.rela_graph.specs.Paths.{Paths as GraphPaths}
@@ -14,20 +14,25 @@ use Rattle.rela_report.specs.declared.rows.Side.TheVariants as side
 use Rattle.rela_rir.specs.Words.{WordSet, Relation, PairConcatenation}
 use Rattle.rela_rir.specs.Meaning.{IsPathWord}
 use Rattle.rela_rir.specs.declared.set.SymbolSet.{SymbolSet}
-use Rattle.rela_translate.specs.Checked.{Checked as Check, change_markers, markers_of}
+use Rattle.rela_translate.specs.Checked.{Checked as Check, change_markers, layer_markers, markers_of}
 use Rattle.rela_translate.specs.Settings.{IsMarker}
-use Rattle.rela_translate.specs.Zones.{Meaning, path_symbols, drop_symbol, marker_symbol, Paths, unit_meaning, meaning_of}
+use Rattle.rela_translate.specs.Zones.{Meaning, path_symbols, drop_symbol, marker_symbol, Paths, unit_meaning, layer_meaning, meaning_of}
 use Rattle.rela_translate.specs.declared.body.Expr.{Expr}
 use Rattle.rela_translate.specs.declared.body.Change.{Change}
 use Rattle.rela_translate.specs.declared.body.Change.TheVariants.{Preserve, Add, Remove, Replace, Drop, AnyOf, Ignore}
 use Rattle.rela_translate.specs.declared.body.Core.{Core}
 use Rattle.rela_translate.specs.declared.body.Core.TheOpen as C
-use Rattle.rela_translate.specs.declared.body.Core.TheVariants as B
 use Rattle.rela_translate.specs.declared.body.Core.TheViews.{roll-Core}
-use Rattle.rela_translate.specs.declared.body.Core.TheFolds.{map-Core, ind-Core}
-use Rattle.rela_translate.proofs.Claims.{of_paths, either_words}
-use Rattle.rela_translate.proofs.Markers.{in_unit, then_front, then_rest, else_front, else_rest, any_of_few}
-use Rattle.rela_translate.proofs.MeaningForms.{meaning_roll}
+use Rattle.rela_translate.specs.declared.body.Core.TheFolds.{map-Core, fold-roll-Core, rec-roll-Core, ind-Core}
+use Rattle.rela_rows.proofs.PathWords.{of_paths}
+
+front_markers : (xs ys : List ℕ) → All IsMarker (xs ++ ys) → All IsMarker xs
+front_markers [] ys each = All-nil IsMarker
+front_markers (x ∷ xs) ys each = All-cons IsMarker x xs (All-head IsMarker x (xs ++ ys) each) (front_markers xs ys (All-tail IsMarker x (xs ++ ys) each))
+
+rest_markers : (xs ys : List ℕ) → All IsMarker (xs ++ ys) → All IsMarker ys
+rest_markers [] ys each = each
+rest_markers (x ∷ xs) ys each = rest_markers xs ys (All-tail IsMarker x (xs ++ ys) each)
 
 module _ (classes : List SymbolSet) (n : ℕ) where
   abbrev pub HasText : ℕ → Type 0
@@ -73,7 +78,8 @@ module _ (classes : List SymbolSet) (n : ℕ) where
   either_same X Y Z paths others u v (inr r) = path_shown v (others v r.1)
 
   either_paths : (X Y : WordSet) → ArePaths X → ArePaths Y → ArePaths (λ w. X w ⊎ Y w)
-  either_paths X Y f g = either_words (path_symbols n) X Y f g
+  either_paths X Y f g w (inl has) = f w has
+  either_paths X Y f g w (inr has) = g w has
 
   drop_paths : ArePaths (λ w. w ≡ drop_symbol n ∷ [])
   drop_paths w is =
@@ -110,8 +116,8 @@ module _ (classes : List SymbolSet) (n : ℕ) where
     after_shown = λ u v r. same_shown (λ w. Z w ⊎ (w ≡ drop_symbol n ∷ [])) (either_paths Z (λ w. w ≡ drop_symbol n ∷ []) f drop_paths) u v r.0 r.1;
   }
   unit_outputs Z (AnyOf p k) f few = record {
-    before_shown = λ u v r. one_shown (marker_symbol n k) v (marker_shown k (any_of_few p k few)) r.1;
-    after_shown = any_shown Z (Paths classes n p) k (any_of_few p k few) f;
+    before_shown = λ u v r. one_shown (marker_symbol n k) v (marker_shown k (All-head IsMarker k [] few).1) r.1;
+    after_shown = any_shown Z (Paths classes n p) k (All-head IsMarker k [] few).1 f;
   }
   unit_outputs Z (Ignore p) f few = record {
     before_shown = λ u v r. same_shown Z f u v r.0 r.1.0;
@@ -130,28 +136,41 @@ module _ (classes : List SymbolSet) (n : ℕ) where
   abbrev pub BodyOutputs : Core → Type 0
   BodyOutputs body = All IsMarker (markers_of body) → OutputsOf (meaning_of classes n body)
 
+  natural : (X : Type 0) (v : X → Core) (k : Core → Meaning) (x : C.Core-F X) → layer_meaning classes n (λ p. k (v p)) x ≡ layer_meaning classes n k (map-Core X Core v x)
+  natural X v k (C.Unit z c) = refl
+  natural X v k (C.Then s t) = refl
+  natural X v k (C.Else s t) = refl
+
+  meaning_roll : (x : C.Core-F Core) → meaning_of classes n (roll-Core x) ≡ layer_meaning classes n (meaning_of classes n) x
+  meaning_roll x = rec-roll-Core Meaning (λ X _ part layer. layer_meaning classes n part layer) natural x
+
+  markers_roll : (x : C.Core-F Core) → markers_of (roll-Core x) ≡ layer_markers (map-Core Core (List ℕ) markers_of x)
+  markers_roll x = fold-roll-Core (List ℕ) layer_markers x
+
   by_meaning : (M N : Meaning) → M ≡ N → OutputsOf N → OutputsOf M
   by_meaning M N is outputs = subst (λ (m : Meaning). OutputsOf m) (sym is) outputs
 
   layer_outputs : (y : C.Core-F ((body : Core) × BodyOutputs body)) → BodyOutputs (roll-Core (map-Core ((body : Core) × BodyOutputs body) Core (λ e. e.0) y))
   layer_outputs (C.Unit z c) few =
-      by_meaning _ _ (meaning_roll classes n (C.Unit z c))
-      (unit_outputs (Paths classes n z) c (words_of z) (in_unit z c (subst (λ (b : Core). All IsMarker (markers_of b)) (B.rolls-Unit z c) few)))
+      by_meaning _ _ (meaning_roll (C.Unit z c))
+      (unit_outputs (Paths classes n z) c (words_of z) (subst (All IsMarker) (markers_roll (C.Unit z c)) few))
   layer_outputs (C.Then s t) few =
       let S : Meaning = meaning_of classes n s.0 in
       let T : Meaning = meaning_of classes n t.0 in
-      let first = s.1 (then_front (roll-Core (C.Then s.0 t.0)) s.0 t.0 s.0 (B.rolls-Then s.0 t.0) refl few) in
-      let second = t.1 (then_rest (roll-Core (C.Then s.0 t.0)) s.0 t.0 t.0 (B.rolls-Then s.0 t.0) refl few) in
-      by_meaning _ _ (meaning_roll classes n (C.Then s.0 t.0)) (record {
+      let each : All IsMarker (markers_of s.0 ++ markers_of t.0) = subst (All IsMarker) (markers_roll (C.Then s.0 t.0)) few in
+      let first = s.1 (front_markers (markers_of s.0) (markers_of t.0) each) in
+      let second = t.1 (rest_markers (markers_of s.0) (markers_of t.0) each) in
+      by_meaning _ _ (meaning_roll (C.Then s.0 t.0)) (record {
         before_shown = joined_shown S.before T.before first.before_shown second.before_shown;
         after_shown = joined_shown S.after T.after first.after_shown second.after_shown;
       })
   layer_outputs (C.Else s t) few =
       let S : Meaning = meaning_of classes n s.0 in
       let T : Meaning = meaning_of classes n t.0 in
-      let first = s.1 (else_front (roll-Core (C.Else s.0 t.0)) s.0 t.0 s.0 (B.rolls-Else s.0 t.0) refl few) in
-      let second = t.1 (else_rest (roll-Core (C.Else s.0 t.0)) s.0 t.0 t.0 (B.rolls-Else s.0 t.0) refl few) in
-      by_meaning _ _ (meaning_roll classes n (C.Else s.0 t.0)) (record {
+      let each : All IsMarker (markers_of s.0 ++ markers_of t.0) = subst (All IsMarker) (markers_roll (C.Else s.0 t.0)) few in
+      let first = s.1 (front_markers (markers_of s.0) (markers_of t.0) each) in
+      let second = t.1 (rest_markers (markers_of s.0) (markers_of t.0) each) in
+      by_meaning _ _ (meaning_roll (C.Else s.0 t.0)) (record {
         before_shown = else_shown S.before T.before S.zone first.before_shown second.before_shown;
         after_shown = else_shown S.after T.after S.zone first.after_shown second.after_shown;
       })
