@@ -17,7 +17,6 @@ use Rattle.rela_engine.specs.declared.leaf.Leaf.TheVariants.{Holds, Fails, Undec
 use Rattle.rela_names.specs.Shortlex.{First}
 use Rattle.rela_names.specs.declared.level.Level.{Level}
 use Rattle.rela_names.proofs.ShortlexLaws.{same_first}
-use Rattle.rela_rir.specs.Agreement.{SamePaths}
 use Rattle.rela_rir.specs.Assertions.{FailsBy, HoldsOnPaths, TellsAgainst, both_of, either_of, first_term, opposite_of, second_term}
 use Rattle.rela_rir.specs.Meaning.{In}
 use Rattle.rela_rir.specs.Places.{Scene}
@@ -27,12 +26,12 @@ use Rattle.rela_rir.specs.declared.set.SymbolSet.{SymbolSet}
 use Rattle.rela_rir.specs.declared.term.PathTerm.{PathTerm}
 use Rattle.rela_rir.specs.declared.value.Value.{Value}
 use Rattle.rela_rir.specs.declared.value.Value.TheVariants as V
-use Rattle.rela_rir.proofs.ScenesAlike.{carries}
 use Rattle.rela_snapshot.specs.declared.pairing.FlowPair.{FlowPair}
 use Rattle.rela_assertions.specs.Agreement.{AgreeInLeaf, AgreeInRow, AgreeInRows, AgreeInValue, AreClaimsAlike, AreFlowsAlike}
 use Rattle.rela_assertions.specs.Rows.{AreRowsOf, IsRowOf, each_with_each, scene_for}
 use Rattle.rela_assertions.specs.Values.{HasValue, IsJoined, layer_value, leaves_of}
 use Rattle.rela_assertions.specs.declared.row.AssertionRow.{AssertionRow}
+use Rattle.rela_assertions.proofs.SameTerms.{same_words}
 use Rattle.rela_assertions.proofs.ValueLaws.{value_roll}
 use Rattle.rela_assertions.proofs.Zips.{append_none, zip_append}
 
@@ -217,11 +216,8 @@ module _ (names : List (List ℕ)) (level : Level) (classes : List SymbolSet) (p
   abbrev n : Scene
   n = scene_for names level classes q
 
-  one_paths : SamePaths m n
-  one_paths = record { pre = same.pre; post = same.post; pre_places = same.pre_places; post_places = same.post_places }
-
   words : (x : PathTerm) (w : List ℕ) → In m.setting x w ↔ In n.setting x w
-  words x w = (let both = carries m n (record { classes = refl; path_symbols = refl }) x (inr one_paths) in (both.0.words w, both.1.words w))
+  words = same_words classes m.setting.path_symbols m.setting.pre m.setting.post n.setting.pre n.setting.post same.pre same.post
 
   tells : (assertion : Assertion) (w : List ℕ) → TellsAgainst m.setting assertion w → TellsAgainst n.setting assertion w
   tells (Equal x y) w (path, inl is) = (path, inl ((words x w).0 is.0, λ h. is.1 ((words y w).1 h)))
