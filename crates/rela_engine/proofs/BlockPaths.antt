@@ -5,7 +5,6 @@ use Rattle.std.specs.Option.{ForSome}
 use Rattle.std.specs.Prelude.{Option, Result, Ok, Err, IfOk}
 use Rattle.std.proofs.lemmas.List.Elements.{All-head, All-tail}
 use Rattle.rela_build.specs.Reading.{read_by}
-use Rattle.rela_build.proofs.Readings.{is_symbol, read_below, read_symbol}
 use Rattle.rela_graph.specs.Alone.{StandsAlone}
 use Rattle.rela_graph.specs.Paths.{Paths}
 use Rattle.rela_graph.specs.Topology.{Topology, IsTopology, symbol_at}
@@ -19,6 +18,7 @@ use Rattle.rela_nfa.specs.Relabelling.{blocks_of}
 use Rattle.rela_engine.specs.FlowLetters.{AcceptsPaths}
 use Rattle.rela_engine.specs.LetterImages.{IsReadOver}
 use Rattle.rela_engine.specs.Seen.{AreFiner}
+use Rattle.rela_engine.proofs.LetterLaws.{is_symbol, read_below, read_symbol}
 use Rattle.rela_engine.proofs.MetOn.{inputs_below}
 use Rattle.rela_engine.proofs.PathLetters.{path_each, read_word}
 

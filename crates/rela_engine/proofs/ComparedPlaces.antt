@@ -7,7 +7,6 @@ use Rattle.std.proofs.lemmas.List.{length-map, get_or-map}
 use Rattle.std.proofs.lemmas.List.Elements.{All-map, All-from_get_or}
 use Rattle.rela_build.specs.Made.{Leads}
 use Rattle.rela_build.specs.Reading.{read_by}
-use Rattle.rela_build.proofs.LetterWords.{Below, symbols_of as symbols_in}
 use Rattle.rela_compare.specs.Comparison.{ReachPairsBefore}
 use Rattle.rela_labels.specs.Partition.{block_count, IsPartition}
 use Rattle.rela_names.specs.Shortlex.{IsBefore}
@@ -21,6 +20,8 @@ use Rattle.rela_rir.specs.declared.term.PathTerm.{PathTerm}
 use Rattle.rela_subset.specs.Subsets.{AreApart}
 use Rattle.rela_engine.proofs.LeastSymbols.{least_word, least_words}
 use Rattle.rela_engine.proofs.LeastWords.{before_letters}
+use Rattle.rela_engine.proofs.LetterLaws.{Below}
+use Rattle.rela_engine.proofs.PathLetters.{word_of_symbols}
 
 module _ (m : Scene) (blocks : List ℕ) (is : IsPartition blocks) (symbols : length blocks ≡ m.setting.path_symbols + m.markers) where
   abbrev f : ℕ → ℕ
@@ -28,7 +29,7 @@ module _ (m : Scene) (blocks : List ℕ) (is : IsPartition blocks) (symbols : le
 
   -- a word that is read as letters is one of the check
   pub check_word : (v w : List ℕ) → map f v ≡ w → Below (block_count blocks) w → IsCheckWord m v
-  check_word v w e below = subst (λ (k : ℕ). Below k v) symbols (symbols_in blocks v w e below)
+  check_word v w e below = subst (λ (k : ℕ). Below k v) symbols (word_of_symbols blocks v (subst (Below (block_count blocks)) (sym e) below))
 
   module _ (x y : PathTerm) (a b : Automaton) (a_letters : a.letters ≡ block_count blocks)
       (placed_a : IsPlaced m x (Leads blocks a)) (placed_b : IsPlaced m y (Leads blocks b))

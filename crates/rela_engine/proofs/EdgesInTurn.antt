@@ -9,7 +9,7 @@ use Rattle.rela_nfa.specs.Automaton.{IsMove, Move}
 use Rattle.rela_nfa.specs.Stored.{move_of}
 use Rattle.rela_nfa.specs.declared.edge.Edge.{Edge}
 use Rattle.rela_subset.specs.Deterministic.{Deterministic, IsDeterministic, moves_of, next, states, takes, target}
-use Rattle.rela_subset.proofs.Words.{moves_at}
+use Rattle.rela_engine.proofs.LetterLaws.{moves_at}
 
 last_none : (b : Bool) (to v : ℕ) → unwrap_or (cond b (Some to) None) v ≡ cond b to v
 last_none true to v = refl
@@ -67,11 +67,11 @@ own_label : (o : Option (List Bool)) → option_map (λ (set : List Bool). set) 
 own_label None = refl
 own_label (Some set) = refl
 
-module _ (d : Deterministic) (ok : IsDeterministic d) (q : ℕ) (q_in : q < states d) where
+module _ (d : Deterministic) (ok : IsDeterministic d) (q : ℕ) where
   pub all_sized : (edges : List (Edge (List Bool))) → map as_move edges ≡ moves_of d q → All (IsSized (length d.over)) edges
   all_sized edges are k e below =
       let moves : All (IsMove (length d.over) (states d)) (map as_move edges) =
-      subst (All (IsMove (length d.over) (states d))) (sym are) (moves_at d ok q q_in) in
+      subst (All (IsMove (length d.over) (states d))) (sym are) (moves_at d ok q) in
       let move = moves k (as_move e) (omega (arith, below, length-map edges as_move)) in
       let is : IsMove (length d.over) (states d) (as_move (get_or edges k e)) = subst (IsMove (length d.over) (states d)) (get_or-map as_move edges k e (as_move e) below) move in
       subst (λ (o : Option (List Bool)). ForSome o (λ set. length set ≡ length d.over)) (own_label (get_or edges k e).label) is.sized

@@ -4,9 +4,9 @@ use Rattle.std.specs.List.{All}
 use Rattle.std.proofs.lemmas.Bool.{cases_eq}
 use Rattle.std.proofs.lemmas.List.Elements.{All-nil, All-cons, All-head, All-tail}
 use Rattle.rela_build.specs.Reading.{read_by}
-use Rattle.rela_build.proofs.Readings.{covered, is_symbol, read_symbol}
 use Rattle.rela_labels.specs.Partition.{block_of, block_count, IsLeastOf, IsPartition}
 use Rattle.rela_engine.specs.Seen.{AreLeast}
+use Rattle.rela_engine.proofs.LetterLaws.{covered, is_symbol, read_symbol}
 
 abbrev here_or_later : {P Q : Type 0} → P ⊎ Q → ℕ → ℕ
 here_or_later (inl here) later = 0

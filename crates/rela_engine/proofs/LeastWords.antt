@@ -12,8 +12,8 @@ use Rattle.rela_names.specs.Alphabet.{path_symbols}
 use Rattle.rela_names.specs.declared.level.Level.{Level}
 use Rattle.rela_names.specs.Shortlex.{IsSmaller, IsBefore, First}
 use Rattle.rela_build.specs.Reading.{read_by}
-use Rattle.rela_build.proofs.Readings.{read_symbol}
 use Rattle.rela_engine.specs.Seen.{AreLeast, NodesStandAlone}
+use Rattle.rela_engine.proofs.LetterLaws.{read_symbol}
 use Rattle.rela_engine.proofs.PathLetters.{path_each}
 
 abbrev pub IsLeast : List ℕ → ℕ → Type 0

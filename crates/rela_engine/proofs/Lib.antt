@@ -2,6 +2,9 @@ pub mod FixedTerms
 pub mod OpenRows
 pub mod CarriedRows
 pub mod Rereading
+pub mod LetterLaws
+pub mod LiftedWords
+pub mod SameOutlines
 pub mod PathLetters
 pub mod LeastSymbols
 pub mod LeastWords

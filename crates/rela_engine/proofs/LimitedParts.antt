@@ -1,12 +1,11 @@
 -- The parts that are complemented in a term, where the limit bounds the sets of states that words reach.
-use Rattle.std.proofs.Common.{◌≡◌, ◌∙◌, ℕ, zero, suc, ◌+◌, ◌<◌, Bool, true, List, [], ◌∷◌, ◌++◌, length, map, inl, inr, refl, sym, ap, subst, arith}
+use Rattle.std.proofs.Common.{◌≡◌, ◌∙◌, ℕ, zero, suc, ◌+◌, ◌<◌, Bool, true, List, [], ◌∷◌, ◌++◌, length, get_or, map, inl, inr, refl, sym, ap, subst, arith}
 use Rattle.std.specs.List.{All, AllPairs}
 use Rattle.std.specs.Prelude.{Contains}
-use Rattle.std.proofs.lemmas.List.{map-append, length-map}
+use Rattle.std.proofs.lemmas.List.{get_or-map, map-append, length-map}
 use Rattle.std.proofs.lemmas.List.Elements.{All-nil, All-cons, All-head, All-tail, All-weaker, All-map}
 use Rattle.rela_labels.specs.Letters.{has}
 use Rattle.rela_labels.specs.Partition.{block_count}
-use Rattle.rela_labels.proofs.LettersOfWords.{has_below}
 use Rattle.rela_nfa.specs.Automaton.{Automaton}
 use Rattle.rela_nfa.specs.Runs.{Accepts}
 use Rattle.rela_rir.specs.Complements.{complemented_parts_r}
@@ -28,9 +27,27 @@ use Rattle.rela_build.specs.PathSets.{Paths, scene_of}
 use Rattle.rela_build.specs.Reading.{read_by, HoldsJust}
 use Rattle.rela_build.specs.declared.stop.Stop.{Stop}
 use Rattle.rela_build.specs.declared.stop.Stop.TheVariants.{Limit, Refused, Memory}
-use Rattle.rela_build.proofs.ReadWords.{over as over_path}
 use Rattle.rela_complement.specs.Telling.{IsTold, TellsWords}
-use Rattle.rela_complement.proofs.Pairs.{mapped_pairs, pairs_mapped, weaker_pairs}
+use Rattle.rela_engine.proofs.LetterLaws.{has_below, over_path}
+
+-- pairs of a list, by those of what it is mapped to
+mapped_pairs : {X Y : Type 0} (R : Y → Y → Type 0) (S : X → X → Type 0) (f : X → Y) → ((x y : X) → R (f x) (f y) → S x y) → (xs : List X)
+    → AllPairs R (map f xs) → AllPairs S xs
+mapped_pairs R S f on xs pairs i j d before inside =
+    let first = get_or-map f xs i d (f d) (omega (arith, before, inside)) in
+    let second = get_or-map f xs j d (f d) inside in
+    on (get_or xs i d) (get_or xs j d)
+    (subst (λ y. R y (f (get_or xs j d))) first
+    (subst (λ y. R (get_or (map f xs) i (f d)) y) second (pairs i j (f d) before (omega (arith, inside, length-map xs f)))))
+
+-- and the other way round
+pairs_mapped : {X Y : Type 0} (R : Y → Y → Type 0) (S : X → X → Type 0) (f : X → Y) → ((x y : X) → S x y → R (f x) (f y)) → (xs : List X) → X
+    → AllPairs S xs → AllPairs R (map f xs)
+pairs_mapped R S f on xs x pairs i j d before inside =
+    let j_in : j < length xs = omega (arith, inside, length-map xs f) in
+    let i_in : i < length xs = omega (arith, before, j_in) in
+    subst (λ y. R y (get_or (map f xs) j d)) (sym (get_or-map f xs i x d i_in))
+    (subst (λ y. R (f (get_or xs i x)) y) (sym (get_or-map f xs j x d j_in)) (on (get_or xs i x) (get_or xs j x) (pairs i j x before j_in)))
 
 module _ (l : Lettering) (paths : Paths) where
   abbrev pub m : Scene
@@ -79,8 +96,7 @@ module _ (l : Lettering) (paths : Paths) where
           words = ws.0;
           many = sym (length-map ws.0 (map f)) ∙ ap length ws.2 ∙ sets.count;
           each = ws.1;
-          apart = weaker_pairs (λ v w. AreApart a (map f v) (map f w)) (ToldByState (Leads l.blocks a)) (told_apart a) ws.0
-              (mapped_pairs (AreApart a) (map f) ws.0 (subst (AllPairs (AreApart a)) (sym ws.2) sets.apart));
+          apart = mapped_pairs (AreApart a) (ToldByState (Leads l.blocks a)) (map f) (told_apart a) ws.0 (subst (AllPairs (AreApart a)) (sym ws.2) sets.apart);
         }
 
   pub placed : (exactly : Type 0) (x : PathTerm) (a : Automaton) → IsMade exactly l paths x a → IsPlaced m x (Leads l.blocks a)
@@ -139,8 +155,7 @@ module _ (l : Lettering) (paths : Paths) where
     count = length-map told.words (map f) ∙ told.many;
     letters = All-map (IsOver over) (map f) told.words
         (All-weaker IsPath (λ w. IsOver over (map f w)) (λ w. (over_path f over l.path_symbols is.of_path.holds w).1) told.words told.symbols);
-    told = pairs_mapped (IsTold a over) (map f) told.words []
-        (weaker_pairs (ToldByContinuing m x) (λ v w. IsTold a over (map f v) (map f w)) (told_on exactly x a over is) told.words told.told);
+    told = pairs_mapped (IsTold a over) (ToldByContinuing m x) (map f) (told_on exactly x a over is) told.words [] told.told;
   }
 
   abbrev pub Answers : {N : Type 0} → ℕ → ℕ → Automaton → List Bool → N → Type 0

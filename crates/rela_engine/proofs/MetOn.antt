@@ -1,15 +1,14 @@
 -- Flows whose graphs look the same meet a check where its two relations have the same pairs for their paths.
 use Rattle.std.proofs.Common.{◌≡◌, ℕ, ◌+◌, ◌<◌, ◌↔◌, Bool, true, false, List, [], ◌∷◌, length, get_or, map, inl, inr, sym, ap, ◌∙◌, subst, arith}
 use Rattle.std.specs.List.{All, Contains}
+use Rattle.std.proofs.lemmas.List.{get_or-map, length-map}
 use Rattle.std.proofs.lemmas.List.Elements.{All-append, All-cons, All-map, All-nil, Contains-append_left, Contains-append_right, Contains-get_or}
 use Rattle.rela_build.specs.Reading.{read_by}
-use Rattle.rela_build.proofs.Readings.{read_symbol, read_below}
 use Rattle.rela_graph.specs.Paths.{Paths}
 use Rattle.rela_graph.specs.Topology.{Topology, IsTopology, symbol_at}
 use Rattle.rela_graph.specs.declared.node.Node.{Node}
 use Rattle.rela_labels.specs.Partition.{block_count, block_of}
 use Rattle.rela_names.specs.declared.level.Level.{Level}
-use Rattle.rela_nfa.proofs.Moves.{Contains-map}
 use Rattle.rela_restriction.specs.Excess.{IsReadAs}
 use Rattle.rela_rir.specs.Words.{WordSet, Relation, ImageOf}
 use Rattle.rela_translate.specs.Checked.{Checked}
@@ -17,6 +16,7 @@ use Rattle.rela_translate.specs.Verdict.{AreMet, Meets}
 use Rattle.rela_translate.specs.Zones.{Before, After}
 use Rattle.rela_blocks.specs.Blocks.{AreBlocks}
 use Rattle.rela_engine.specs.Differing.{AreDifferences, Differences, HaveNoneOn, SamePairsOn, path_symbols_of}
+use Rattle.rela_engine.proofs.LetterLaws.{read_below, read_symbol}
 use Rattle.rela_engine.proofs.NodesApart.{one_of}
 use Rattle.rela_engine.proofs.PathLetters.{path_each}
 
@@ -41,12 +41,20 @@ differences_along blocks R S R' S' d first second are = record {
 
 -- ---- the symbols of paths
 
+-- the block of one of the symbols is one of their blocks
+block_among : (blocks symbols : List ℕ) (s : ℕ) → Contains symbols s → Contains (map (block_of blocks) symbols) (block_of blocks s)
+block_among blocks symbols s (k, within, at) = (
+  k,
+  omega (arith, within, length-map symbols (block_of blocks)),
+  get_or-map (block_of blocks) symbols k s (block_of blocks s) within ∙ ap (block_of blocks) at,
+)
+
 module _ (blocks : List ℕ) (level : Level) (n : ℕ) (g : Topology) (few : n + 1 < length blocks) (placed : All (λ node. symbol_at level node < n) g.nodes) where
   abbrev inputs : List ℕ
   inputs = map (block_of blocks) (path_symbols_of level n g.nodes)
 
   among : (s : ℕ) → s < length blocks → Contains (path_symbols_of level n g.nodes) s → Contains inputs (read_by blocks s)
-  among s below has_s = subst (Contains inputs) (sym (read_symbol blocks s below)) (Contains-map (block_of blocks) (path_symbols_of level n g.nodes) s has_s)
+  among s below has_s = subst (Contains inputs) (sym (read_symbol blocks s below)) (block_among blocks (path_symbols_of level n g.nodes) s has_s)
 
   node_symbol : All (λ node. Contains inputs (read_by blocks (symbol_at level node))) g.nodes
   node_symbol k d within =

@@ -3,30 +3,24 @@ use Rattle.std.proofs.Common.{◌≡◌, ℕ, ◌+◌, ◌<◌, ◌≤◌, ◌�
 use Rattle.std.specs.Prelude.{◌==◌, if◌then◌else◌}
 use Rattle.std.specs.List.{All}
 use Rattle.std.proofs.lemmas.List.{append-nil, get_or-map}
-use Rattle.std.proofs.lemmas.List.Elements.{All-nil, All-cons, All-push, All-map, All-head, All-tail, All-weaker}
+use Rattle.std.proofs.lemmas.List.Elements.{All-contains, All-nil, All-cons, All-push, All-map, All-head, All-tail, All-weaker}
 use Rattle.rela_labels.specs.Partition.{block_count}
 use Rattle.rela_names.specs.declared.level.Level.{Level}
 use Rattle.rela_nfa.specs.Automaton.{Automaton, IsAutomaton, states}
 use Rattle.rela_nfa.specs.Relabelling.{blocks_of}
 use Rattle.rela_nfa.specs.Runs.{Accepts, Reach}
-use Rattle.rela_nfa.proofs.Parts.{state_of_reach}
 use Rattle.rela_rir.specs.Built.{PathStates}
 use Rattle.rela_rir.specs.Places.{Arrivals}
-use Rattle.rela_trans.proofs.MappedWords.{no_word}
 use Rattle.rela_build.specs.Made.{Leads}
-use Rattle.rela_build.proofs.LetterWords.{reached_letters}
-use Rattle.rela_compare.proofs.AcceptedLetters.{accepted_letters}
 use Rattle.rela_names.specs.Alphabet.{path_symbols}
 use Rattle.rela_graph.specs.Paths.{Paths, Undelivered, Arrives, locations, squeeze, squeeze_after}
-use Rattle.rela_graph.specs.Topology.{Topology, IsTopology, symbol_at}
+use Rattle.rela_graph.specs.Topology.{HasEdge, IsTopology, JoinsNodes, Topology, symbol_at}
 use Rattle.rela_graph.specs.Walk.{FollowsEdges, IsWalk}
 use Rattle.rela_graph.specs.declared.node.Node.{Node}
-use Rattle.rela_graph.proofs.Flagged.{flag_within}
-use Rattle.rela_graph.proofs.Ways.{edge_node}
 use Rattle.rela_build.specs.Reading.{read_by}
-use Rattle.rela_build.proofs.Readings.{read_symbol, is_symbol}
-use Rattle.rela_build.proofs.SplitWords.{unmapped}
 use Rattle.rela_engine.specs.Reading.{Recognises}
+use Rattle.rela_engine.proofs.LetterLaws.{accepted_letters, has_below, is_symbol, reached_letters, read_symbol, state_of_reach, unmapped}
+use Rattle.rela_engine.proofs.LiftedWords.{no_word}
 
 -- ---- words that an automaton accepts by the blocks of their symbols
 
@@ -120,13 +114,17 @@ module _ (g : Topology) (is : IsTopology g) where
   abbrev IsNode : ℕ → Type 0
   IsNode n = n < length g.nodes
 
+  -- an edge leads to a node
+  edge_node : (a b : ℕ) → HasEdge g a b → IsNode b
+  edge_node a b edge = (All-contains (JoinsNodes (length g.nodes)) g.edges (record { a = a; b = b }) is.joins edge).1
+
   follow_nodes : (a : ℕ) (rest : List ℕ) → IsNode a → FollowsEdges g (a ∷ rest) → All IsNode (a ∷ rest)
   follow_nodes a [] first follows = All-cons IsNode a [] first (All-nil IsNode)
-  follow_nodes a (b ∷ rest) first follows = All-cons IsNode a (b ∷ rest) first (follow_nodes b rest (edge_node g is a b follows.0) follows.1)
+  follow_nodes a (b ∷ rest) first follows = All-cons IsNode a (b ∷ rest) first (follow_nodes b rest (edge_node a b follows.0) follows.1)
 
   pub walk_nodes : (walk : List ℕ) → IsWalk g walk → All IsNode walk
   walk_nodes [] walk = absurd walk
-  walk_nodes (a ∷ rest) walk = follow_nodes a rest (let w = flag_within g.starts a walk.0 in omega (arith, w, is.starts)) walk.1
+  walk_nodes (a ∷ rest) walk = follow_nodes a rest (let flagged = has_below g.starts a walk.0 in omega (arith, flagged, is.starts)) walk.1
 
   module _ (P : ℕ → Type 0) (level : Level) (each : All (λ node. P (symbol_at level node)) g.nodes) where
     nowhere : Node

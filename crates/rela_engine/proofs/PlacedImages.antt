@@ -1,18 +1,15 @@
 -- What plain automata tell of places, where an image or the comparison of two passes the limit.
-use Rattle.std.proofs.Common.{◌≡◌, ◌+◌, ℕ, List, length, map, sym, subst, arith}
+use Rattle.std.proofs.Common.{◌≡◌, ◌∙◌, ◌+◌, ℕ, List, length, map, sym, subst, arith}
 use Rattle.std.specs.Prelude.{Option}
 use Rattle.std.specs.Option.{ForSome}
 use Rattle.rela_build.specs.Made.{Leads, LeadsR, IsMadeR}
 use Rattle.rela_build.specs.PathSets.{Paths, no_paths}
 use Rattle.rela_build.specs.Reading.{read_by}
-use Rattle.rela_build.proofs.LetterWords.{Below, reached_letters_r, word_for}
 use Rattle.rela_build.proofs.PairStates.{two_of, numbered, many_states}
-use Rattle.rela_build.proofs.Readings.{covered}
 use Rattle.rela_compare.specs.Comparison.{ReachPairsBefore}
 use Rattle.rela_labels.specs.Partition.{block_count, IsPartition}
 use Rattle.rela_nfa.specs.Automaton.{Automaton, IsAutomaton}
 use Rattle.rela_nfa.specs.Runs.{Reach}
-use Rattle.rela_nfa.proofs.Parts.{state_of_reach}
 use Rattle.rela_pairs.specs.Reachable.{MoreThan}
 use Rattle.rela_pairs.specs.declared.pair.Pair.{Pair}
 use Rattle.rela_rir.specs.Fixed.{IsFixedR}
@@ -28,14 +25,16 @@ use Rattle.rela_trans.specs.Composition.{Covers}
 use Rattle.rela_trans.specs.Images.{AreReachedFrom}
 use Rattle.rela_trans.specs.Machine.{Machine, IsMachine}
 use Rattle.rela_trans.specs.Runs.{ReachR}
-use Rattle.rela_trans.proofs.SymbolLetters.{letters_reached, symbols_reached}
 use Rattle.rela_translate.specs.Checked.{Checked}
 use Rattle.rela_blocks.specs.RowBlocks.{symbols_of}
 use Rattle.rela_blocks.specs.Scenes.{scene, lettering_of}
 use Rattle.rela_engine.specs.Scenes.{bare_scene}
 use Rattle.rela_engine.specs.Seen.{IsImageBy, LeadAlike}
 use Rattle.rela_engine.proofs.ComparedPlaces as compared
+use Rattle.rela_engine.proofs.LetterLaws.{Below, covered, state_of_reach, word_for}
+use Rattle.rela_engine.proofs.LiftedWords.{letters_reached, symbols_reached}
 use Rattle.rela_engine.proofs.OpenRows.{agree}
+use Rattle.rela_engine.proofs.Rereading.{reach_below}
 
 module _ (check : Checked) (n : ℕ) (blocks : List ℕ) (is : IsPartition blocks) (symbols : length blocks ≡ symbols_of check n) (paths : Paths) where
   abbrev m : Scene
@@ -60,16 +59,17 @@ module _ (check : Checked) (n : ℕ) (blocks : List ℕ) (is : IsPartition block
 
   module _ (x : PathTerm) (r : RelTerm) (a : Automaton) (t : Machine) (ok : IsMachine t) (letters : t.letters ≡ block_count blocks)
       (placed : IsPlaced m x (Leads blocks a)) (placed_r : IsPlacedR m r (LeadsR blocks t)) where
-    covers : Covers f t.letters
-    covers = subst (Covers f) (sym letters) (covered blocks is)
-
     -- what one source of letters leads to is led to by a source of symbols
     from_symbols : (z : Pair) → AreReachedFrom a t z → IsStateReached m (ReachFromSource (Leads blocks a) (LeadsR blocks t)) (two_of z)
     from_symbols z (source, v, left, right) =
-        let below : Below (block_count blocks) v = subst (λ (k : ℕ). Below k v) letters (reached_letters_r t ok z.right source v right).1 in
-        let w = word_for blocks (covered blocks is) v below in
-        let lifted = symbols_reached f t ok covers z.right source w.0 (subst (λ (o : List ℕ). ReachR (λ k. k) t z.right source o) (sym w.1) right) in
-        (w.0, check_word w.0 v w.1 below, (lifted.0, subst (Reach a z.left) (sym lifted.1) left, lifted.2))
+        let are = reach_below (λ k. k) t ok t.letters (λ k letter. letter) z.right source v right in
+        let below : Below (block_count blocks) v = subst (λ (k : ℕ). Below k v) letters are.1 in
+        let u = word_for blocks is source (subst (λ (k : ℕ). Below k source) letters are.0) in
+        let w = word_for blocks is v below in
+        let lifted = symbols_reached (λ k. k) f t z.right u.0 w.0
+        (subst (λ (o : List ℕ). ReachR (λ k. k) t z.right o (map f w.0)) (sym u.1)
+        (subst (λ (o : List ℕ). ReachR (λ k. k) t z.right source o) (sym w.1) right)) in
+        (w.0, check_word w.0 v w.1 below, (lifted.0, subst (Reach a z.left) (sym (lifted.1 ∙ u.1)) left, lifted.2))
 
     -- an image that passes the limit has more places
     pub image_passes : (limit : ℕ) → MoreThan limit (AreReachedFrom a t) → Reached m (P.Image x r) (limit + 1)
@@ -84,7 +84,7 @@ module _ (check : Checked) (n : ℕ) (blocks : List ℕ) (is : IsPartition block
         built.plain (built.image m ⊥ x 0 (Leads blocks a) (Leads blocks image) (built.perhaps m x (Leads blocks a) placed 0) r 0 (LeadsR blocks t) (map two_of pairs)
         (built.perhaps_r m r (LeadsR blocks t) placed_r 0)
         (numbered pairs (ReachFromSource (Leads blocks a) (LeadsR blocks t)) (Leads blocks image) image_is.distinct
-        (λ z v (source, left, right). image_is.all z (map f source, map f v, left, letters_reached f t z.right source v right))
+        (λ z v (source, left, right). image_is.all z (map f source, map f v, left, letters_reached (λ k. k) f t z.right source v right))
         (λ k v led. let less = state_of_reach image image_ok k (map f v) led in omega (arith, image_is.count))
         (λ k z at v. image_is.reached f covers_a k z at v)))
 

@@ -1,7 +1,6 @@
 -- The row of a check, by what automata over blocks of symbols tell.
-use Rattle.std.proofs.Common.{◌≡◌, ℕ, ◌<◌, ◌↔◌, Bool, true, false, List, [], ◌∷◌, map, refl, sym, ◌∙◌, subst, inl, inr}
+use Rattle.std.proofs.Common.{◌≡◌, ℕ, ◌<◌, ◌↔◌, Bool, true, false, List, map, refl, sym, ◌∙◌, subst, inl, inr}
 use Rattle.std.specs.List.{All}
-use Rattle.std.proofs.lemmas.List.Elements.{All-head, All-tail}
 use Rattle.rela_labels.specs.Partition.{block_count, IsPartition}
 use Rattle.rela_names.specs.Shortlex.{IsBefore, First}
 use Rattle.rela_nfa.specs.Automaton.{Automaton, IsAutomaton}
@@ -15,15 +14,12 @@ use Rattle.rela_rir.specs.Words.{WordSet, Relation, ImageOf}
 use Rattle.rela_rir.specs.declared.term.RelTerm.{RelTerm}
 use Rattle.rela_trans.specs.Machine.{Machine, IsMachine}
 use Rattle.rela_trans.specs.Runs.{Relates}
-use Rattle.rela_trans.proofs.SymbolLetters.{letters_related, symbols_related}
 use Rattle.rela_translate.specs.Checked.{Checked}
 use Rattle.rela_translate.specs.Terms.{before_of, after_of}
 use Rattle.rela_translate.specs.Verdict.{AreMet, Offending, Offends}
 use Rattle.rela_translate.proofs.Meanings.{before_in, after_in}
 use Rattle.rela_build.specs.PathSets.{scene_of}
-use Rattle.rela_compare.proofs.AcceptedLetters.{accepted_letters}
 use Rattle.rela_build.specs.Reading.{read_by}
-use Rattle.rela_build.proofs.Readings.{covered}
 use Rattle.rela_build.specs.Made.{IsMadeR}
 use Rattle.rela_build.specs.PathSets.{Paths, no_paths}
 use Rattle.rela_engine.specs.Compilation.{Compilation, Relations, Twofold, AreRelations}
@@ -35,7 +31,10 @@ use Rattle.rela_engine.specs.Seen.{AreSeen, AreLeastSymbols, IsSource, IsFirstSo
 use Rattle.rela_engine.specs.declared.seen.Form.{Form}
 use Rattle.rela_engine.specs.declared.seen.Form.TheVariants as form
 use Rattle.rela_engine.proofs.LeastWords.{before_letters, first_symbols, same_words}
+use Rattle.rela_engine.proofs.LetterLaws.{accepted_letters, word_for}
+use Rattle.rela_engine.proofs.LiftedWords.{letters_related, symbols_related}
 use Rattle.rela_engine.proofs.OpenRows.{not_forced}
+use Rattle.rela_engine.proofs.Rereading.{related_below}
 
 -- ---- images told by letters
 
@@ -121,13 +120,6 @@ module _ (blocks : List ℕ) (A B X Y : WordSet) (in_x : (w : List ℕ) → A (m
 
 -- ---- the source
 
-pub word_for : (blocks : List ℕ) → IsPartition blocks → (letters : List ℕ) → All (λ k. k < block_count blocks) letters → (w : List ℕ) × (map (read_by blocks) w ≡ letters)
-word_for blocks is [] below = ([], refl)
-word_for blocks is (k ∷ letters) below =
-    let first = covered blocks is k (All-head (λ j. j < block_count blocks) k letters below) in
-    let rest = word_for blocks is letters (All-tail (λ j. j < block_count blocks) k letters below) in
-    (first.0 ∷ rest.0, λ i. first.1 i ∷ rest.1 i)
-
 -- what is accepted is a word of letters
 pub letters_below : (blocks : List ℕ) (a : Automaton) → IsAutomaton a → a.letters ≡ block_count blocks → (letters : List ℕ) → Accepts a letters → All (λ k. k < block_count blocks) letters
 letters_below blocks a ok count letters accepted = subst (λ n. All (λ k. k < n) letters) count (accepted_letters a ok letters accepted)
@@ -138,16 +130,19 @@ module _ (blocks : List ℕ) (is : IsPartition blocks) (words : WordSet) (pairs 
   path_of : (letters word : List ℕ) → IsSource paths relation (map (read_by blocks) word) letters
       → (u : List ℕ) × (map (read_by blocks) u ≡ letters) × words u × pairs u word
   path_of letters word source =
-      let u = symbols_related (read_by blocks) relation relation_ok
-      (subst (λ n. (k : ℕ) → k < n → (s : ℕ) × (read_by blocks s ≡ k)) (sym of_relation.letters) (covered blocks is)) letters word source.1 in
-      let in_words = (of_paths.language u.0).0 (subst (Accepts paths) (sym u.1) source.0) in
-      (u.0, u.1, in_words, (of_relation.relation u.0 word in_words).0 u.2)
+      let below = related_below (λ k. k) relation relation_ok relation.letters (λ k letter. letter) letters (map (read_by blocks) word) source.1 in
+      let some = word_for blocks is letters (subst (λ n. All (λ k. k < n) letters) of_relation.letters below.0) in
+      let lifted =
+      symbols_related (λ k. k) (read_by blocks) relation some.0 word (subst (λ l. Relates (λ k. k) relation l (map (read_by blocks) word)) (sym some.1) source.1) in
+      let read : map (read_by blocks) lifted.0 ≡ letters = lifted.1 ∙ some.1 in
+      let in_words = (of_paths.language lifted.0).0 (subst (Accepts paths) (sym read) source.0) in
+      (lifted.0, read, in_words, (of_relation.relation lifted.0 word in_words).0 lifted.2)
 
   -- and each path that is related to the word has letters that are a source
   source_of : (u word : List ℕ) → words u → pairs u word → IsSource paths relation (map (read_by blocks) word) (map (read_by blocks) u)
   source_of u word in_words related = (
     (of_paths.language u).1 in_words,
-    letters_related (read_by blocks) relation u word ((of_relation.relation u word in_words).1 related),
+    letters_related (λ k. k) (read_by blocks) relation u word ((of_relation.relation u word in_words).1 related),
   )
 
   -- the letters of each word of the image have a source

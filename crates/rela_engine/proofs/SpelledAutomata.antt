@@ -6,21 +6,18 @@ use Rattle.std.proofs.lemmas.List.{length-map}
 use Rattle.std.proofs.lemmas.List.Elements.{All-head, All-tail, All-weaker}
 use Rattle.std.proofs.lemmas.List.FromFn.{get_or-map-range_with_len, length-map-range_with_len}
 use Rattle.rela_build.specs.Reading.{read_by, HoldsJust}
-use Rattle.rela_build.proofs.Readings.{read_symbol}
-use Rattle.rela_build.proofs.ReadWords.{over as over_path}
 use Rattle.rela_labels.specs.Letters.{has}
 use Rattle.rela_labels.specs.Partition.{block_of, block_count, IsPartition}
-use Rattle.rela_labels.proofs.LettersOfWords.{has_below}
 use Rattle.rela_names.specs.Shortlex.{IsBefore, IsSmaller}
 use Rattle.rela_rir.specs.Meaning.{IsPathWord}
 use Rattle.rela_subset.specs.Deterministic as det
 use Rattle.rela_subset.specs.Deterministic.{Deterministic, IsDeterministic, IsOver, next, states, state_after}
-use Rattle.rela_subset.proofs.Words.{next_within}
 use Rattle.rela_engine.specs.Seen.{AreLeast}
 use Rattle.rela_engine.specs.Spelled.{IsLeastBy, spelled, spelled_row}
 use Rattle.rela_engine.specs.SymbolAutomata.{SymbolAutomaton, AcceptSame, AcceptsFrom, IsComplete, IsMinimalOf, LeadsTo, led_from, row_of}
 use Rattle.rela_engine.proofs.LeastSymbols.{least_word, least_words}
 use Rattle.rela_engine.proofs.LeastWords.{IsLeast}
+use Rattle.rela_engine.proofs.LetterLaws.{has_below, next_within, over_path, read_symbol}
 
 -- ---- words of least symbols come first
 
@@ -98,13 +95,10 @@ module _ (blocks : List ℕ) (n : ℕ) (d : Deterministic) (few : n ≤ length b
   next_at : (q s : ℕ) → q < states d → s < n → get_or (row_of a q) s 0 ≡ next d q (f s)
   next_at q s q_in s_in = ap (λ (row : List ℕ). get_or row s 0) (row_at q q_in) ∙ in_row q s 0 s_in
 
-  next_in : (q s : ℕ) → q < states d → s < n → next d q (f s) < states d
-  next_in q s q_in s_in = next_within d ok q (f s) q_in ((over.holds s).1 s_in)
-
   pub row_states : (q : ℕ) → q < states d → All (λ to. to < states d) (spelled_row blocks n d q)
   row_states q q_in s e within =
       let s_in : s < n = omega (arith, within, length-map-range_with_len (λ t. next d q (block_of blocks t)) 0 n) in
-      subst (λ (to : ℕ). to < states d) (sym (in_row q s e s_in)) (next_in q s q_in s_in)
+      subst (λ (to : ℕ). to < states d) (sym (in_row q s e s_in)) (next_within d ok q (f s))
 
   complete : 0 < states d → IsComplete n a
   complete some = record {
@@ -119,7 +113,7 @@ module _ (blocks : List ℕ) (n : ℕ) (d : Deterministic) (few : n ≤ length b
   led q (s ∷ rest) q_in path =
       let s_in = All-head (λ t. t < n) s rest path in
       ap (λ (p : ℕ). led_from a p rest) (next_at q s q_in s_in)
-      ∙ led (next d q (f s)) rest (next_in q s q_in s_in) (All-tail (λ t. t < n) s rest path)
+      ∙ led (next d q (f s)) rest (next_within d ok q (f s)) (All-tail (λ t. t < n) s rest path)
 
   accepts : (q : ℕ) (word : List ℕ) → q < states d → IsPathWord n word → AcceptsFrom a q word ↔ det.IsFinal d (det.led_from d q (map f word))
   accepts q word q_in path = (subst (det.IsFinal d) (led q word q_in path), subst (det.IsFinal d) (sym (led q word q_in path)))

@@ -1,21 +1,25 @@
 -- The text of an automaton over blocks of symbols, state by state.
-use Rattle.std.proofs.Common.{◌≡◌, ◌∙◌, ℕ, ◌+◌, ◌<◌, ◌≤◌, ◌↔◌, ◌++◌, Bool, true, false, List, [], ◌∷◌, length, get_or, map, sym, ap, subst, append_assoc, arith}
+use Rattle.std.proofs.Common.{◌≡◌, ◌∙◌, ℕ, ◌+◌, ◌<◌, ◌≤◌, ◌↔◌, ◌++◌, Bool, true, false, List, [], ◌∷◌, length, get_or, map, refl, sym, ap, subst, append_assoc, arith}
 use Rattle.std.specs.Bool.{IsTrue}
 use Rattle.std.specs.List.{All, flat_map, range_with_len}
+use Rattle.std.proofs.lemmas.Bool.{false≢true, false_from_ne_true}
 use Rattle.std.proofs.lemmas.List.{append-nil, ext_get_or, map-id}
 use Rattle.std.proofs.lemmas.List.Concat.{flat_map-append}
 use Rattle.std.proofs.lemmas.List.FromFn.{get_or-map-range_with_len, length-map-range_with_len, map-range_with_len_more}
 use Rattle.rela_build.specs.Reading.{HoldsJust}
-use Rattle.rela_build.proofs.Readings.{read_symbol}
 use Rattle.rela_labels.specs.Letters.{has}
 use Rattle.rela_labels.specs.Partition.{block_of}
-use Rattle.rela_labels.proofs.LettersOfWords.{has_below}
-use Rattle.rela_minimise.proofs.Alike.{same_truth}
 use Rattle.rela_subset.specs.Deterministic.{Deterministic, IsDeterministic, IsFinal, next, states}
 use Rattle.rela_engine.specs.AutomatonText.{lines_of, state_lines}
 use Rattle.rela_engine.specs.Spelled.{spelled, spelled_row}
 use Rattle.rela_engine.specs.SymbolAutomata.{row_of}
+use Rattle.rela_engine.proofs.LetterLaws.{has_below, read_symbol}
 use Rattle.rela_engine.proofs.SpelledAutomata.{row_at, row_states}
+
+-- of two booleans that are true alike there is one
+same_truth : (a b : Bool) → IsTrue a ↔ IsTrue b → a ≡ b
+same_truth true b is = sym (is.0 refl)
+same_truth false b is = sym (false_from_ne_true b (λ told. false≢true (is.1 told)))
 
 range_more : (n : ℕ) → range_with_len 0 (n + 1) ≡ range_with_len 0 n ++ n ∷ []
 range_more n =

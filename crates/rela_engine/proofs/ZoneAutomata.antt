@@ -5,7 +5,6 @@ use Rattle.rela_build.specs.Made.{IsMade}
 use Rattle.rela_build.specs.Named.{Names}
 use Rattle.rela_build.specs.PathSets.{Paths, no_paths, scene_of}
 use Rattle.rela_build.specs.Reading.{read_by, HoldsJust}
-use Rattle.rela_build.proofs.ReadWords.{over as over_path}
 use Rattle.rela_minimise.specs.Classes.{IsMinimal}
 use Rattle.rela_names.specs.Alphabet.{path_symbols}
 use Rattle.rela_nfa.specs.Automaton.{Automaton}
@@ -25,6 +24,7 @@ use Rattle.rela_blocks.specs.Scenes.{lettering_of}
 use Rattle.rela_engine.specs.Spelled.{IsLeastBy, spelled}
 use Rattle.rela_engine.specs.Zone.{IsZoneText, ZoneMustPassLimit, ZonePassesLimit}
 use Rattle.rela_engine.proofs.CheckLetters.{zone_alone}
+use Rattle.rela_engine.proofs.LetterLaws.{over_path}
 use Rattle.rela_engine.proofs.SpelledAutomata.{minimal_of}
 
 -- the least automaton of the words that the automaton of a term accepts, over the letters of path symbols

@@ -1,7 +1,8 @@
 //! Checks compiled under a limit of states, once for all flows.
 ghost use Rattle.std.specs.Prelude.{◌≡◌, ◌≢◌, ◌≤◌, ◌<◌, ◌↔◌, IfOk, IfErr, IfSome, IfNone};
-ghost use Rattle.std.specs.Prelude.{IsTrue, IsFalse, IsSome, Some, None, All, length};
+ghost use Rattle.std.specs.Prelude.{ℕ, List, IsTrue, IsFalse, IsSome, Some, None, All, length};
 ghost use Rattle.std.specs.Option.{ForSome};
+ghost use Rattle.rela_graph.specs.Topology.{Topology};
 ghost use Rattle.rela_labels.specs.Partition.{block_count};
 ghost use Rattle.rela_names.specs.Alphabet.{path_symbols};
 ghost use Rattle.rela_translate.specs.Zones.{Before, After};
@@ -9,7 +10,8 @@ ghost use Rattle.rela_blocks.specs.Blocks.{AreBlocks};
 ghost use Rattle.rela_engine.specs.Compilation.{AreRelations, IsCompiled, MustPassLimit, PassesLimit};
 ghost use Rattle.rela_engine.specs.Differing.{AreDifferences, SamePairsOn};
 ghost use Rattle.rela_engine.specs.Reading.{Realises};
-ghost use Rattle.rela_blocks.specs.Scenes.{lettering_of};
+ghost use Rattle.rela_engine.specs.RowOf.{MustBeOpen};
+ghost use Rattle.rela_blocks.specs.Scenes.{lettering_of, paths_of};
 ghost use Rattle.rela_engine.specs.Sides.{SamePairs, TreatsSidesAlike};
 
 use crate::differing::{Differing, compare_relations};
@@ -290,11 +292,15 @@ impl<'a> Compiled<'a> {
 
     /// Whether both relations could be made under the limit. Where they could not, some counted
     /// term in them has more reached places than the limit; and they could not where a complement
-    /// in them has a part that tells more words than that.
+    /// in them has a part that tells more words than that. So where they could no flow has to be left
+    /// open.
     pub fn complete(&self) -> bool
         ensures made { IsTrue result ↔ IsSome self.now.relations }
         ensures past { IsFalse result → PassesLimit self.now }
         ensures within { IsTrue result → ¬ MustPassLimit self.now }
+        ensures unforced { IsTrue result → (names : List (List ℕ)) (before after : Topology) →
+            ¬ MustBeOpen self.now.check self.now.locations
+            (paths_of self.now.check.level names before after) self.now.states }
     {
         self.relations.is_some()
     }

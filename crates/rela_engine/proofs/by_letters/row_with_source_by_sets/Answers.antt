@@ -9,8 +9,9 @@ use Rattle.rela_nfa.specs.Runs.{Accepts}
 use Rattle.rela_trans.specs.Runs.{Relates}
 use Rattle.rela_engine.specs.LetterImages.{TellsFirst}
 use Rattle.rela_engine.specs.Seen.{NodesStandAlone, TellsOf}
+use Rattle.rela_engine.proofs.LetterLaws.{word_for}
 use Rattle.rela_engine.proofs.Rereading.{realises_named}
-use Rattle.rela_engine.proofs.Rows.{source_from, tells_first, word_for}
+use Rattle.rela_engine.proofs.Rows.{source_from, tells_first}
 use Rattle.rela_engine.proofs.by_letters.row_with_source_by_sets.Goals as goal
 
 pub short_paths-requires-clause-placed : goal.short_paths-requires-clause-placed

@@ -5,7 +5,6 @@ use Rattle.std.proofs.lemmas.Result.{IfOk-weaker}
 use Rattle.rela_build.specs.Reading.{read_by}
 use Rattle.rela_graph.specs.Outline.{outline_of}
 use Rattle.rela_graph.specs.Paths.{Paths}
-use Rattle.rela_graph.proofs.Outlines.{outlines_decide}
 use Rattle.rela_labels.specs.Partition.{block_count}
 use Rattle.rela_names.specs.declared.level.Level.{Level}
 use Rattle.rela_restriction.specs.Excess.{IsReadAs}
@@ -15,6 +14,7 @@ use Rattle.rela_engine.specs.Differing.{SamePairsOn}
 use Rattle.rela_engine.proofs.AlikeBodies.{met_alike}
 use Rattle.rela_engine.proofs.MetOn.{met_on}
 use Rattle.rela_engine.proofs.Placed.{placed}
+use Rattle.rela_engine.proofs.SameOutlines.{equal_outlines}
 use Rattle.rela_engine.proofs.decision.is_met_by_looks.Goals as goal
 
 -- the outlines are the same, and so are the paths
@@ -22,7 +22,7 @@ pub returns-then-treats_sides_alike : goal.returns-then-treats_sides_alike
 returns-then-treats_sides_alike c told =
     let names = c.args.alphabet.now in
     let same : outline_of c.level-level.result c.args.pair.now.before ≡ outline_of c.level-level.result c.args.pair.now.after =
-    sym c.at.ensures ∙ (outlines_decide c.at.result c.at-2.result).0 (sym c.eq-same.ensures ∙ c.if-not-same.false) ∙ c.at-2.ensures in
+    sym c.at.ensures ∙ equal_outlines c.at.result c.at-2.result (sym c.eq-same.ensures ∙ c.if-not-same.false) ∙ c.at-2.ensures in
     met_alike c.args.compiled.now.check c.args.compiled.now.locations (Paths c.args.pair.now.before c.args.compiled.now.check.level names) (Paths c.args.pair.now.after c.args.compiled.now.check.level names)
     (c.treats_sides_alike.ensures.relations c.if-treats_sides_alike.true)
     (subst (λ (l : Level). (w : List ℕ) → Paths c.args.pair.now.before l names w ↔ Paths c.args.pair.now.after l names w) c.level-level.ensures (c.same_outline_same_paths.ensures same names))
@@ -46,7 +46,7 @@ returns c =
     let before = Before k.check.classes k.locations k.check.body in
     let after = After k.check.classes k.locations k.check.body in
     let same : outline_of c.level-level.result pre ≡ outline_of c.level-level.result post =
-    sym c.at.ensures ∙ (outlines_decide c.at.result c.at-2.result).0 (sym c.eq-same.ensures ∙ c.if-not-same.false) ∙ c.at-2.ensures in
+    sym c.at.ensures ∙ equal_outlines c.at.result c.at-2.result (sym c.eq-same.ensures ∙ c.if-not-same.false) ∙ c.at-2.ensures in
     IfOk-weaker c.same_on.result (λ alike. IsTrue alike → SamePairsOn k.blocks inputs before after)
     (λ met. IsTrue met → Meets k.check k.locations (Paths pre k.check.level names) (Paths post k.check.level names))
     (λ met pairs is.

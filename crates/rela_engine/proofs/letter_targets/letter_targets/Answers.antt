@@ -11,7 +11,7 @@ loop-last-init c =
     let edges = c.edges-edges.result.now in
     let none = c.in_ok-targets.ensures.items_if_clones_equal (λ y e. e) ∙ ap (λ (n : ℕ). replicate n 0) c.letters.ensures.letters in record {
       led = subst (AreLed d c.args.q edges) (sym none) (none_led d c.args.q edges c.edges-edges.ensures);
-      sized = all_sized d c.states.ensures.deterministic c.args.q c.requires edges c.edges-edges.ensures;
+      sized = all_sized d c.states.ensures.deterministic c.args.q edges c.edges-edges.ensures;
     }
 
 pub loop-last-preserved : goal.loop-last-preserved

@@ -2,7 +2,6 @@ use Rattle.std.proofs.Common.{◌<◌, ℕ, length, map, sym, subst}
 use Rattle.std.specs.List.{All}
 use Rattle.std.proofs.lemmas.Result.{err_from_is_err_and}
 use Rattle.rela_build.specs.Reading.{read_by}
-use Rattle.rela_build.proofs.Readings.{covered}
 use Rattle.rela_graph.specs.Paths.{Paths}
 use Rattle.rela_graph.specs.Topology.{symbol_at}
 use Rattle.rela_names.specs.declared.level.Level.{Level}
@@ -12,6 +11,7 @@ use Rattle.rela_trans.specs.Composition.{Covers}
 use Rattle.rela_trans.specs.Images.{AreReachedFrom}
 use Rattle.rela_trans.specs.Runs.{Relates}
 use Rattle.rela_engine.specs.Seen.{NodesStandAlone, machine_of}
+use Rattle.rela_engine.proofs.LetterLaws.{covered}
 use Rattle.rela_engine.proofs.Rereading.{realises_named}
 use Rattle.rela_engine.proofs.Rows.{recognises_image}
 use Rattle.rela_engine.proofs.seen.see.Goals as goal

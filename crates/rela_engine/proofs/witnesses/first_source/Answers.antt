@@ -1,9 +1,9 @@
 use Rattle.std.proofs.Common.{ℕ, ◌<◌, List, sym, subst}
 use Rattle.std.specs.List.{All}
 use Rattle.std.proofs.lemmas.Result.{IfOk-weaker}
-use Rattle.rela_compare.proofs.AcceptedLetters.{accepted_letters}
 use Rattle.rela_labels.specs.Partition.{block_count}
 use Rattle.rela_engine.specs.Seen.{AreLeast, IsFirstSource}
+use Rattle.rela_engine.proofs.LetterLaws.{accepted_letters}
 use Rattle.rela_engine.proofs.witnesses.first_source.Goals as goal
 
 pub least_symbols-requires : goal.least_symbols-requires
