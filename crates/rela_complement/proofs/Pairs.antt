@@ -4,14 +4,6 @@ use Rattle.std.specs.List.{All, AllPairs}
 use Rattle.std.proofs.lemmas.List.{get_or-map, get_or-take, length-map, length-take-le}
 
 -- those of a list that is mapped
-pub mapped_pairs : {X Y : Type 0} (R : Y → Y → Type 0) (f : X → Y) (xs : List X) → AllPairs R (map f xs) → AllPairs (λ x y. R (f x) (f y)) xs
-mapped_pairs R f xs pairs i j d before inside =
-    let second = get_or-map f xs j d (f d) inside in
-    let first = get_or-map f xs i d (f d) (omega (arith, before, inside)) in
-    subst (λ y. R y (f (get_or xs j d))) first
-    (subst (λ y. R (get_or (map f xs) i (f d)) y) second
-    (pairs i j (f d) before (omega (arith, inside, length-map xs f))))
-
 pub pairs_mapped : {X Y : Type 0} (R : Y → Y → Type 0) (f : X → Y) (xs : List X) → X → AllPairs (λ x y. R (f x) (f y)) xs → AllPairs R (map f xs)
 pairs_mapped R f xs x pairs i j d before inside =
     let j_in : j < length xs = omega (arith, inside, length-map xs f) in
