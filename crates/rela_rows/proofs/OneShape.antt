@@ -8,11 +8,10 @@ use Rattle.std.proofs.lemmas.List.Elements.{All-append, All-map}
 use Rattle.std.proofs.lemmas.Option.{slice_get_read}
 use Rattle.rela_build.specs.Reading.{read_by}
 use Rattle.rela_blocks.specs.Blocks.{AreBlocks}
-use Rattle.rela_engine.specs.Compilation.{Compilation, MustPassLimit}
+use Rattle.rela_engine.specs.Compilation.{Compilation}
 use Rattle.rela_engine.specs.Reading.{Realises}
 use Rattle.rela_engine.specs.RowOf.{MustBeOpen}
 use Rattle.rela_blocks.specs.Scenes.{paths_of}
-use Rattle.rela_engine.proofs.OpenRows.{not_forced}
 use Rattle.rela_graph.specs.Paths.{Paths, locations}
 use Rattle.rela_graph.specs.Topology.{Topology, IsTopology, symbol_at}
 use Rattle.rela_names.specs.Alphabet.{path_symbols}
@@ -62,6 +61,11 @@ MeetAlike =
 
 -- ---- a check that one of them meets
 
+-- no flow forces the check to be left open
+abbrev pub IsUnforced : Compilation → Type 0
+IsUnforced by =
+    (names : List (List ℕ)) (before after : Topology) → ¬ MustBeOpen by.check by.locations (paths_of by.check.level names before after) by.states
+
 module _ (names : List (List ℕ)) (by : Compilation) (before after : Machine) (alike : MeetAlike) (blocks : AreBlocks by.check (length names) by.blocks)
     (first : Realises by.blocks (Before by.check.classes (length names) by.check.body) before)
     (second : Realises by.blocks (After by.check.classes (length names) by.check.body) after) where
@@ -83,27 +87,27 @@ module _ (names : List (List ℕ)) (by : Compilation) (before after : Machine) (
       (images_same (Paths pair.after level names) A S (λ u v. ((second.relation u v).1, (second.relation u v).0))) met))
 
   -- a flow of a shape that meets the check
-  meets_too : AreRenamedByShape → ¬ MustPassLimit by → by.locations ≡ length names → (pair : FlowPair) (shape : Shape) → IsPairLocated names by.check.level pair
+  meets_too : AreRenamedByShape → IsUnforced by → by.locations ≡ length names → (pair : FlowPair) (shape : Shape) → IsPairLocated names by.check.level pair
       → IsShape by.blocks by.check.level pair shape → IsMetShape names by shape → IsVerdict names by pair Compliant
-  meets_too renames within same pair shape located shaped met =
+  meets_too renames unforced same pair shape located shaped met =
       let renamed = renames by.blocks by.check.level met.pair pair met.own shape met.shaped shaped met.same in
       let paths = paths_of by.check.level names pair.before pair.after in
       record {
         right = record {
           says = meets_renamed met.pair pair met.shaped.topology_before met.shaped.topology_after met.located located renamed met.compliant.right.says;
-          forced = λ must. absurd (not_forced by paths within (subst (λ (n : ℕ). MustBeOpen by.check n paths by.states) (sym same) must));
+          forced = λ must. absurd (unforced names pair.before pair.after (subst (λ (n : ℕ). MustBeOpen by.check n paths by.states) (sym same) must));
         };
         texts = tt;
       }
 
 pub compliant_too : (names : List (List ℕ)) (by : Compilation) (before after : Machine) → MeetAlike → AreRenamedByShape → by.locations ≡ length names
     → AreBlocks by.check by.locations by.blocks → Realises by.blocks (Before by.check.classes by.locations by.check.body) before
-    → Realises by.blocks (After by.check.classes by.locations by.check.body) after → ¬ MustPassLimit by → (pair : FlowPair) (shape : Shape)
+    → Realises by.blocks (After by.check.classes by.locations by.check.body) after → IsUnforced by → (pair : FlowPair) (shape : Shape)
     → IsPairLocated names by.check.level pair → IsShape by.blocks by.check.level pair shape → IsMetShape names by shape → IsVerdict names by pair Compliant
-compliant_too names by before after alike renames same blocks first second within pair shape =
+compliant_too names by before after alike renames same blocks first second unforced pair shape =
     meets_too names by before after alike (subst (λ (n : ℕ). AreBlocks by.check n by.blocks) same blocks)
     (subst (λ (n : ℕ). Realises by.blocks (Before by.check.classes n by.check.body) before) same first)
-    (subst (λ (n : ℕ). Realises by.blocks (After by.check.classes n by.check.body) after) same second) renames within same pair shape
+    (subst (λ (n : ℕ). Realises by.blocks (After by.check.classes n by.check.body) after) same second) renames unforced same pair shape
 
 -- ---- the locations of a flow's nodes
 
