@@ -6,15 +6,14 @@ use Rattle.rela_build.specs.Lettering.{Lettering, AreLetterBlocks}
 use Rattle.rela_build.specs.Made.{IsMade, Leads}
 use Rattle.rela_build.specs.PathSets.{Paths, scene_of}
 use Rattle.rela_build.specs.Reading.{HoldsJust, read_by}
-use Rattle.rela_build.proofs.Readings.{covered}
 use Rattle.rela_labels.specs.Letters.{has}
-use Rattle.rela_labels.proofs.LettersOfWords.{has_below}
 use Rattle.rela_nfa.specs.Automaton.{Automaton}
 use Rattle.rela_rir.specs.Places.{Scene, Agree, At, Place}
 use Rattle.rela_rir.specs.declared.term.PathTerm.{PathTerm}
 use Rattle.rela_closed.specs.Closed.{IsClosed, SameStates}
 use Rattle.rela_cert.specs.Closed.{AgreeOnAll, Closed}
 use Rattle.rela_cert.specs.Letters.{letter_words}
+use Rattle.rela_cert.proofs.LetterLaws.{covered, has_below}
 use Rattle.rela_cert.proofs.MappedWords.{mapped, mapped_back, pushed}
 
 module _ (E : Type 0) (l : Lettering) (are : AreLetterBlocks l) (paths : Paths) where

@@ -5,7 +5,6 @@ use Rattle.std.proofs.lemmas.Bool.{false≢true}
 use Rattle.std.proofs.lemmas.List.{get_or_default}
 use Rattle.std.proofs.lemmas.List.Elements.{Contains-get_or}
 use Rattle.rela_build.specs.Complement.{IsOver}
-use Rattle.rela_build.proofs.LetterWords.{reached_letters}
 use Rattle.rela_labels.specs.Letters.{has}
 use Rattle.rela_nfa.specs.Automaton.{Automaton, IsAutomaton}
 use Rattle.rela_nfa.specs.Runs.{Accepts}
@@ -14,6 +13,7 @@ use Rattle.rela_translate.specs.Verdict.{AreMet, Offends}
 use Rattle.rela_cert.specs.WordsJudged.{JudgesFlags, JudgesWords, OffendsAt, flag_offends}
 use Rattle.rela_cert.specs.declared.judgement.Judgement.{Judgement}
 use Rattle.rela_cert.specs.declared.judgement.Judgement.TheVariants.{Met, OpenComplement, BadImages, TooLarge}
+use Rattle.rela_cert.proofs.LetterLaws.{reached_letters}
 
 -- ---- one word
 

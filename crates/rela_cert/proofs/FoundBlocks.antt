@@ -13,7 +13,6 @@ use Rattle.rela_closed.specs.Words as letters
 use Rattle.rela_closed.specs.declared.step.Step as letter
 use Rattle.rela_labels.specs.Letters.{has}
 use Rattle.rela_labels.specs.Partition.{IsPartition}
-use Rattle.rela_labels.proofs.LettersOfWords.{has_below}
 use Rattle.rela_names.specs.Shortlex.{First, IsBefore}
 use Rattle.rela_nfa.specs.Automaton.{Automaton}
 use Rattle.rela_rir.specs.Meaning.{IsPathWord}
@@ -23,6 +22,7 @@ use Rattle.rela_cert.specs.Closed.{AgreeOnAll, AreFirst, Closed}
 use Rattle.rela_cert.specs.Found.{AreBySymbols, AreFound}
 use Rattle.rela_cert.specs.Letters.{letter_words}
 use Rattle.rela_cert.proofs.LeastOrder.{IsLeast, ascending_symbols, before_letters}
+use Rattle.rela_cert.proofs.LetterLaws.{has_below}
 use Rattle.rela_cert.proofs.LetterSteps.{are_block, least_each, reads_each, words_by_letters}
 use Rattle.rela_cert.proofs.MappedWords.{mapped, mapped_back, pushed}
 

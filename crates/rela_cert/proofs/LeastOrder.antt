@@ -5,9 +5,9 @@ use Rattle.std.proofs.lemmas.Bool.{cases_lt}
 use Rattle.std.proofs.lemmas.List.{get_or-map, length-map}
 use Rattle.std.proofs.lemmas.List.Elements.{All-head, All-tail}
 use Rattle.rela_build.specs.Reading.{read_by}
-use Rattle.rela_build.proofs.Readings.{read_symbol}
 use Rattle.rela_labels.specs.Partition.{IsLeastOf, IsPartition, block_of}
 use Rattle.rela_names.specs.Shortlex.{IsBefore, IsSmaller}
+use Rattle.rela_cert.proofs.LetterLaws.{read_symbol}
 
 abbrev pub IsLeast : List ℕ → ℕ → Type 0
 IsLeast blocks s = IsLeastOf blocks (block_of blocks s) s

@@ -4,7 +4,6 @@ use Rattle.std.specs.List.{All}
 use Rattle.std.proofs.lemmas.List.Elements.{All-cons, All-head, All-nil, All-push, All-tail}
 use Rattle.rela_build.specs.Complement.{IsOver}
 use Rattle.rela_build.specs.Reading.{read_by}
-use Rattle.rela_build.proofs.Readings.{read_symbol}
 use Rattle.rela_certfile.specs.Listed.{AreSteps, IsBlock, words_after, words_of}
 use Rattle.rela_certfile.specs.declared.rows.Step.{Step}
 use Rattle.rela_closed.specs.Words as letters
@@ -14,6 +13,7 @@ use Rattle.rela_labels.specs.Partition.{IsLeastOf}
 use Rattle.rela_cert.specs.Found.{AreBySymbols, IsBySymbol}
 use Rattle.rela_cert.specs.Letters.{letter_step, letter_words}
 use Rattle.rela_cert.proofs.LeastOrder.{IsLeast}
+use Rattle.rela_cert.proofs.LetterLaws.{read_symbol}
 use Rattle.rela_cert.proofs.MappedWords.{words_are}
 
 -- ---- the letters of the steps

@@ -5,6 +5,8 @@ pub mod RowWords
 pub mod FlagWords
 pub mod ImageNames
 pub mod RowJudged
+pub mod LetterLaws
+pub mod SameOutlines
 pub mod Refinements
 pub mod FixedTerms
 pub mod FixedParts

@@ -1,6 +1,7 @@
 -- What holds of a value, if there is one.
 use Rattle.std.proofs.Common.{Option, None, Some, Result, Ok, Err}
-use Rattle.std.specs.Prelude.{IfNone, IfOk, IfSome, OnOk}
+use Rattle.std.specs.Prelude.{IfErr, IfNone, IfOk, IfSome, OnOk}
+use Rattle.std.specs.Result.{IsErrAnd}
 
 pub if_some_weaker : {X : Type 0} (P Q : X → Type 0) (o : Option X) → ((x : X) → P x → Q x) → IfSome o P → IfSome o Q
 if_some_weaker P Q None on is = tt
@@ -36,3 +37,8 @@ ok_weaker P Q (Err e) on is = tt
 pub always : {X E P : Type 0} (r : Result X E) → P → OnOk r P
 always (Ok x) is = is
 always (Err e) is = tt
+
+-- what holds of the error where there is one
+pub err_is : {X E : Type 0} (Q P : E → Type 0) (r : Result X E) → IsErrAnd r Q → ((e : E) → Q e → P e) → IfErr r P
+err_is Q P (Ok x) fails on = tt
+err_is Q P (Err e) fails on = on e fails

@@ -7,17 +7,14 @@ use Rattle.rela_build.specs.Made.{IsBuilt, IsMade, IsMadeR, Leads, LeadsR}
 use Rattle.rela_build.specs.PathSets.{Paths, no_paths, scene_of}
 use Rattle.rela_build.specs.Reading.{read_by}
 use Rattle.rela_build.proofs.Insides.{at_image}
-use Rattle.rela_build.proofs.LetterWords.{Below, reached_letters_r, symbols_of, word_for}
 use Rattle.rela_build.proofs.MadeTerms as terms
 use Rattle.rela_build.proofs.PairStates.{two_of, numbered, many_states}
 use Rattle.rela_build.proofs.PlacedTerms.{by_form, placed, plainly}
-use Rattle.rela_build.proofs.Readings.{covered}
 use Rattle.rela_graph.specs.Topology.{Topology}
 use Rattle.rela_labels.specs.Partition.{block_count}
 use Rattle.rela_names.specs.declared.level.Level.{Level}
 use Rattle.rela_nfa.specs.Automaton.{Automaton, states}
 use Rattle.rela_nfa.specs.Runs.{Reach}
-use Rattle.rela_nfa.proofs.Parts.{state_of_reach}
 use Rattle.rela_pairs.specs.Reachable.{MoreThan}
 use Rattle.rela_pairs.specs.declared.pair.Pair.{Pair}
 use Rattle.rela_rir.specs.Agreement.{SameSymbols}
@@ -39,11 +36,12 @@ use Rattle.rela_rir.proofs.ScenesAlike.{Carries, CarriesR, carries, carries_r}
 use Rattle.rela_rir.proofs.Tables.{exact_of_same, table_of_same}
 use Rattle.rela_trans.specs.Composition.{Covers}
 use Rattle.rela_trans.specs.Images.{AreReachedFrom}
-use Rattle.rela_trans.specs.Machine.{Machine, machine_states}
+use Rattle.rela_trans.specs.Machine.{IsMachine, Machine, machine_states}
 use Rattle.rela_trans.specs.Runs.{ReachR, Relates}
-use Rattle.rela_trans.proofs.SymbolLetters.{letters_reached, symbols_reached}
 use Rattle.rela_translate.specs.Checked.{Checked}
 use Rattle.rela_cert.specs.CheckRelations.{IsRefined, IsWrittenBy}
+use Rattle.rela_cert.proofs.LetterLaws.{Below, covered, state_of_reach, word_for, word_of_symbols}
+use Rattle.rela_cert.proofs.Refinements.{reach_below}
 
 same : {A : Type 0} → A ↔ A
 same = (λ a. a, λ a. a)
@@ -75,6 +73,21 @@ module _ (check : Checked) (n : ℕ) (paths : Paths) where
         λ at. c.1.places p w ((agree p).0 (c.0.places p v at)),
         λ at. c.1.places p v ((agree p).1 (c.0.places p w at)),
       )
+
+-- the letters of a relation are the blocks that it was made of
+pub relation_letters : (E : Type 0) (l : Lettering) (paths : Paths) (r : RelTerm) (t : Machine) → IsMadeR E l paths r t → t.letters ≡ block_count l.blocks
+unfolding IsMadeR
+relation_letters E l paths r t made = made.letters
+
+-- ---- what the laws of transducers say of symbols and their letters
+
+abbrev pub SymbolsGiveLetters : Type 0
+SymbolsGiveLetters = (read : ℕ → ℕ) (t : Machine) (q : ℕ) (u v : List ℕ) → ReachR read t q u v → ReachR (λ k. k) t q (map read u) (map read v)
+
+abbrev pub LettersGiveSymbols : Type 0
+LettersGiveSymbols =
+    (read : ℕ → ℕ) (t : Machine) → IsMachine t → Covers read t.letters → (q : ℕ) (letters v : List ℕ) → ReachR (λ k. k) t q letters (map read v)
+    → (u : List ℕ) × (map read u ≡ letters) × ReachR read t q u v
 
 -- ---- the image by the relation over finer blocks
 
@@ -113,9 +126,9 @@ module _ (E : Type 0) (check : Checked) (n : ℕ) (paths : Paths) (coarse fine :
     covers : Covers f (block_count fine)
     covers = covered fine are.partition
 
-    pub image_made : (image : Automaton) → IsWrittenBy u words image → IsMade E l paths (P.Image x r) image
+    pub image_made : SymbolsGiveLetters → (image : Automaton) → IsWrittenBy u words image → IsMade E l paths (P.Image x r) image
     unfolding IsMade
-    image_made image written =
+    image_made to_letters image written =
         let pairs = written.pairs.0 in
         let images = written.pairs.1 in
         let covers_a : Covers f words.letters = subst (Covers f) (sym of.letters) covers in
@@ -134,7 +147,7 @@ module _ (E : Type 0) (check : Checked) (n : ℕ) (paths : Paths) (coarse fine :
         ))
         (built.image m E x (states words) (Leads fine words) (Leads fine image) (placed E l paths x words of) r (machine_states t) (LeadsR coarse t) (map two_of pairs) placed_here
         (numbered pairs (ReachFromSource (Leads fine words) (LeadsR coarse t)) (Leads fine image) images.distinct
-        (λ z v (source, first, second). images.all z (map f source, map f v, first, letters_reached f u z.right source v ((refined.reached z.left z.right source v first).1 second)))
+        (λ z v (source, first, second). images.all z (map f source, map f v, first, to_letters f u z.right source v ((refined.reached z.left z.right source v first).1 second)))
         (λ k v h. let less = state_of_reach image written.automaton k (map f v) h in omega (arith, less, images.count))
         (λ k z at v. (
           λ h. let from = (images.reached f covers_a k z at v).0 h in (from.0, from.1, (refined.reached z.left z.right from.0 v from.1).0 from.2),
@@ -142,23 +155,23 @@ module _ (E : Type 0) (check : Checked) (n : ℕ) (paths : Paths) (coarse fine :
         ))))
 
     -- what one source of letters leads to is led to by a source of symbols
-    from_symbols : (z : Pair) → AreReachedFrom words u z → IsStateReached m (ReachFromSource (Leads fine words) (LeadsR coarse t)) (two_of z)
-    from_symbols z (source, w, left, right) =
-        let below : Below (block_count fine) w = subst (λ (k : ℕ). Below k w) refined.letters (reached_letters_r u refined.machine z.right source w right).1 in
-        let v = word_for fine covers w below in
-        let lifted = symbols_reached f u refined.machine (subst (Covers f) (sym refined.letters) covers) z.right source v.0
+    from_symbols : LettersGiveSymbols → (z : Pair) → AreReachedFrom words u z → IsStateReached m (ReachFromSource (Leads fine words) (LeadsR coarse t)) (two_of z)
+    from_symbols to_symbols z (source, w, left, right) =
+        let below : Below (block_count fine) w = subst (λ (k : ℕ). Below k w) refined.letters (reach_below (λ k. k) u refined.machine u.letters (λ k letter. letter) z.right source w right).1 in
+        let v = word_for fine are.partition w below in
+        let lifted = to_symbols f u refined.machine (subst (Covers f) (sym refined.letters) covers) z.right source v.0
         (subst (λ (o : List ℕ). ReachR (λ k. k) u z.right source o) (sym v.1) right) in
         let leads : Leads fine words z.left lifted.0 = subst (Reach words z.left) (sym lifted.1) left in (
           v.0,
-          subst (λ (k : ℕ). Below k v.0) are.symbols (symbols_of fine v.0 w v.1 below),
+          subst (λ (k : ℕ). Below k v.0) are.symbols (word_of_symbols fine v.0 (subst (Below (block_count fine)) (sym v.1) below)),
           (lifted.0, leads, (refined.reached z.left z.right lifted.0 v.0 leads).0 lifted.2),
         )
 
-    pub image_passes : (limit : ℕ) → MoreThan limit (AreReachedFrom words u) → ReachedInside m (limit + 1) (P.Image x r)
-    image_passes limit more =
+    pub image_passes : LettersGiveSymbols → (limit : ℕ) → MoreThan limit (AreReachedFrom words u) → ReachedInside m (limit + 1) (P.Image x r)
+    image_passes to_symbols limit more =
         at_image m (limit + 1) x r
         (places.image m x r (Leads fine words) (LeadsR coarse t) (plainly E l paths x words of) (record { table = placed_here.table; is_table = placed_here.tabled.is_table }) (limit + 1)
-        (many_states limit (AreReachedFrom words u) (IsStateReached m (ReachFromSource (Leads fine words) (LeadsR coarse t))) from_symbols more))
+        (many_states limit (AreReachedFrom words u) (IsStateReached m (ReachFromSource (Leads fine words) (LeadsR coarse t))) (from_symbols to_symbols) more))
 
 -- ---- the paths of a flow
 

@@ -4,19 +4,15 @@ use Rattle.std.specs.List.{All}
 use Rattle.std.proofs.lemmas.List.Elements.{All-nil, All-cons, All-append, All-contains, All-head, All-tail}
 use Rattle.rela_labels.specs.Letters.{has}
 use Rattle.rela_labels.specs.Partition.{block_of, block_count}
-use Rattle.rela_labels.proofs.LettersOfWords.{has_below}
 use Rattle.rela_trans.specs.Machine.{Machine, Kind, IsMachine, IsMove, IsSized, moves_of, machine_states}
-use Rattle.rela_trans.specs.Runs.{IsSymbolOf, Does, ReachR, Relates}
+use Rattle.rela_trans.specs.Runs.{IsSymbolOf, Does, Follow, ReachR, Relates, Step, inputs, outputs}
 use Rattle.rela_trans.specs.declared.moves.MoveKind.TheVariants.{Silent, In, Out, Same}
-use Rattle.rela_trans.proofs.Accessors.{moves_ok}
-use Rattle.rela_trans.proofs.Reaching.{reach_start, reach_step, reach_each}
 use Rattle.rela_build.specs.Reading.{read_by}
-use Rattle.rela_build.proofs.Readings.{read_symbol, is_symbol}
 use Rattle.rela_nfa.specs.Automaton.{Automaton}
 use Rattle.rela_nfa.specs.Relabelling.{blocks_of}
 use Rattle.rela_nfa.specs.Runs.{Accepts, Reach}
-use Rattle.rela_blocks.proofs.PathLetters.{read_word}
 use Rattle.rela_cert.specs.CheckRelations.{IsRefined}
+use Rattle.rela_cert.proofs.LetterLaws.{has_below, is_symbol, moves_ok, read_symbol, read_word}
 
 all_front : (P : ℕ → Type 0) (u v : List ℕ) → All P (u ++ v) → All P u
 all_front P [] v each = All-nil P
@@ -42,14 +38,20 @@ module _ (f g : ℕ → ℕ) (n : ℕ) (same : (s : ℕ) → s < n → f s ≡ g
   reread_does (Out set) input output in_input in_output does = (does.0, reread_symbol set output in_output does.1)
   reread_does (Same set) input output in_input in_output does = (reread_symbol set input in_input does.0, does.1)
 
+  reread_steps : (t : Machine) (steps : List Step) (p q : ℕ) → Follow f t p steps q → IsWithin (inputs steps) → IsWithin (outputs steps) → Follow g t p steps q
+  reread_steps t [] p q here in_u in_v = here
+  reread_steps t (step ∷ rest) p q ((kind, among, does), later) in_u in_v = (
+    (
+      kind,
+      among,
+      reread_does kind step.input step.output (all_front (λ s. s < n) step.input (inputs rest) in_u) (all_front (λ s. s < n) step.output (outputs rest) in_v) does,
+    ),
+    reread_steps t rest step.to q later (all_rest (λ s. s < n) step.input (inputs rest) in_u) (all_rest (λ s. s < n) step.output (outputs rest) in_v),
+  )
+
   pub reread_reach : (t : Machine) (q : ℕ) (u v : List ℕ) → ReachR f t q u v → IsWithin u → IsWithin v → ReachR g t q u v
-  reread_reach t =
-      reach_each f t (λ q u v. IsWithin u → IsWithin v → ReachR g t q u v)
-      (λ p q u v input output reach there step in_u in_v.
-      reach_step g t p q u v input output
-      (there (all_front (λ s. s < n) u input in_u) (all_front (λ s. s < n) v output in_v))
-      (step.0, step.1, reread_does step.0 input output (all_rest (λ s. s < n) u input in_u) (all_rest (λ s. s < n) v output in_v) step.2))
-      (λ in_u in_v. reach_start g t)
+  reread_reach t q u v (steps, follows, reads, writes) in_u in_v =
+      (steps, reread_steps t steps t.start q follows (subst IsWithin (sym reads) in_u) (subst IsWithin (sym writes) in_v), reads, writes)
 
   pub reread : (t : Machine) (u v : List ℕ) → IsWithin u → IsWithin v → Relates f t u v → Relates g t u v
   reread t u v in_u in_v (q, reach, final) = (q, reread_reach t q u v reach in_u in_v, final)
@@ -74,14 +76,18 @@ module _ (f : ℕ → ℕ) (t : Machine) (ok : IsMachine t) (n : ℕ) (only : (s
       let read = symbol_below set input size does.0 in
       (read, subst AreBelow (sym does.1) read)
 
+  steps_below : (steps : List Step) (p q : ℕ) → Follow f t p steps q → AreBelow (inputs steps) × AreBelow (outputs steps)
+  steps_below [] p q here = (All-nil (λ s. s < n), All-nil (λ s. s < n))
+  steps_below (step ∷ rest) p q ((kind, among, does), later) =
+      let move = All-contains (IsMove t.letters (machine_states t)) (moves_of t p) (record { kind = kind; to = step.to }) (moves_ok t ok p) among in
+      let first = does_below kind step.input step.output move.sized does in
+      let more = steps_below rest step.to q later in
+      (All-append (λ s. s < n) step.input (inputs rest) first.0 more.0, All-append (λ s. s < n) step.output (outputs rest) first.1 more.1)
+
   pub reach_below : (q : ℕ) (u v : List ℕ) → ReachR f t q u v → AreBelow u × AreBelow v
-  reach_below =
-      reach_each f t (λ q u v. AreBelow u × AreBelow v)
-      (λ p q u v input output reach before step.
-      let move = All-contains (IsMove t.letters (machine_states t)) (moves_of t p) (record { kind = step.0; to = q }) (moves_ok t ok p) step.1 in
-      let more = does_below step.0 input output move.sized step.2 in
-      (All-append (λ s. s < n) u input before.0 more.0, All-append (λ s. s < n) v output before.1 more.1))
-      (All-nil (λ s. s < n), All-nil (λ s. s < n))
+  reach_below q u v (steps, follows, reads, writes) =
+      let below = steps_below steps t.start q follows in
+      (subst AreBelow reads below.0, subst AreBelow writes below.1)
 
   -- related words are of such symbols alone
   pub related_below : (u v : List ℕ) → Relates f t u v → AreBelow u × AreBelow v

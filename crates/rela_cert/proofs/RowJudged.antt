@@ -9,7 +9,6 @@ use Rattle.rela_build.specs.PathSets.{Paths}
 use Rattle.rela_build.specs.Reading.{HoldsJust, read_by}
 use Rattle.rela_build.specs.declared.stop.Stop.{Stop}
 use Rattle.rela_build.specs.declared.stop.Stop.TheVariants.{Memory}
-use Rattle.rela_build.proofs.Readings.{is_symbol_of, read_below}
 use Rattle.rela_certfile.specs.Listed.{words_of}
 use Rattle.rela_certfile.specs.declared.rows.Step.{Step}
 use Rattle.rela_graph.specs.Topology.{Topology}
@@ -25,6 +24,7 @@ use Rattle.rela_cert.specs.WordsJudged.{JudgesWords}
 use Rattle.rela_cert.specs.declared.judgement.Judgement.{Judgement}
 use Rattle.rela_cert.specs.declared.judgement.Judgement.TheVariants.{Met, OpenComplement, BadImages, TooLarge}
 use Rattle.rela_cert.proofs.ByStates.{closed_two}
+use Rattle.rela_cert.proofs.LetterLaws.{is_symbol_of, read_below}
 use Rattle.rela_cert.proofs.RowWords.{meets, some_offends}
 
 -- the set of all letters has just those of the symbols

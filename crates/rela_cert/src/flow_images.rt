@@ -20,7 +20,7 @@ use rela_blocks::FlowPaths;
 use rela_build::PathSets;
 use rela_labels::{Partition, WideSet};
 use rela_nfa::{BuildError, Nfa};
-use rela_trans::{Transducer, image};
+use rela_trans::{Transducer, image, letters_give_symbols, symbols_give_letters};
 use std::alloc::{AllocError, Global};
 
 /// The automata of the row's two images over its blocks, whose states stand for places of the
@@ -75,6 +75,8 @@ pub(crate) fn before_image(
     ensures limit { IfErr result (λ e. e ≡ BuildError.Limit →
         MayPass row.now.check.now (locations_of row.now) (paths_at row.now) MAX_STATES) }
 {
+    symbols_give_letters();
+    letters_give_symbols();
     let flow = FlowPaths {
         before: &row.pair.before,
         after: &row.pair.after,
@@ -102,6 +104,8 @@ fn after_image(
     ensures limit { IfErr result (λ e. e ≡ BuildError.Limit →
         MayPass row.now.check.now (locations_of row.now) (paths_at row.now) MAX_STATES) }
 {
+    symbols_give_letters();
+    letters_give_symbols();
     let flow = FlowPaths {
         before: &row.pair.before,
         after: &row.pair.after,

@@ -1,8 +1,8 @@
 use Rattle.std.proofs.Common.{◌≡◌, ◌∙◌, Bool, true, false, Option, None, Some, refl, sym, subst}
 use Rattle.std.specs.Prelude.{is_some}
 use Rattle.rela_graph.specs.Outline.{outline_of}
-use Rattle.rela_graph.proofs.Outlines.{outlines_decide}
 use Rattle.rela_names.specs.declared.level.Level.{Level}
+use Rattle.rela_cert.proofs.SameOutlines.{outlines_decide}
 use Rattle.rela_cert.proofs.alike_rows.is_alike.Goals as goal
 
 none_is : {X : Type 0} (o : Option X) (b : Bool) → b ≡ is_some o → b ≡ false → o ≡ None

@@ -4,8 +4,8 @@ use Rattle.rela_build.specs.Notes.{StoppedTwoR}
 use Rattle.rela_build.specs.PathSets.{no_paths}
 use Rattle.rela_build.specs.declared.stop.Stop.{Stop}
 use Rattle.rela_build.proofs.NoteForms.{after_term_r, stop_first_r, stop_second_r}
-use Rattle.rela_build.proofs.NotesInOrder.{exit}
 use Rattle.rela_rir.specs.declared.term.RelTerm.{RelTerm}
+use Rattle.rela_cert.proofs.Options.{err_is}
 use Rattle.rela_cert.proofs.RelationStops.{from_none}
 use Rattle.rela_cert.proofs.check_relations.both_relations.Goals as goal
 
@@ -21,7 +21,7 @@ returns-in_err-before-clause-stopped g c =
     let refuses = g.C.Complements.refuses b.complements.now in
     let E = g.C.Complements.tells_all in
     let first = length c.new-notes.result.items in
-    exit _ _ c.from_residual.result c.from_residual.ensures.1
+    err_is _ _ c.from_residual.result c.from_residual.ensures.1
     (λ e is. subst (λ (s : Stop). StoppedTwoR refuses E b.letters.now no_paths b.limit 0 t.before t.after s) (sym is)
     (from_none refuses E b.letters.now b.limit first t.before t.after _ (ap (λ l. length l) c.new-notes.ensures.items)
     (stop_first_r refuses E b.letters.now no_paths b.limit first t.before t.after _ c.in_err-before.ensures.stopped)))
@@ -33,7 +33,7 @@ returns-in_err-after-clause-stopped g c =
     let refuses = g.C.Complements.refuses b.complements.now in
     let E = g.C.Complements.tells_all in
     let first = length c.new-notes.result.items in
-    exit _ _ c.from_residual-in_err-after.result c.from_residual-in_err-after.ensures.1
+    err_is _ _ c.from_residual-in_err-after.result c.from_residual-in_err-after.ensures.1
     (λ e is. subst (λ (s : Stop). StoppedTwoR refuses E b.letters.now no_paths b.limit 0 t.before t.after s) (sym is)
     (from_none refuses E b.letters.now b.limit first t.before t.after _ (ap (λ l. length l) c.new-notes.ensures.items)
     (stop_second_r refuses E b.letters.now no_paths b.limit first t.before t.after (length c.transducer.new.notes.items) _

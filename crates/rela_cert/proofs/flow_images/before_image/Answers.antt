@@ -2,12 +2,11 @@ use Rattle.std.proofs.Common.{length, inl}
 use Rattle.std.proofs.lemmas.Result.{IfErr-weaker, IfOk-weaker}
 use Rattle.rela_blocks.specs.Scenes.{lettering_of}
 use Rattle.rela_build.specs.PathSets.{no_paths}
-use Rattle.rela_build.proofs.MadePairs.{made_letters}
 use Rattle.rela_rir.specs.declared.term.PathTerm.TheVariants as P
 use Rattle.rela_translate.specs.Terms.{before_of}
 use Rattle.rela_cert.specs.RowParts.{paths_at}
 use Rattle.rela_cert.proofs.FixedTerms.{before_fixed}
-use Rattle.rela_cert.proofs.RefinedRelations.{before_words, image_made, image_passes}
+use Rattle.rela_cert.proofs.RefinedRelations.{before_words, image_made, image_passes, relation_letters}
 use Rattle.rela_cert.proofs.flow_images.before_image.Goals as goal
 
 pub written-requires-clause-words : goal.written-requires-clause-words
@@ -17,7 +16,7 @@ pub written-requires-clause-relation : goal.written-requires-clause-relation
 written-requires-clause-relation c =
     let check = c.args.row.now.check.now in
     let n = length c.args.row.now.alphabet.now in
-    made_letters (Unit {0}) (lettering_of check n c.args.coarse.now) no_paths (before_of n check.body) c.args.relations.now.before c.requires.relations.before
+    relation_letters (Unit {0}) (lettering_of check n c.args.coarse.now) no_paths (before_of n check.body) c.args.relations.now.before c.requires.relations.before
 
 pub returns-clause-made : goal.returns-clause-made
 returns-clause-made c =
@@ -28,7 +27,7 @@ returns-clause-made c =
     let of = before_words check names row.pair.now.before row.pair.now.after c.args.blocks.now c.level.result c.level.ensures c.in_ok-paths.paths c.in_ok-paths.ensures in
     IfOk-weaker c.written.result _ _
     (λ image told. image_made (Unit {0}) check n (paths_at row) c.args.coarse.now c.args.blocks.now (before_of n check.body) (before_fixed n check.body) c.args.relations.now.before
-    c.requires.relations.before c.requires.blocks.letters P.Pre c.in_ok-paths.paths of told.0 told.1 image told.2)
+    c.requires.relations.before c.requires.blocks.letters P.Pre c.in_ok-paths.paths of told.0 told.1 c.symbols_give_letters.ensures.reached image told.2)
     c.written.ensures.written
 
 pub returns-clause-limit : goal.returns-clause-limit
@@ -42,5 +41,5 @@ returns-clause-limit c =
     (λ e told is last.
     let passed = told is in
     inl (image_passes (Unit {0}) check n (paths_at row) c.args.coarse.now c.args.blocks.now (before_of n check.body) (before_fixed n check.body) c.args.relations.now.before
-    c.requires.relations.before c.requires.blocks.letters P.Pre c.in_ok-paths.paths of passed.0 passed.1 4000000 passed.2))
+    c.requires.relations.before c.requires.blocks.letters P.Pre c.in_ok-paths.paths of passed.0 passed.1 c.letters_give_symbols.ensures.reached 4000000 passed.2))
     c.written.ensures.limit

@@ -6,8 +6,8 @@ use Rattle.rela_translate.specs.Terms.{after_of, before_of}
 use Rattle.rela_cert.proofs.ImageNames.{after_named, before_named}
 use Rattle.rela_build.specs.Notes.{StoppedTwo}
 use Rattle.rela_build.specs.declared.stop.Stop.{Stop}
-use Rattle.rela_build.proofs.NotesInOrder.{exit}
 use Rattle.rela_cert.specs.RowParts.{after_term, before_term, lettering_at, paths_at}
+use Rattle.rela_cert.proofs.Options.{err_is}
 use Rattle.rela_cert.proofs.RowJudged.{made_here, noted_here, stopped_here, stopped_memory}
 use Rattle.rela_cert.proofs.images.row_images.Goals as goal
 
@@ -28,7 +28,7 @@ returns-in_err-terms-clause-stopped g c =
     let row = c.args.row.now in
     let refuses = g.C.Complements.refuses c.args.complements.now in
     let blocks = c.args.letters.now.blocks in
-    exit _ _ c.from_residual.result c.from_residual.ensures.1
+    err_is _ _ c.from_residual.result c.from_residual.ensures.1
     (λ e is. subst (λ (s : Stop). StoppedTwo refuses g.C.Complements.tells_all (lettering_at row blocks) (paths_at row) c.args.limit (length c.args.notes.now.items) (before_term row) (after_term row) s) (sym is)
     (stopped_memory refuses g.C.Complements.tells_all (lettering_at row blocks) (paths_at row) c.args.limit (length c.args.notes.now.items) (before_term row) (after_term row)))
 
