@@ -83,7 +83,7 @@ fn plain_relation(
 
 /// A relation of more states than this is one transducer. Its states are nearly all those of complements, of
 /// which few are met beside the paths of a flow, and each state of a transducer takes some hundred bytes.
-const MOST_TWICE: usize = 8_192;
+const MOST_TWICE: usize = 2_048;
 
 /// The same pairs by a smaller transducer; `None` where this one has many states, and is to serve as it is.
 fn small_relation(
