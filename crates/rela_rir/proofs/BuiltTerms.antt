@@ -4,7 +4,7 @@ use Rattle.std.specs.Prelude.{◌↔◌, Option}
 use Rattle.rela_rir.specs.Words.{WordSet, Relation, Concatenation, Star, PairConcatenation, PairStar}
 use Rattle.rela_rir.specs.Meaning.{In, InR, IsInClass}
 use Rattle.rela_rir.specs.Places.{Place, Begin, Left, Right, Inner, Scene, Places, PairPlaces, Tells, At, AtR, Apart, ApartR, UnionPlaces, ConcatPlaces, StarPlaces, ProductPlaces, PairUnionPlaces, PairConcatPlaces, PairStarPlaces, PartsApart, NoParts}
-use Rattle.rela_rir.specs.Tables.{IsTable, IsExact, OnPairs, IsPlaced, IsPlacedR, IsPlacedExactly, IsPlacedExactlyR, ReachTogether, ReachFromSource, ReachByMiddle}
+use Rattle.rela_rir.specs.Tables.{IsTable, IsExact, OnPairs, IsPlacedWhere, IsPlacedWhereR, ReachTogether, ReachFromSource, ReachByMiddle}
 use Rattle.rela_rir.specs.Built.{IsEmptyPair, OneState, LetterStates, SideBySide, UnionStates, StarStates, NumberedPairs, PathStates, ComplementStates, TellsAll}
 use Rattle.rela_rir.proofs.PlaceForms as forms
 use Rattle.rela_rir.proofs.Tables.{table_of_same, exact_of_same}
@@ -27,14 +27,12 @@ pub record Tabled {I : Type 0} (E : Type 0) (n : ℕ) (reach : ℕ → I → Typ
   pub is_table : IsTable reach at tells table
   pub exact : E → IsExact n reach at table
 
--- states that stand for places of the path term, by a table that is exact where E holds
-pub record PlacedIf (E : Type 0) (n : ℕ) (m : Scene) (x : PathTerm) (reach : ℕ → List ℕ → Type 0) : Type 0 where
-  pub table : Place → Option ℕ
-  pub tabled : Tabled E n reach (At m x) (Apart m x) table
+tabled : {E : Type 0} {n : ℕ} {m : Scene} {x : PathTerm} {reach : ℕ → List ℕ → Type 0} → (is : IsPlacedWhere E n m x reach) → Tabled E n reach (At m x) (Apart m x) is.table
+tabled is = record { is_table = is.is_table; exact = is.exact }
 
-pub record PlacedIfR (E : Type 0) (n : ℕ) (m : Scene) (r : RelTerm) (reach : ℕ → List ℕ → List ℕ → Type 0) : Type 0 where
-  pub table : Place → Option ℕ
-  pub tabled : Tabled E n (OnPairs reach) (OnPairs (AtR m r)) (ApartR m r) table
+tabled_r : {E : Type 0} {n : ℕ} {m : Scene} {r : RelTerm} {reach : ℕ → List ℕ → List ℕ → Type 0} → (is : IsPlacedWhereR E n m r reach) →
+    Tabled E n (OnPairs reach) (OnPairs (AtR m r)) (ApartR m r) is.table
+tabled_r is = record { is_table = is.is_table; exact = is.exact }
 
 tabled_of_same : {E : Type 0} {n : ℕ} {I : Type 0} {reach reach' : ℕ → I → Type 0} {at at' : Place → I → Type 0} {tells tells' : Tells} {table : Place → Option ℕ} →
     ((q : ℕ) (i : I) → reach q i ↔ reach' q i) → ((p : Place) (i : I) → at p i ↔ at' p i) → ((p r : Place) → tells p r → tells' p r) →
@@ -43,18 +41,16 @@ tabled_of_same states places told is = record { is_table = table_of_same states 
 
 -- the places are the term's
 placed : {E : Type 0} {n : ℕ} (m : Scene) (x : PathTerm) (r : ℕ → List ℕ → Type 0) (at : Places) (tells : Tells) (table : Place → Option ℕ) →
-    At m x ≡ at → Apart m x ≡ tells → Tabled E n r at tells table → PlacedIf E n m x r
-placed m x r at tells table places apart is = record {
-  table = table;
-  tabled = tabled_of_same (λ q w. same) (λ p w. turned (forms.at_place places p w)) (λ p q. (forms.told apart p q).1) is;
-}
+    At m x ≡ at → Apart m x ≡ tells → Tabled E n r at tells table → IsPlacedWhere E n m x r
+placed m x r at tells table places apart is =
+    let here = tabled_of_same (λ q w. same) (λ p w. turned (forms.at_place places p w)) (λ p q. (forms.told apart p q).1) is in
+    record { table = table; is_table = here.is_table; exact = here.exact }
 
 placed_r : {E : Type 0} {n : ℕ} (m : Scene) (t : RelTerm) (r : ℕ → List ℕ → List ℕ → Type 0) (at : PairPlaces) (tells : Tells) (table : Place → Option ℕ) →
-    AtR m t ≡ at → ApartR m t ≡ tells → Tabled E n (OnPairs r) (OnPairs at) tells table → PlacedIfR E n m t r
-placed_r m t r at tells table places apart is = record {
-  table = table;
-  tabled = tabled_of_same (λ q x. same) (λ p x. turned (forms.at_place_r places p x.0 x.1)) (λ p q. (forms.told apart p q).1) is;
-}
+    AtR m t ≡ at → ApartR m t ≡ tells → Tabled E n (OnPairs r) (OnPairs at) tells table → IsPlacedWhereR E n m t r
+placed_r m t r at tells table places apart is =
+    let here = tabled_of_same (λ q x. same) (λ p x. turned (forms.at_place_r places p x.0 x.1)) (λ p q. (forms.told apart p q).1) is in
+    record { table = table; is_table = here.is_table; exact = here.exact }
 
 module _ {E : Type 0} {n : ℕ} {I J : Type 0} {reach : ℕ → J → Type 0} {at : Place → J → Type 0} {tells : Tells} {table : Place → Option ℕ} (link : I → J → Type 0) (is : Tabled E n reach at tells table) where
   through : Tabled E n (λ q i. (j : J) × link i j × reach q j) (λ p i. (j : J) × link i j × at p j) tells table
@@ -119,68 +115,68 @@ joins_r X b y ty u is = tabled_of_same (λ q x. joined (b q) x) (λ p x. joined 
 
 -- whether the tables of the parts are exact decides whether that of the term is
 module _ (m : Scene) (E : Type 0) where
-  pub none : (r : ℕ → List ℕ → Type 0) → OneState r → PlacedIf E 1 m P.None r
+  pub none : (r : ℕ → List ℕ → Type 0) → OneState r → IsPlacedWhere E 1 m P.None r
   none r states = placed m _ r _ _ _ (forms.at_none m) (forms.apart_none m) (record { is_table = leaf.one_state r states; exact = λ e. exact.one_state r states })
 
-  pub empty : (r : ℕ → List ℕ → Type 0) → OneState r → PlacedIf E 1 m P.Empty r
+  pub empty : (r : ℕ → List ℕ → Type 0) → OneState r → IsPlacedWhere E 1 m P.Empty r
   empty r states = placed m _ r _ _ _ (forms.at_empty m) (forms.apart_empty m) (record { is_table = leaf.one_state r states; exact = λ e. exact.one_state r states })
 
-  pub class : (entry : ℕ) (r : ℕ → List ℕ → Type 0) → LetterStates (IsInClass m.setting entry) r → PlacedIf E 2 m (P.Class entry) r
+  pub class : (entry : ℕ) (r : ℕ → List ℕ → Type 0) → LetterStates (IsInClass m.setting entry) r → IsPlacedWhere E 2 m (P.Class entry) r
   class entry r states = placed m _ r _ _ _ (forms.at_class m entry) (forms.apart_class m entry) (record { is_table = leaf.letter_states _ r states; exact = λ e. exact.letter_states _ r states })
 
-  pub one : (s : ℕ) (r : ℕ → List ℕ → Type 0) → LetterStates (λ t. t ≡ s) r → PlacedIf E 2 m (P.One s) r
+  pub one : (s : ℕ) (r : ℕ → List ℕ → Type 0) → LetterStates (λ t. t ≡ s) r → IsPlacedWhere E 2 m (P.One s) r
   one s r states = placed m _ r _ _ _ (forms.at_one m s) (forms.apart_one m s) (record { is_table = leaf.letter_states _ r states; exact = λ e. exact.letter_states _ r states })
 
-  pub pre : (n : ℕ) (r : ℕ → List ℕ → Type 0) → PathStates n m.pre r → (E → (k : ℕ) (w : List ℕ) → m.pre.at_node k w → k < n) → PlacedIf E (2 + n) m P.Pre r
+  pub pre : (n : ℕ) (r : ℕ → List ℕ → Type 0) → PathStates n m.pre r → (E → (k : ℕ) (w : List ℕ) → m.pre.at_node k w → k < n) → IsPlacedWhere E (2 + n) m P.Pre r
   pre n r states nodes = placed m _ r _ _ _ (forms.at_pre m) (forms.apart_pre m) (record { is_table = leaf.path_states n m.pre r states; exact = λ e. exact.path_states n m.pre r states (nodes e) })
 
-  pub post : (n : ℕ) (r : ℕ → List ℕ → Type 0) → PathStates n m.post r → (E → (k : ℕ) (w : List ℕ) → m.post.at_node k w → k < n) → PlacedIf E (2 + n) m P.Post r
+  pub post : (n : ℕ) (r : ℕ → List ℕ → Type 0) → PathStates n m.post r → (E → (k : ℕ) (w : List ℕ) → m.post.at_node k w → k < n) → IsPlacedWhere E (2 + n) m P.Post r
   post n r states nodes = placed m _ r _ _ _ (forms.at_post m) (forms.apart_post m) (record { is_table = leaf.path_states n m.post r states; exact = λ e. exact.path_states n m.post r states (nodes e) })
 
-  module _ (x : PathTerm) (n : ℕ) (a r : ℕ → List ℕ → Type 0) (first : PlacedIf E n m x a) where
-    pub star : StarStates (λ w. w ≡ []) (λ q. Concatenation (Star (In m.setting x)) (a q)) r → PlacedIf E (1 + n) m (P.Star x) r
-    star states = placed m _ r _ _ _ (forms.at_star m x) (forms.apart_star m x) (tabled_of_same (λ q w. same) places (λ p q told. told) (copies_after_start (joins (Star (In m.setting x)) a (At m x) _ _ first.tabled) states)) where
+  module _ (x : PathTerm) (n : ℕ) (a r : ℕ → List ℕ → Type 0) (first : IsPlacedWhere E n m x a) where
+    pub star : StarStates (λ w. w ≡ []) (λ q. Concatenation (Star (In m.setting x)) (a q)) r → IsPlacedWhere E (1 + n) m (P.Star x) r
+    star states = placed m _ r _ _ _ (forms.at_star m x) (forms.apart_star m x) (tabled_of_same (λ q w. same) places (λ p q told. told) (copies_after_start (joins (Star (In m.setting x)) a (At m x) _ _ (tabled first)) states)) where
       places : (p : Place) (w : List ℕ) → BegunAt (λ (v : List ℕ). v ≡ []) (InnerAt (λ p. Concatenation (Star (In m.setting x)) (At m x p))) p w ↔ StarPlaces (In m.setting x) (At m x) p w
       places Begin w = same
       places (Inner p) w = same
       places _ w = same
 
-    pub complement : (count : ℕ) (states : ComplementStates m.setting.path_symbols a r) → (E → TellsAll m.setting.path_symbols count states.after a) → PlacedIf E count m (P.Complement x) r
+    pub complement : (count : ℕ) (states : ComplementStates m.setting.path_symbols a r) → (E → TellsAll m.setting.path_symbols count states.after a) → IsPlacedWhere E count m (P.Complement x) r
     complement count states all = placed m _ r _ _ _ (forms.at_complement m x) (forms.apart_complement m x) (record {
-      is_table = leaf.complement_states m.setting.path_symbols a r first.tabled.is_table states;
-      exact = λ e. exact.complement_states m.setting.path_symbols n count a r first.tabled.is_table (first.tabled.exact e) states (all e).below (all e).alike;
+      is_table = leaf.complement_states m.setting.path_symbols a r first.is_table states;
+      exact = λ e. exact.complement_states m.setting.path_symbols n count a r first.is_table (first.exact e) states (all e).below (all e).alike;
     })
 
-    pub image : (t : RelTerm) (k : ℕ) (b : ℕ → List ℕ → List ℕ → Type 0) (pairs : List (ℕ × ℕ)) → PlacedIfR E k m t b → NumberedPairs pairs (ReachFromSource a b) r → PlacedIf E (length pairs) m (P.Image x t) r
+    pub image : (t : RelTerm) (k : ℕ) (b : ℕ → List ℕ → List ℕ → Type 0) (pairs : List (ℕ × ℕ)) → IsPlacedWhereR E k m t b → NumberedPairs pairs (ReachFromSource a b) r → IsPlacedWhere E (length pairs) m (P.Image x t) r
     image t k b pairs second states = placed m _ r _ _ _ (forms.at_image m x t) (forms.apart_image m x t) (record {
-      is_table = numbered (joint.image b (AtR m t) first.tabled.is_table second.tabled.is_table) states;
-      exact = λ e. exact_of_same (λ q w. same) (joint.image_places b (AtR m t) first.tabled.is_table second.tabled.is_table) (exact.pairs_exact first.tabled.is_table second.tabled.is_table (first.tabled.exact e) (second.tabled.exact e) joint.Source pairs r (numbered_alike (joint.image_states b (AtR m t) first.tabled.is_table second.tabled.is_table) states));
+      is_table = numbered (joint.image b (AtR m t) first.is_table second.is_table) states;
+      exact = λ e. exact_of_same (λ q w. same) (joint.image_places b (AtR m t) first.is_table second.is_table) (exact.pairs_exact first.is_table second.is_table (first.exact e) (second.exact e) joint.Source pairs r (numbered_alike (joint.image_states b (AtR m t) first.is_table second.is_table) states));
     })
 
-  module _ (x y : PathTerm) (n k : ℕ) (a b r : ℕ → List ℕ → Type 0) (first : PlacedIf E n m x a) (second : PlacedIf E k m y b) where
-    pub union : UnionStates (λ w. w ≡ []) n a b r → PlacedIf E (1 + (n + k)) m (P.Union x y) r
-    union states = placed m _ r _ _ _ (forms.at_union m x y) (forms.apart_union m x y) (tabled_of_same (λ q w. same) places (λ p q told. told) (beside_after_start first.tabled second.tabled states)) where
+  module _ (x y : PathTerm) (n k : ℕ) (a b r : ℕ → List ℕ → Type 0) (first : IsPlacedWhere E n m x a) (second : IsPlacedWhere E k m y b) where
+    pub union : UnionStates (λ w. w ≡ []) n a b r → IsPlacedWhere E (1 + (n + k)) m (P.Union x y) r
+    union states = placed m _ r _ _ _ (forms.at_union m x y) (forms.apart_union m x y) (tabled_of_same (λ q w. same) places (λ p q told. told) (beside_after_start (tabled first) (tabled second) states)) where
       places : (p : Place) (w : List ℕ) → BegunAt (λ (v : List ℕ). v ≡ []) (SideAt (At m x) (At m y)) p w ↔ UnionPlaces (At m x) (At m y) p w
       places Begin w = same
       places (Left p) w = same
       places (Right p) w = same
       places _ w = same
 
-    pub joined : SideBySide n a (λ q. Concatenation (In m.setting x) (b q)) r → PlacedIf E (n + k) m (P.Concat x y) r
-    joined states = placed m _ r _ _ _ (forms.at_concat m x y) (forms.apart_concat m x y) (tabled_of_same (λ q w. same) places (λ p q told. told) (side_by_side first.tabled (joins (In m.setting x) b (At m y) _ _ second.tabled) states)) where
+    pub joined : SideBySide n a (λ q. Concatenation (In m.setting x) (b q)) r → IsPlacedWhere E (n + k) m (P.Concat x y) r
+    joined states = placed m _ r _ _ _ (forms.at_concat m x y) (forms.apart_concat m x y) (tabled_of_same (λ q w. same) places (λ p q told. told) (side_by_side (tabled first) (joins (In m.setting x) b (At m y) _ _ (tabled second)) states)) where
       places : (p : Place) (w : List ℕ) → SideAt (At m x) (λ p. Concatenation (In m.setting x) (At m y p)) p w ↔ ConcatPlaces (In m.setting x) (At m x) (At m y) p w
       places (Left p) w = same
       places (Right p) w = same
       places _ w = same
 
-    pub meet : (pairs : List (ℕ × ℕ)) → NumberedPairs pairs (ReachTogether a b) r → PlacedIf E (length pairs) m (P.Meet x y) r
+    pub meet : (pairs : List (ℕ × ℕ)) → NumberedPairs pairs (ReachTogether a b) r → IsPlacedWhere E (length pairs) m (P.Meet x y) r
     meet pairs states = placed m _ r _ _ _ (forms.at_meet m x y) (forms.apart_meet m x y) (record {
-      is_table = numbered (joint.meet first.tabled.is_table second.tabled.is_table) states;
-      exact = λ e. exact_of_same (λ q w. same) (joint.meet_places first.tabled.is_table second.tabled.is_table) (exact.pairs_exact first.tabled.is_table second.tabled.is_table (first.tabled.exact e) (second.tabled.exact e) joint.One pairs r (numbered_alike (joint.meet_states first.tabled.is_table second.tabled.is_table) states));
+      is_table = numbered (joint.meet first.is_table second.is_table) states;
+      exact = λ e. exact_of_same (λ q w. same) (joint.meet_places first.is_table second.is_table) (exact.pairs_exact first.is_table second.is_table (first.exact e) (second.exact e) joint.One pairs r (numbered_alike (joint.meet_states first.is_table second.is_table) states));
     })
 
-  pub identity : (x : PathTerm) (n : ℕ) (a : ℕ → List ℕ → Type 0) (r : ℕ → List ℕ → List ℕ → Type 0) → PlacedIf E n m x a → ((q : ℕ) (u v : List ℕ) → r q u v ↔ ((u ≡ v) × a q u)) → PlacedIfR E n m (R.Identity x) r
-  identity x n a r first states = placed_r m _ r _ _ _ (forms.at_identity_r m x) (forms.apart_identity_r m x) (tabled_of_same (λ q z. there (a q) z (r q z.0 z.1) (states q z.0 z.1)) (λ p z. at (At m x p) z) (λ p q told. told) (through link first.tabled)) where
+  pub identity : (x : PathTerm) (n : ℕ) (a : ℕ → List ℕ → Type 0) (r : ℕ → List ℕ → List ℕ → Type 0) → IsPlacedWhere E n m x a → ((q : ℕ) (u v : List ℕ) → r q u v ↔ ((u ≡ v) × a q u)) → IsPlacedWhereR E n m (R.Identity x) r
+  identity x n a r first states = placed_r m _ r _ _ _ (forms.at_identity_r m x) (forms.apart_identity_r m x) (tabled_of_same (λ q z. there (a q) z (r q z.0 z.1) (states q z.0 z.1)) (λ p z. at (At m x p) z) (λ p q told. told) (through link (tabled first))) where
     link : List ℕ × List ℕ → List ℕ → Type 0
     link z u = (z.0 ≡ z.1) × (u ≡ z.0)
 
@@ -190,76 +186,51 @@ module _ (m : Scene) (E : Type 0) where
     there : (Y : WordSet) (z : List ℕ × List ℕ) (A : Type 0) → A ↔ ((z.0 ≡ z.1) × Y z.0) → ((u : List ℕ) × link z u × Y u) ↔ A
     there Y z A by = ((λ has. by.1 ((at Y z).0 has)), λ has. (at Y z).1 (by.0 has))
 
-  pub product : (x y : PathTerm) (n k : ℕ) (a b : ℕ → List ℕ → Type 0) (r : ℕ → List ℕ → List ℕ → Type 0) → PlacedIf E n m x a → PlacedIf E k m y b →
-      SideBySide n (OnPairs (λ q u v. a q u × (v ≡ []))) (OnPairs (λ q u v. In m.setting x u × b q v)) (OnPairs r) → PlacedIfR E (n + k) m (R.Product x y) r
+  pub product : (x y : PathTerm) (n k : ℕ) (a b : ℕ → List ℕ → Type 0) (r : ℕ → List ℕ → List ℕ → Type 0) → IsPlacedWhere E n m x a → IsPlacedWhere E k m y b →
+      SideBySide n (OnPairs (λ q u v. a q u × (v ≡ []))) (OnPairs (λ q u v. In m.setting x u × b q v)) (OnPairs r) → IsPlacedWhereR E (n + k) m (R.Product x y) r
   product x y n k a b r first second states = placed_r m _ r _ _ _ (forms.at_product_r m x y) (forms.apart_product_r m x y) (tabled_of_same (λ q z. same) places (λ p q told. told) (side_by_side front rest states)) where
     at_front : (Y : WordSet) (z : List ℕ × List ℕ) → ((u : List ℕ) × ((u ≡ z.0) × (z.1 ≡ [])) × Y u) ↔ (Y z.0 × (z.1 ≡ []))
     at_front Y z = ((λ has. (subst Y has.1.0 has.2, has.1.1)), λ has. (z.0, (refl, has.1), has.0))
 
     front : Tabled E n (OnPairs (λ q u v. a q u × (v ≡ []))) (OnPairs (λ p u v. At m x p u × (v ≡ []))) (Apart m x) first.table
-    front = tabled_of_same (λ q z. at_front (a q) z) (λ p z. at_front (At m x p) z) (λ p q told. told) (through (λ (z : List ℕ × List ℕ) (u : List ℕ). (u ≡ z.0) × (z.1 ≡ [])) first.tabled)
+    front = tabled_of_same (λ q z. at_front (a q) z) (λ p z. at_front (At m x p) z) (λ p q told. told) (through (λ (z : List ℕ × List ℕ) (u : List ℕ). (u ≡ z.0) × (z.1 ≡ [])) (tabled first))
 
     at_rest : (Y : WordSet) (z : List ℕ × List ℕ) → ((v : List ℕ) × ((v ≡ z.1) × In m.setting x z.0) × Y v) ↔ (In m.setting x z.0 × Y z.1)
     at_rest Y z = ((λ has. (has.1.1, subst Y has.1.0 has.2)), λ has. (z.1, (refl, has.0), has.1))
 
     rest : Tabled E k (OnPairs (λ q u v. In m.setting x u × b q v)) (OnPairs (λ p u v. In m.setting x u × At m y p v)) (Apart m y) second.table
-    rest = tabled_of_same (λ q z. at_rest (b q) z) (λ p z. at_rest (At m y p) z) (λ p q told. told) (through (λ (z : List ℕ × List ℕ) (v : List ℕ). (v ≡ z.1) × In m.setting x z.0) second.tabled)
+    rest = tabled_of_same (λ q z. at_rest (b q) z) (λ p z. at_rest (At m y p) z) (λ p q told. told) (through (λ (z : List ℕ × List ℕ) (v : List ℕ). (v ≡ z.1) × In m.setting x z.0) (tabled second))
 
     places : (p : Place) (z : List ℕ × List ℕ) → SideAt (OnPairs (λ p u v. At m x p u × (v ≡ []))) (OnPairs (λ p u v. In m.setting x u × At m y p v)) p z ↔ OnPairs (ProductPlaces (In m.setting x) (At m x) (At m y)) p z
     places (Left p) z = same
     places (Right p) z = same
     places _ z = same
 
-  pub star_r : (t : RelTerm) (n : ℕ) (a r : ℕ → List ℕ → List ℕ → Type 0) → PlacedIfR E n m t a → StarStates IsEmptyPair (OnPairs (λ q. PairConcatenation (PairStar (InR m.setting t)) (a q))) (OnPairs r) → PlacedIfR E (1 + n) m (R.Star t) r
-  star_r t n a r first states = placed_r m _ r _ _ _ (forms.at_star_r m t) (forms.apart_star_r m t) (tabled_of_same (λ q z. same) places (λ p q told. told) (copies_after_start (joins_r (PairStar (InR m.setting t)) a (AtR m t) _ _ first.tabled) states)) where
+  pub star_r : (t : RelTerm) (n : ℕ) (a r : ℕ → List ℕ → List ℕ → Type 0) → IsPlacedWhereR E n m t a → StarStates IsEmptyPair (OnPairs (λ q. PairConcatenation (PairStar (InR m.setting t)) (a q))) (OnPairs r) → IsPlacedWhereR E (1 + n) m (R.Star t) r
+  star_r t n a r first states = placed_r m _ r _ _ _ (forms.at_star_r m t) (forms.apart_star_r m t) (tabled_of_same (λ q z. same) places (λ p q told. told) (copies_after_start (joins_r (PairStar (InR m.setting t)) a (AtR m t) _ _ (tabled_r first)) states)) where
     places : (p : Place) (z : List ℕ × List ℕ) → BegunAt IsEmptyPair (InnerAt (OnPairs (λ p. PairConcatenation (PairStar (InR m.setting t)) (AtR m t p)))) p z ↔ OnPairs (PairStarPlaces (InR m.setting t) (AtR m t)) p z
     places Begin z = same
     places (Inner p) z = same
     places _ z = same
 
-  module _ (s t : RelTerm) (n k : ℕ) (a b r : ℕ → List ℕ → List ℕ → Type 0) (first : PlacedIfR E n m s a) (second : PlacedIfR E k m t b) where
-    pub union_r : UnionStates IsEmptyPair n (OnPairs a) (OnPairs b) (OnPairs r) → PlacedIfR E (1 + (n + k)) m (R.Union s t) r
-    union_r states = placed_r m _ r _ _ _ (forms.at_union_r m s t) (forms.apart_union_r m s t) (tabled_of_same (λ q z. same) places (λ p q told. told) (beside_after_start first.tabled second.tabled states)) where
+  module _ (s t : RelTerm) (n k : ℕ) (a b r : ℕ → List ℕ → List ℕ → Type 0) (first : IsPlacedWhereR E n m s a) (second : IsPlacedWhereR E k m t b) where
+    pub union_r : UnionStates IsEmptyPair n (OnPairs a) (OnPairs b) (OnPairs r) → IsPlacedWhereR E (1 + (n + k)) m (R.Union s t) r
+    union_r states = placed_r m _ r _ _ _ (forms.at_union_r m s t) (forms.apart_union_r m s t) (tabled_of_same (λ q z. same) places (λ p q told. told) (beside_after_start (tabled_r first) (tabled_r second) states)) where
       places : (p : Place) (z : List ℕ × List ℕ) → BegunAt IsEmptyPair (SideAt (OnPairs (AtR m s)) (OnPairs (AtR m t))) p z ↔ OnPairs (PairUnionPlaces (AtR m s) (AtR m t)) p z
       places Begin z = same
       places (Left p) z = same
       places (Right p) z = same
       places _ z = same
 
-    pub joined_r : SideBySide n (OnPairs a) (OnPairs (λ q. PairConcatenation (InR m.setting s) (b q))) (OnPairs r) → PlacedIfR E (n + k) m (R.Concat s t) r
-    joined_r states = placed_r m _ r _ _ _ (forms.at_concat_r m s t) (forms.apart_concat_r m s t) (tabled_of_same (λ q z. same) places (λ p q told. told) (side_by_side first.tabled (joins_r (InR m.setting s) b (AtR m t) _ _ second.tabled) states)) where
+    pub joined_r : SideBySide n (OnPairs a) (OnPairs (λ q. PairConcatenation (InR m.setting s) (b q))) (OnPairs r) → IsPlacedWhereR E (n + k) m (R.Concat s t) r
+    joined_r states = placed_r m _ r _ _ _ (forms.at_concat_r m s t) (forms.apart_concat_r m s t) (tabled_of_same (λ q z. same) places (λ p q told. told) (side_by_side (tabled_r first) (joins_r (InR m.setting s) b (AtR m t) _ _ (tabled_r second)) states)) where
       places : (p : Place) (z : List ℕ × List ℕ) → SideAt (OnPairs (AtR m s)) (OnPairs (λ p. PairConcatenation (InR m.setting s) (AtR m t p))) p z ↔ OnPairs (PairConcatPlaces (InR m.setting s) (AtR m s) (AtR m t)) p z
       places (Left p) z = same
       places (Right p) z = same
       places _ z = same
 
-    pub composed : (pairs : List (ℕ × ℕ)) → NumberedPairs pairs (OnPairs (ReachByMiddle a b)) (OnPairs r) → PlacedIfR E (length pairs) m (R.Compose s t) r
+    pub composed : (pairs : List (ℕ × ℕ)) → NumberedPairs pairs (OnPairs (ReachByMiddle a b)) (OnPairs r) → IsPlacedWhereR E (length pairs) m (R.Compose s t) r
     composed pairs states = placed_r m _ r _ _ _ (forms.at_compose_r m s t) (forms.apart_compose_r m s t) (record {
-      is_table = numbered (joint.composed a b (AtR m s) (AtR m t) first.tabled.is_table second.tabled.is_table) states;
-      exact = λ e. exact_of_same (λ q w. same) (joint.composed_places a b (AtR m s) (AtR m t) first.tabled.is_table second.tabled.is_table) (exact.pairs_exact first.tabled.is_table second.tabled.is_table (first.tabled.exact e) (second.tabled.exact e) joint.Through pairs (OnPairs r) (numbered_alike (joint.composed_states a b (AtR m s) (AtR m t) first.tabled.is_table second.tabled.is_table) states));
+      is_table = numbered (joint.composed a b (AtR m s) (AtR m t) first.is_table second.is_table) states;
+      exact = λ e. exact_of_same (λ q w. same) (joint.composed_places a b (AtR m s) (AtR m t) first.is_table second.is_table) (exact.pairs_exact first.is_table second.is_table (first.exact e) (second.exact e) joint.Through pairs (OnPairs r) (numbered_alike (joint.composed_states a b (AtR m s) (AtR m t) first.is_table second.is_table) states));
     })
-
--- a table of which it isn't said whether it is exact, and one that is
-pub perhaps : (m : Scene) (x : PathTerm) (reach : ℕ → List ℕ → Type 0) → IsPlaced m x reach → (n : ℕ) → PlacedIf ⊥ n m x reach
-perhaps m x reach is n = record { table = is.table; tabled = record { is_table = is.is_table; exact = λ never. absurd never } }
-
-pub perhaps_r : (m : Scene) (r : RelTerm) (reach : ℕ → List ℕ → List ℕ → Type 0) → IsPlacedR m r reach → (n : ℕ) → PlacedIfR ⊥ n m r reach
-perhaps_r m r reach is n = record { table = is.table; tabled = record { is_table = is.is_table; exact = λ never. absurd never } }
-
-pub plain : {n : ℕ} {m : Scene} {x : PathTerm} {reach : ℕ → List ℕ → Type 0} → PlacedIf ⊥ n m x reach → IsPlaced m x reach
-plain is = record { table = is.table; is_table = is.tabled.is_table }
-
-pub plain_r : {n : ℕ} {m : Scene} {r : RelTerm} {reach : ℕ → List ℕ → List ℕ → Type 0} → PlacedIfR ⊥ n m r reach → IsPlacedR m r reach
-plain_r is = record { table = is.table; is_table = is.tabled.is_table }
-
-pub surely : {n : ℕ} {m : Scene} {x : PathTerm} {reach : ℕ → List ℕ → Type 0} → IsPlacedExactly m x n reach → PlacedIf (Unit {0}) n m x reach
-surely is = record { table = is.table; tabled = record { is_table = is.is_table; exact = λ _. is.exact } }
-
-pub surely_r : {n : ℕ} {m : Scene} {r : RelTerm} {reach : ℕ → List ℕ → List ℕ → Type 0} → IsPlacedExactlyR m r n reach → PlacedIfR (Unit {0}) n m r reach
-surely_r is = record { table = is.table; tabled = record { is_table = is.is_table; exact = λ _. is.exact } }
-
-pub exactly : {n : ℕ} {m : Scene} {x : PathTerm} {reach : ℕ → List ℕ → Type 0} → PlacedIf (Unit {0}) n m x reach → IsPlacedExactly m x n reach
-exactly is = record { table = is.table; is_table = is.tabled.is_table; exact = is.tabled.exact tt }
-
-pub exactly_r : {n : ℕ} {m : Scene} {r : RelTerm} {reach : ℕ → List ℕ → List ℕ → Type 0} → PlacedIfR (Unit {0}) n m r reach → IsPlacedExactlyR m r n reach
-exactly_r is = record { table = is.table; is_table = is.tabled.is_table; exact = is.tabled.exact tt }

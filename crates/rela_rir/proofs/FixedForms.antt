@@ -1,5 +1,5 @@
 -- Which parts of a layer name neither path set, as equations.
-use Rattle.std.proofs.Common.{◌≡◌, refl}
+use Rattle.std.proofs.Common.{◌≡◌, ◌↔◌, refl, sym, subst}
 use Rattle.rela_rir.specs.Fixed.{IsFixed, IsFixedR, LayerIsFixed, LayerIsFixedR}
 use Rattle.rela_rir.specs.declared.term.PathTerm.{PathTerm}
 use Rattle.rela_rir.specs.declared.term.RelTerm.{RelTerm}
@@ -36,3 +36,14 @@ fixed_roll x = rec-roll-PathTerm (Type 0) (Type 0) (λ X Y _ _ part part_r layer
 
 pub fixed_roll_r : (x : F.RelTerm-F PathTerm RelTerm) → IsFixedR (roll-RelTerm x) ≡ LayerIsFixedR IsFixed IsFixedR x
 fixed_roll_r x = rec-roll-RelTerm (Type 0) (Type 0) (λ X Y _ _ part part_r layer. LayerIsFixed part part_r layer) (λ X Y _ _ part part_r layer. LayerIsFixedR part part_r layer) natural_r x
+
+-- by what its layer says
+pub as_layer : (z : F.PathTerm-F PathTerm RelTerm) (t : PathTerm) → roll-PathTerm z ≡ t → IsFixed t ↔ LayerIsFixed IsFixed IsFixedR z
+as_layer z t rolls =
+    subst (λ (s : PathTerm). IsFixed s ↔ LayerIsFixed IsFixed IsFixedR z) rolls
+    (subst (λ (T : Type 0). T ↔ LayerIsFixed IsFixed IsFixedR z) (sym (fixed_roll z)) (λ h. h, λ h. h))
+
+pub as_layer_r : (z : F.RelTerm-F PathTerm RelTerm) (t : RelTerm) → roll-RelTerm z ≡ t → IsFixedR t ↔ LayerIsFixedR IsFixed IsFixedR z
+as_layer_r z t rolls =
+    subst (λ (s : RelTerm). IsFixedR s ↔ LayerIsFixedR IsFixed IsFixedR z) rolls
+    (subst (λ (T : Type 0). T ↔ LayerIsFixedR IsFixed IsFixedR z) (sym (fixed_roll_r z)) (λ h. h, λ h. h))

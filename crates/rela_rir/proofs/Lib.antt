@@ -26,3 +26,4 @@ pub mod LeafTables
 pub mod NumberedTables
 pub mod ExactTables
 pub mod BuiltTerms
+pub mod FixedParts

@@ -2,6 +2,7 @@ pub mod Words
 pub mod Meaning
 pub mod Places
 pub mod Following
+pub mod Machines
 pub mod Limit
 pub mod Size
 pub mod Fixed
@@ -9,5 +10,7 @@ pub mod Agreement
 pub mod Complements
 pub mod Tables
 pub mod Built
+pub mod BuiltTerms
+pub mod ReachedTerms
 pub mod Assertions
 pub mod NamedSymbols

@@ -42,19 +42,19 @@ pub record IsPlacedR (m : Scene) (r : RelTerm) (reach : ℕ → List ℕ → Lis
   pub table : Place → Option ℕ
   pub is_table : IsTable (OnPairs reach) (OnPairs (AtR m r)) (ApartR m r) table
 
--- they do so by a table that is exact over n states
-pub record IsPlacedExactly (m : Scene) (x : PathTerm) (n : ℕ)
+-- they do so by a table that is exact over n states where `exactly` holds
+pub record IsPlacedWhere (exactly : Type 0) (n : ℕ) (m : Scene) (x : PathTerm)
     (reach : ℕ → List ℕ → Type 0) : Type 0 where
   pub table : Place → Option ℕ
   pub is_table : IsTable reach (At m x) (Apart m x) table
-  pub exact : IsExact n reach (At m x) table
+  pub exact : exactly → IsExact n reach (At m x) table
 
 -- likewise of a relation term
-pub record IsPlacedExactlyR (m : Scene) (r : RelTerm) (n : ℕ)
+pub record IsPlacedWhereR (exactly : Type 0) (n : ℕ) (m : Scene) (r : RelTerm)
     (reach : ℕ → List ℕ → List ℕ → Type 0) : Type 0 where
   pub table : Place → Option ℕ
   pub is_table : IsTable (OnPairs reach) (OnPairs (AtR m r)) (ApartR m r) table
-  pub exact : IsExact n (OnPairs reach) (OnPairs (AtR m r)) table
+  pub exact : exactly → IsExact n (OnPairs reach) (OnPairs (AtR m r)) table
 
 -- some word of path symbols and markers reaches the state
 abbrev pub IsStateReached : {Q : Type 0} → Scene → (Q → List ℕ → Type 0) → Q → Type 0

@@ -11,37 +11,50 @@ use crate::term::{PathTerm, RelTerm};
 
 /// A term has the same words in two scenes that agree on what it names, its places are reached by
 /// the same words, and the same places are apart.
-pub fn scenes_alike<M: Staging, N: Staging>()
-    ensures words { (x : PathTerm) → AgreeOn M.scene N.scene x →
-        (w : List ℕ) → In M.scene.setting x w ↔ In N.scene.setting x w }
-    ensures places { (x : PathTerm) → AgreeOn M.scene N.scene x →
-        (p : Place) (w : List ℕ) → At M.scene x p w ↔ At N.scene x p w }
-    ensures apart { (x : PathTerm) → AgreeOn M.scene N.scene x →
-        (p q : Place) → Apart M.scene x p q ↔ Apart N.scene x p q }
-    ensures pairs { (r : RelTerm) → AgreeOnR M.scene N.scene r →
-        (u v : List ℕ) → InR M.scene.setting r u v ↔ InR N.scene.setting r u v }
-    ensures pair_places { (r : RelTerm) → AgreeOnR M.scene N.scene r →
-        (p : Place) (u v : List ℕ) → AtR M.scene r p u v ↔ AtR N.scene r p u v }
-    ensures pair_apart { (r : RelTerm) → AgreeOnR M.scene N.scene r →
-        (p q : Place) → ApartR M.scene r p q ↔ ApartR N.scene r p q }
+pub fn scenes_alike<M: Staging>()
+    ensures words { (at other : M.scene.Name) (x : PathTerm) →
+        AgreeOn (M.scene.of at) (M.scene.of other) x →
+        (w : List ℕ) → In (M.scene.of at).setting x w ↔ In (M.scene.of other).setting x w }
+    ensures places { (at other : M.scene.Name) (x : PathTerm) →
+        AgreeOn (M.scene.of at) (M.scene.of other) x →
+        (p : Place) (w : List ℕ) → At (M.scene.of at) x p w ↔ At (M.scene.of other) x p w }
+    ensures apart { (at other : M.scene.Name) (x : PathTerm) →
+        AgreeOn (M.scene.of at) (M.scene.of other) x →
+        (p q : Place) → Apart (M.scene.of at) x p q ↔ Apart (M.scene.of other) x p q }
+    ensures pairs { (at other : M.scene.Name) (r : RelTerm) →
+        AgreeOnR (M.scene.of at) (M.scene.of other) r →
+        (u v : List ℕ) → InR (M.scene.of at).setting r u v ↔ InR (M.scene.of other).setting r u v }
+    ensures pair_places { (at other : M.scene.Name) (r : RelTerm) →
+        AgreeOnR (M.scene.of at) (M.scene.of other) r →
+        (p : Place) (u v : List ℕ) → AtR (M.scene.of at) r p u v ↔ AtR (M.scene.of other) r p u v }
+    ensures pair_apart { (at other : M.scene.Name) (r : RelTerm) →
+        AgreeOnR (M.scene.of at) (M.scene.of other) r →
+        (p q : Place) → ApartR (M.scene.of at) r p q ↔ ApartR (M.scene.of other) r p q }
 {}
 
 /// What licenses an open answer in one scene, or forces it, does so in each scene that agrees with
 /// it on what the terms name.
-pub fn licences_carry_over<M: Staging, N: Staging>()
-    ensures reached { (x : PathTerm) → AgreeOn M.scene N.scene x →
-        (k : ℕ) → ReachedInside M.scene k x ↔ ReachedInside N.scene k x }
-    ensures reached_pairs { (r : RelTerm) → AgreeOnR M.scene N.scene r →
-        (k : ℕ) → ReachedInsideR M.scene k r ↔ ReachedInsideR N.scene k r }
-    ensures forced_inside { (x : PathTerm) → AgreeOn M.scene N.scene x →
-        (k : ℕ) → ForcedInside M.scene k x ↔ ForcedInside N.scene k x }
-    ensures forced_pairs { (r : RelTerm) → AgreeOnR M.scene N.scene r →
-        (k : ℕ) → ForcedInsideR M.scene k r ↔ ForcedInsideR N.scene k r }
-    ensures licensed { (before after : PathTerm) →
-        AgreeOn M.scene N.scene before → AgreeOn M.scene N.scene after →
+pub fn licences_carry_over<M: Staging>()
+    ensures reached { (at other : M.scene.Name) (x : PathTerm) →
+        AgreeOn (M.scene.of at) (M.scene.of other) x →
+        (k : ℕ) → ReachedInside (M.scene.of at) k x ↔ ReachedInside (M.scene.of other) k x }
+    ensures reached_pairs { (at other : M.scene.Name) (r : RelTerm) →
+        AgreeOnR (M.scene.of at) (M.scene.of other) r →
+        (k : ℕ) → ReachedInsideR (M.scene.of at) k r ↔ ReachedInsideR (M.scene.of other) k r }
+    ensures forced_inside { (at other : M.scene.Name) (x : PathTerm) →
+        AgreeOn (M.scene.of at) (M.scene.of other) x →
+        (k : ℕ) → ForcedInside (M.scene.of at) k x ↔ ForcedInside (M.scene.of other) k x }
+    ensures forced_pairs { (at other : M.scene.Name) (r : RelTerm) →
+        AgreeOnR (M.scene.of at) (M.scene.of other) r →
+        (k : ℕ) → ForcedInsideR (M.scene.of at) k r ↔ ForcedInsideR (M.scene.of other) k r }
+    ensures licensed { (at other : M.scene.Name) (before after : PathTerm) →
+        AgreeOn (M.scene.of at) (M.scene.of other) before →
+        AgreeOn (M.scene.of at) (M.scene.of other) after →
         (last : Option (List ℕ)) (limit : ℕ) →
-        Licensed M.scene last before after limit ↔ Licensed N.scene last before after limit }
-    ensures forced { (before after : PathTerm) →
-        AgreeOn M.scene N.scene before → AgreeOn M.scene N.scene after → (limit : ℕ) →
-        Forced M.scene before after limit ↔ Forced N.scene before after limit }
+        Licensed (M.scene.of at) last before after limit
+        ↔ Licensed (M.scene.of other) last before after limit }
+    ensures forced { (at other : M.scene.Name) (before after : PathTerm) →
+        AgreeOn (M.scene.of at) (M.scene.of other) before →
+        AgreeOn (M.scene.of at) (M.scene.of other) after → (limit : ℕ) →
+        Forced (M.scene.of at) before after limit ↔ Forced (M.scene.of other) before after limit }
 {}

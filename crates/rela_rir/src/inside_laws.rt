@@ -2,6 +2,7 @@
 //! which they are numbered. Each law is a function that does nothing, and its contract is the law.
 ghost use Rattle.std.specs.Prelude.{◌≡◌, ℕ, ◌⊎◌, ◌↔◌, [], ◌∷◌, ◌++◌, Contains};
 ghost use Rattle.rela_rir.specs.Complements.{complemented_parts, complemented_parts_r};
+ghost use Rattle.rela_rir.specs.Fixed.{IsFixed, IsFixedR};
 ghost use Rattle.rela_rir.specs.Limit.{Reached, ReachedR, ReachedInside, ReachedInsideR, AreTold, ForcedInside, ForcedInsideR};
 
 use crate::limit_laws::Staging;
@@ -10,52 +11,54 @@ use crate::term::{PathTerm, RelTerm};
 /// A counted term with k reached places is in a path term where the term is one itself, or one is
 /// in a part of it.
 pub fn reached_inside_path_terms<M: Staging>()
-    ensures none { (k : ℕ) → ¬ ReachedInside M.scene k PathTerm.None }
-    ensures empty { (k : ℕ) → ¬ ReachedInside M.scene k PathTerm.Empty }
-    ensures class { (k entry : ℕ) → ¬ ReachedInside M.scene k (PathTerm.Class entry) }
-    ensures one { (k s : ℕ) → ¬ ReachedInside M.scene k (PathTerm.One s) }
-    ensures union { (k : ℕ) (x y : PathTerm) →
-        ReachedInside M.scene k (PathTerm.Union x y)
-        ↔ (ReachedInside M.scene k x ⊎ ReachedInside M.scene k y) }
-    ensures concat { (k : ℕ) (x y : PathTerm) →
-        ReachedInside M.scene k (PathTerm.Concat x y)
-        ↔ (ReachedInside M.scene k x ⊎ ReachedInside M.scene k y) }
-    ensures star { (k : ℕ) (x : PathTerm) →
-        ReachedInside M.scene k (PathTerm.Star x) ↔ ReachedInside M.scene k x }
-    ensures meet { (k : ℕ) (x y : PathTerm) →
-        ReachedInside M.scene k (PathTerm.Meet x y)
-        ↔ (Reached M.scene (PathTerm.Meet x y) k
-        ⊎ (ReachedInside M.scene k x ⊎ ReachedInside M.scene k y)) }
-    ensures complement { (k : ℕ) (x : PathTerm) →
-        ReachedInside M.scene k (PathTerm.Complement x)
-        ↔ (Reached M.scene (PathTerm.Complement x) k ⊎ ReachedInside M.scene k x) }
-    ensures before { (k : ℕ) → ¬ ReachedInside M.scene k PathTerm.Pre }
-    ensures after { (k : ℕ) → ¬ ReachedInside M.scene k PathTerm.Post }
-    ensures image { (k : ℕ) (x : PathTerm) (r : RelTerm) →
-        ReachedInside M.scene k (PathTerm.Image x r)
-        ↔ (Reached M.scene (PathTerm.Image x r) k
-        ⊎ (ReachedInside M.scene k x ⊎ ReachedInsideR M.scene k r)) }
+    ensures none { (at : M.scene.Name) (k : ℕ) → ¬ ReachedInside (M.scene.of at) k PathTerm.None }
+    ensures empty { (at : M.scene.Name) (k : ℕ) → ¬ ReachedInside (M.scene.of at) k PathTerm.Empty }
+    ensures class { (at : M.scene.Name) (k entry : ℕ) →
+        ¬ ReachedInside (M.scene.of at) k (PathTerm.Class entry) }
+    ensures one { (at : M.scene.Name) (k s : ℕ) →
+        ¬ ReachedInside (M.scene.of at) k (PathTerm.One s) }
+    ensures union { (at : M.scene.Name) (k : ℕ) (x y : PathTerm) →
+        ReachedInside (M.scene.of at) k (PathTerm.Union x y)
+        ↔ (ReachedInside (M.scene.of at) k x ⊎ ReachedInside (M.scene.of at) k y) }
+    ensures concat { (at : M.scene.Name) (k : ℕ) (x y : PathTerm) →
+        ReachedInside (M.scene.of at) k (PathTerm.Concat x y)
+        ↔ (ReachedInside (M.scene.of at) k x ⊎ ReachedInside (M.scene.of at) k y) }
+    ensures star { (at : M.scene.Name) (k : ℕ) (x : PathTerm) →
+        ReachedInside (M.scene.of at) k (PathTerm.Star x) ↔ ReachedInside (M.scene.of at) k x }
+    ensures meet { (at : M.scene.Name) (k : ℕ) (x y : PathTerm) →
+        ReachedInside (M.scene.of at) k (PathTerm.Meet x y)
+        ↔ (Reached (M.scene.of at) (PathTerm.Meet x y) k
+        ⊎ (ReachedInside (M.scene.of at) k x ⊎ ReachedInside (M.scene.of at) k y)) }
+    ensures complement { (at : M.scene.Name) (k : ℕ) (x : PathTerm) →
+        ReachedInside (M.scene.of at) k (PathTerm.Complement x)
+        ↔ (Reached (M.scene.of at) (PathTerm.Complement x) k ⊎ ReachedInside (M.scene.of at) k x) }
+    ensures before { (at : M.scene.Name) (k : ℕ) → ¬ ReachedInside (M.scene.of at) k PathTerm.Pre }
+    ensures after { (at : M.scene.Name) (k : ℕ) → ¬ ReachedInside (M.scene.of at) k PathTerm.Post }
+    ensures image { (at : M.scene.Name) (k : ℕ) (x : PathTerm) (r : RelTerm) →
+        ReachedInside (M.scene.of at) k (PathTerm.Image x r)
+        ↔ (Reached (M.scene.of at) (PathTerm.Image x r) k
+        ⊎ (ReachedInside (M.scene.of at) k x ⊎ ReachedInsideR (M.scene.of at) k r)) }
 {}
 
 /// Likewise of relation terms.
 pub fn reached_inside_rel_terms<M: Staging>()
-    ensures identity { (k : ℕ) (x : PathTerm) →
-        ReachedInsideR M.scene k (RelTerm.Identity x) ↔ ReachedInside M.scene k x }
-    ensures product { (k : ℕ) (x y : PathTerm) →
-        ReachedInsideR M.scene k (RelTerm.Product x y)
-        ↔ (ReachedInside M.scene k x ⊎ ReachedInside M.scene k y) }
-    ensures union { (k : ℕ) (r s : RelTerm) →
-        ReachedInsideR M.scene k (RelTerm.Union r s)
-        ↔ (ReachedInsideR M.scene k r ⊎ ReachedInsideR M.scene k s) }
-    ensures concat { (k : ℕ) (r s : RelTerm) →
-        ReachedInsideR M.scene k (RelTerm.Concat r s)
-        ↔ (ReachedInsideR M.scene k r ⊎ ReachedInsideR M.scene k s) }
-    ensures star { (k : ℕ) (r : RelTerm) →
-        ReachedInsideR M.scene k (RelTerm.Star r) ↔ ReachedInsideR M.scene k r }
-    ensures compose { (k : ℕ) (r s : RelTerm) →
-        ReachedInsideR M.scene k (RelTerm.Compose r s)
-        ↔ (ReachedR M.scene (RelTerm.Compose r s) k
-        ⊎ (ReachedInsideR M.scene k r ⊎ ReachedInsideR M.scene k s)) }
+    ensures identity { (at : M.scene.Name) (k : ℕ) (x : PathTerm) →
+        ReachedInsideR (M.scene.of at) k (RelTerm.Identity x) ↔ ReachedInside (M.scene.of at) k x }
+    ensures product { (at : M.scene.Name) (k : ℕ) (x y : PathTerm) →
+        ReachedInsideR (M.scene.of at) k (RelTerm.Product x y)
+        ↔ (ReachedInside (M.scene.of at) k x ⊎ ReachedInside (M.scene.of at) k y) }
+    ensures union { (at : M.scene.Name) (k : ℕ) (r s : RelTerm) →
+        ReachedInsideR (M.scene.of at) k (RelTerm.Union r s)
+        ↔ (ReachedInsideR (M.scene.of at) k r ⊎ ReachedInsideR (M.scene.of at) k s) }
+    ensures concat { (at : M.scene.Name) (k : ℕ) (r s : RelTerm) →
+        ReachedInsideR (M.scene.of at) k (RelTerm.Concat r s)
+        ↔ (ReachedInsideR (M.scene.of at) k r ⊎ ReachedInsideR (M.scene.of at) k s) }
+    ensures star { (at : M.scene.Name) (k : ℕ) (r : RelTerm) →
+        ReachedInsideR (M.scene.of at) k (RelTerm.Star r) ↔ ReachedInsideR (M.scene.of at) k r }
+    ensures compose { (at : M.scene.Name) (k : ℕ) (r s : RelTerm) →
+        ReachedInsideR (M.scene.of at) k (RelTerm.Compose r s)
+        ↔ (ReachedR (M.scene.of at) (RelTerm.Compose r s) k
+        ⊎ (ReachedInsideR (M.scene.of at) k r ⊎ ReachedInsideR (M.scene.of at) k s)) }
 {}
 
 /// The complemented parts of a path term are those of its parts, in order, and after them, of a
@@ -101,15 +104,24 @@ pub fn complemented_parts_of_rel_terms()
 /// An answer is forced where one of the complemented parts tells k words; and a complement of one
 /// of them with k reached places is a counted term that is inside.
 pub fn complements_inside<M: Staging>()
-    ensures forced { (k : ℕ) (x : PathTerm) →
-        ForcedInside M.scene k x
-        ↔ ((part : PathTerm) × Contains (complemented_parts x) part × AreTold M.scene part k) }
-    ensures forced_pairs { (k : ℕ) (r : RelTerm) →
-        ForcedInsideR M.scene k r
-        ↔ ((part : PathTerm) × Contains (complemented_parts_r r) part × AreTold M.scene part k) }
-    ensures reached { (k : ℕ) (x part : PathTerm) → Contains (complemented_parts x) part →
-        Reached M.scene (PathTerm.Complement part) k → ReachedInside M.scene k x }
-    ensures reached_pairs { (k : ℕ) (r : RelTerm) (part : PathTerm) →
+    ensures forced { (at : M.scene.Name) (k : ℕ) (x : PathTerm) →
+        ForcedInside (M.scene.of at) k x
+        ↔ ((part : PathTerm) × Contains (complemented_parts x) part × AreTold (M.scene.of at) part k) }
+    ensures forced_pairs { (at : M.scene.Name) (k : ℕ) (r : RelTerm) →
+        ForcedInsideR (M.scene.of at) k r
+        ↔ ((part : PathTerm) × Contains (complemented_parts_r r) part × AreTold (M.scene.of at) part k) }
+    ensures reached { (at : M.scene.Name) (k : ℕ) (x part : PathTerm) →
+        Contains (complemented_parts x) part →
+        Reached (M.scene.of at) (PathTerm.Complement part) k → ReachedInside (M.scene.of at) k x }
+    ensures reached_pairs { (at : M.scene.Name) (k : ℕ) (r : RelTerm) (part : PathTerm) →
         Contains (complemented_parts_r r) part →
-        Reached M.scene (PathTerm.Complement part) k → ReachedInsideR M.scene k r }
+        Reached (M.scene.of at) (PathTerm.Complement part) k → ReachedInsideR (M.scene.of at) k r }
+{}
+
+/// The parts that are complemented in a term that names neither path set name neither.
+pub fn complements_of_fixed_terms()
+    ensures paths { (x part : PathTerm) → IsFixed x → Contains (complemented_parts x) part →
+        IsFixed part }
+    ensures relations { (r : RelTerm) (part : PathTerm) → IsFixedR r →
+        Contains (complemented_parts_r r) part → IsFixed part }
 {}

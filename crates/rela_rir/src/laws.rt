@@ -2,69 +2,71 @@
 //! its contract is the law.
 ghost use Rattle.std.specs.Prelude.{◌≡◌, ℕ, ◌+◌, ◌≤◌, ◌⊎◌, ◌↔◌, max, List, [], ◌∷◌};
 ghost use Rattle.rela_rir.specs.Words.{Concatenation, Star, ImageOf, PairConcatenation, PairStar, Composition};
-ghost use Rattle.rela_rir.specs.Meaning.{Setting, In, InR, IsInClass, IsPathWord};
-ghost use Rattle.rela_rir.specs.Fixed.{Alike, IsFixed, IsFixedR};
+ghost use Rattle.rela_rir.specs.Machines.{Settings};
+ghost use Rattle.rela_rir.specs.Meaning.{In, InR, IsInClass, IsPathWord};
+ghost use Rattle.rela_rir.specs.Fixed.{Alike, FixedForms, IsFixed, IsFixedR};
 ghost use Rattle.rela_rir.specs.Size.{nodes_of_path, nodes_of_rel, depth_of_path, depth_of_rel};
 
 use crate::term::{PathTerm, RelTerm};
 use rela_names::WordSet;
-use std::marker::Brand;
 
-/// What terms are read in, which only contracts name.
+/// Which settings a law speaks of, which only contracts name.
 pub trait Reading {
-    ghost setting: { Setting };
-}
-
-// What a caller's proof picks stands in the place of this one.
-impl Reading for Brand {
-    ghost setting = { record {
-      classes = [];
-      path_symbols = 0;
-      pre = λ _. Unit {0};
-      post = λ _. Unit {0};
-    } };
+    ghost setting: { Settings };
 }
 
 /// The words of a path term, by its form and what its parts mean.
 pub fn path_terms_mean<M: Reading>()
-    ensures none { (w : List ℕ) → ¬ In M.setting PathTerm.None w }
-    ensures empty { (w : List ℕ) → In M.setting PathTerm.Empty w ↔ (w ≡ []) }
-    ensures class { (k : ℕ) (w : List ℕ) →
-        In M.setting (PathTerm.Class k) w ↔ ((s : ℕ) × (w ≡ s ∷ []) × IsInClass M.setting k s) }
-    ensures one { (s : ℕ) (w : List ℕ) → In M.setting (PathTerm.One s) w ↔ (w ≡ s ∷ []) }
-    ensures union { (x y : PathTerm) (w : List ℕ) →
-        In M.setting (PathTerm.Union x y) w ↔ (In M.setting x w ⊎ In M.setting y w) }
-    ensures concat { (x y : PathTerm) (w : List ℕ) →
-        In M.setting (PathTerm.Concat x y) w ↔ Concatenation (In M.setting x) (In M.setting y) w }
-    ensures star { (x : PathTerm) (w : List ℕ) →
-        In M.setting (PathTerm.Star x) w ↔ Star (In M.setting x) w }
-    ensures meet { (x y : PathTerm) (w : List ℕ) →
-        In M.setting (PathTerm.Meet x y) w ↔ (In M.setting x w × In M.setting y w) }
-    ensures complement { (x : PathTerm) (w : List ℕ) →
-        In M.setting (PathTerm.Complement x) w ↔ (IsPathWord M.setting.path_symbols w
-        × (¬ In M.setting x w)) }
-    ensures before { (w : List ℕ) → In M.setting PathTerm.Pre w ↔ M.setting.pre w }
-    ensures after { (w : List ℕ) → In M.setting PathTerm.Post w ↔ M.setting.post w }
-    ensures image { (x : PathTerm) (r : RelTerm) (v : List ℕ) →
-        In M.setting (PathTerm.Image x r) v ↔ ImageOf (In M.setting x) (InR M.setting r) v }
+    ensures none { (at : M.setting.Name) (w : List ℕ) → ¬ In (M.setting.of at) PathTerm.None w }
+    ensures empty { (at : M.setting.Name) (w : List ℕ) → In (M.setting.of at) PathTerm.Empty w
+        ↔ (w ≡ []) }
+    ensures class { (at : M.setting.Name) (k : ℕ) (w : List ℕ) →
+        In (M.setting.of at) (PathTerm.Class k) w
+        ↔ ((s : ℕ) × (w ≡ s ∷ []) × IsInClass (M.setting.of at) k s) }
+    ensures one { (at : M.setting.Name) (s : ℕ) (w : List ℕ) →
+        In (M.setting.of at) (PathTerm.One s) w ↔ (w ≡ s ∷ []) }
+    ensures union { (at : M.setting.Name) (x y : PathTerm) (w : List ℕ) →
+        In (M.setting.of at) (PathTerm.Union x y) w
+        ↔ (In (M.setting.of at) x w ⊎ In (M.setting.of at) y w) }
+    ensures concat { (at : M.setting.Name) (x y : PathTerm) (w : List ℕ) →
+        In (M.setting.of at) (PathTerm.Concat x y) w
+        ↔ Concatenation (In (M.setting.of at) x) (In (M.setting.of at) y) w }
+    ensures star { (at : M.setting.Name) (x : PathTerm) (w : List ℕ) →
+        In (M.setting.of at) (PathTerm.Star x) w ↔ Star (In (M.setting.of at) x) w }
+    ensures meet { (at : M.setting.Name) (x y : PathTerm) (w : List ℕ) →
+        In (M.setting.of at) (PathTerm.Meet x y) w
+        ↔ (In (M.setting.of at) x w × In (M.setting.of at) y w) }
+    ensures complement { (at : M.setting.Name) (x : PathTerm) (w : List ℕ) →
+        In (M.setting.of at) (PathTerm.Complement x) w
+        ↔ (IsPathWord (M.setting.of at).path_symbols w
+        × (¬ In (M.setting.of at) x w)) }
+    ensures before { (at : M.setting.Name) (w : List ℕ) → In (M.setting.of at) PathTerm.Pre w
+        ↔ (M.setting.of at).pre w }
+    ensures after { (at : M.setting.Name) (w : List ℕ) → In (M.setting.of at) PathTerm.Post w
+        ↔ (M.setting.of at).post w }
+    ensures image { (at : M.setting.Name) (x : PathTerm) (r : RelTerm) (v : List ℕ) →
+        In (M.setting.of at) (PathTerm.Image x r) v
+        ↔ ImageOf (In (M.setting.of at) x) (InR (M.setting.of at) r) v }
 {}
 
 /// The pairs of words of a relation term, by its form and what its parts mean.
 pub fn rel_terms_mean<M: Reading>()
-    ensures identity { (x : PathTerm) (u v : List ℕ) →
-        InR M.setting (RelTerm.Identity x) u v ↔ ((u ≡ v) × In M.setting x u) }
-    ensures product { (x y : PathTerm) (u v : List ℕ) →
-        InR M.setting (RelTerm.Product x y) u v ↔ (In M.setting x u × In M.setting y v) }
-    ensures union { (r s : RelTerm) (u v : List ℕ) →
-        InR M.setting (RelTerm.Union r s) u v ↔ (InR M.setting r u v ⊎ InR M.setting s u v) }
-    ensures concat { (r s : RelTerm) (u v : List ℕ) →
-        InR M.setting (RelTerm.Concat r s) u v ↔
-        PairConcatenation (InR M.setting r) (InR M.setting s) u v }
-    ensures star { (r : RelTerm) (u v : List ℕ) →
-        InR M.setting (RelTerm.Star r) u v ↔ PairStar (InR M.setting r) u v }
-    ensures compose { (r s : RelTerm) (u v : List ℕ) →
-        InR M.setting (RelTerm.Compose r s) u v ↔
-        Composition (InR M.setting r) (InR M.setting s) u v }
+    ensures identity { (at : M.setting.Name) (x : PathTerm) (u v : List ℕ) →
+        InR (M.setting.of at) (RelTerm.Identity x) u v ↔ ((u ≡ v) × In (M.setting.of at) x u) }
+    ensures product { (at : M.setting.Name) (x y : PathTerm) (u v : List ℕ) →
+        InR (M.setting.of at) (RelTerm.Product x y) u v
+        ↔ (In (M.setting.of at) x u × In (M.setting.of at) y v) }
+    ensures union { (at : M.setting.Name) (r s : RelTerm) (u v : List ℕ) →
+        InR (M.setting.of at) (RelTerm.Union r s) u v
+        ↔ (InR (M.setting.of at) r u v ⊎ InR (M.setting.of at) s u v) }
+    ensures concat { (at : M.setting.Name) (r s : RelTerm) (u v : List ℕ) →
+        InR (M.setting.of at) (RelTerm.Concat r s) u v ↔
+        PairConcatenation (InR (M.setting.of at) r) (InR (M.setting.of at) s) u v }
+    ensures star { (at : M.setting.Name) (r : RelTerm) (u v : List ℕ) →
+        InR (M.setting.of at) (RelTerm.Star r) u v ↔ PairStar (InR (M.setting.of at) r) u v }
+    ensures compose { (at : M.setting.Name) (r s : RelTerm) (u v : List ℕ) →
+        InR (M.setting.of at) (RelTerm.Compose r s) u v ↔
+        Composition (InR (M.setting.of at) r) (InR (M.setting.of at) s) u v }
 {}
 
 /// A word is some words of a set one after another where it is empty, or one of them and then some more.
@@ -73,12 +75,19 @@ pub fn star_unfolds<X: WordSet>()
         Star X.contains w ↔ ((w ≡ []) ⊎ Concatenation X.contains (Star X.contains) w) }
 {}
 
+/// Whether a term names neither path set, by its form.
+pub fn fixed_terms_by_form()
+    ensures { FixedForms }
+{}
+
 /// A term that names neither path set means the same whatever they are.
-pub fn fixed_terms_mean_the_same<M: Reading, N: Reading>()
-    ensures paths { Alike M.setting N.setting → (x : PathTerm) → IsFixed x →
-        (w : List ℕ) → In M.setting x w ↔ In N.setting x w }
-    ensures relations { Alike M.setting N.setting → (r : RelTerm) → IsFixedR r →
-        (u v : List ℕ) → InR M.setting r u v ↔ InR N.setting r u v }
+pub fn fixed_terms_mean_the_same<M: Reading>()
+    ensures paths { (at other : M.setting.Name) → Alike (M.setting.of at) (M.setting.of other) →
+        (x : PathTerm) → IsFixed x →
+        (w : List ℕ) → In (M.setting.of at) x w ↔ In (M.setting.of other) x w }
+    ensures relations { (at other : M.setting.Name) →
+        Alike (M.setting.of at) (M.setting.of other) → (r : RelTerm) → IsFixedR r →
+        (u v : List ℕ) → InR (M.setting.of at) r u v ↔ InR (M.setting.of other) r u v }
 {}
 
 /// The nodes and the depth of a path term, by its form and those of its parts.

@@ -20,17 +20,14 @@ mod value;
 
 pub use agreement_laws::{licences_carry_over, scenes_alike};
 pub use assertion::Assertion;
-pub use built_laws::{
-    built_path_terms_are_placed, built_path_terms_are_placed_exactly, built_rel_terms_are_placed,
-    built_rel_terms_are_placed_exactly,
-};
+pub use built_laws::{built_terms_are_placed, path_states_are_placed};
 pub use inside_laws::{
     complemented_parts_of_path_terms, complemented_parts_of_rel_terms, complements_inside,
-    reached_inside_path_terms, reached_inside_rel_terms,
+    complements_of_fixed_terms, reached_inside_path_terms, reached_inside_rel_terms,
 };
 pub use laws::{
-    Reading, fixed_terms_mean_the_same, path_terms_mean, rel_terms_mean, sizes_of_path_terms,
-    sizes_of_rel_terms, star_unfolds, terms_are_no_deeper_than_large,
+    Reading, fixed_terms_by_form, fixed_terms_mean_the_same, path_terms_mean, rel_terms_mean,
+    sizes_of_path_terms, sizes_of_rel_terms, star_unfolds, terms_are_no_deeper_than_large,
 };
 pub use limit_laws::{Staging, forced_is_licensed, places_tell_what_follows};
 pub use place_laws::{
@@ -39,9 +36,6 @@ pub use place_laws::{
 };
 pub use set::SymbolSet;
 pub use size::{depth, nodes};
-pub use table_laws::{
-    PairReaching, Reaching, reached_pairs_are_places, reached_states_are_places,
-    states_reached_alike, tables_carry_over, told_words_are_places, words_that_agree,
-};
+pub use table_laws::{Machinery, reached_states_are_places, tables_carry_over, words_that_agree};
 pub use term::{PathTerm, RelTerm};
 pub use value::Value;

@@ -2,37 +2,37 @@ use Rattle.rela_rir.proofs.PlaceForms as forms
 use Rattle.rela_rir.proofs.place_laws.places_of_path_terms.Goals as goal
 
 pub returns-clause-none : goal.returns-clause-none
-returns-clause-none g c p w = forms.at_place (forms.at_none g.M.Staging.scene) p w
+returns-clause-none g c at p w = forms.at_place (forms.at_none (g.M.Staging.scene.of at)) p w
 
 pub returns-clause-empty : goal.returns-clause-empty
-returns-clause-empty g c p w = forms.at_place (forms.at_empty g.M.Staging.scene) p w
+returns-clause-empty g c at p w = forms.at_place (forms.at_empty (g.M.Staging.scene.of at)) p w
 
 pub returns-clause-class : goal.returns-clause-class
-returns-clause-class g c entry p w = forms.at_place (forms.at_class g.M.Staging.scene entry) p w
+returns-clause-class g c at entry p w = forms.at_place (forms.at_class (g.M.Staging.scene.of at) entry) p w
 
 pub returns-clause-one : goal.returns-clause-one
-returns-clause-one g c s p w = forms.at_place (forms.at_one g.M.Staging.scene s) p w
+returns-clause-one g c at s p w = forms.at_place (forms.at_one (g.M.Staging.scene.of at) s) p w
 
 pub returns-clause-union : goal.returns-clause-union
-returns-clause-union g c x y p w = forms.at_place (forms.at_union g.M.Staging.scene x y) p w
+returns-clause-union g c at x y p w = forms.at_place (forms.at_union (g.M.Staging.scene.of at) x y) p w
 
 pub returns-clause-concat : goal.returns-clause-concat
-returns-clause-concat g c x y p w = forms.at_place (forms.at_concat g.M.Staging.scene x y) p w
+returns-clause-concat g c at x y p w = forms.at_place (forms.at_concat (g.M.Staging.scene.of at) x y) p w
 
 pub returns-clause-star : goal.returns-clause-star
-returns-clause-star g c x p w = forms.at_place (forms.at_star g.M.Staging.scene x) p w
+returns-clause-star g c at x p w = forms.at_place (forms.at_star (g.M.Staging.scene.of at) x) p w
 
 pub returns-clause-meet : goal.returns-clause-meet
-returns-clause-meet g c x y p w = forms.at_place (forms.at_meet g.M.Staging.scene x y) p w
+returns-clause-meet g c at x y p w = forms.at_place (forms.at_meet (g.M.Staging.scene.of at) x y) p w
 
 pub returns-clause-complement : goal.returns-clause-complement
-returns-clause-complement g c x p w = forms.at_place (forms.at_complement g.M.Staging.scene x) p w
+returns-clause-complement g c at x p w = forms.at_place (forms.at_complement (g.M.Staging.scene.of at) x) p w
 
 pub returns-clause-before : goal.returns-clause-before
-returns-clause-before g c p w = forms.at_place (forms.at_pre g.M.Staging.scene) p w
+returns-clause-before g c at p w = forms.at_place (forms.at_pre (g.M.Staging.scene.of at)) p w
 
 pub returns-clause-after : goal.returns-clause-after
-returns-clause-after g c p w = forms.at_place (forms.at_post g.M.Staging.scene) p w
+returns-clause-after g c at p w = forms.at_place (forms.at_post (g.M.Staging.scene.of at)) p w
 
 pub returns-clause-image : goal.returns-clause-image
-returns-clause-image g c x r p w = forms.at_place (forms.at_image g.M.Staging.scene x r) p w
+returns-clause-image g c at x r p w = forms.at_place (forms.at_image (g.M.Staging.scene.of at) x r) p w
