@@ -7,3 +7,4 @@ pub mod Claims
 pub mod Equals
 pub mod Meanings
 pub mod Verdicts
+pub mod FixedTerms

@@ -1,5 +1,6 @@
 //! What the terms of a body mean. Each law is a function that does nothing, and its contract is the law.
 ghost use Rattle.std.specs.Prelude.{◌≡◌, ℕ, ◌↔◌, List};
+ghost use Rattle.rela_rir.specs.Fixed.{IsFixed, IsFixedR};
 ghost use Rattle.rela_rir.specs.Words.{ImageOf};
 ghost use Rattle.rela_rir.specs.Meaning.{In, InR};
 ghost use Rattle.rela_rir.specs.declared.set.SymbolSet.{SymbolSet};
@@ -10,21 +11,33 @@ ghost use Rattle.rela_translate.specs.Checked.{Checked};
 
 use crate::body::Core;
 use rela_names::WordSet;
-use rela_rir::{PathTerm, Reading};
+use rela_rir::{PathTerm, Reading, fixed_terms_by_form};
 
 /// Whatever the paths before and after the change are, the terms of a body have the words of its zone
 /// and the pairs of its two relations.
 pub fn terms_mean_the_body<M: Reading>()
-    ensures zone { (locations : ℕ) (body : Core) → M.setting.path_symbols
-        ≡ path_symbols locations → (w : List ℕ) →
-        In M.setting (zone_of locations body) w ↔ Zone M.setting.classes locations body w }
-    ensures before { (locations : ℕ) (body : Core) → M.setting.path_symbols
-        ≡ path_symbols locations → (u v : List ℕ) →
-        InR M.setting (before_of locations body) u v ↔ Before M.setting.classes locations body u v }
-    ensures after { (locations : ℕ) (body : Core) → M.setting.path_symbols
-        ≡ path_symbols locations → (u v : List ℕ) →
-        InR M.setting (after_of locations body) u v ↔ After M.setting.classes locations body u v }
+    ensures zone { (at : M.setting.Name) (locations : ℕ) (body : Core) →
+        (M.setting.of at).path_symbols ≡ path_symbols locations → (w : List ℕ) →
+        In (M.setting.of at) (zone_of locations body) w
+        ↔ Zone (M.setting.of at).classes locations body w }
+    ensures before { (at : M.setting.Name) (locations : ℕ) (body : Core) →
+        (M.setting.of at).path_symbols ≡ path_symbols locations → (u v : List ℕ) →
+        InR (M.setting.of at) (before_of locations body) u v
+        ↔ Before (M.setting.of at).classes locations body u v }
+    ensures after { (at : M.setting.Name) (locations : ℕ) (body : Core) →
+        (M.setting.of at).path_symbols ≡ path_symbols locations → (u v : List ℕ) →
+        InR (M.setting.of at) (after_of locations body) u v
+        ↔ After (M.setting.of at).classes locations body u v }
 {}
+
+/// The terms of a body name neither of the two path sets.
+pub fn terms_name_no_paths()
+    ensures zone { (locations : ℕ) (body : Core) → IsFixed (zone_of locations body) }
+    ensures before { (locations : ℕ) (body : Core) → IsFixedR (before_of locations body) }
+    ensures after { (locations : ℕ) (body : Core) → IsFixedR (after_of locations body) }
+{
+    fixed_terms_by_form();
+}
 
 /// A body changes only what it speaks of: the first word of a pair of either relation is in its zone.
 pub fn changed_paths_are_in_the_zone()
@@ -37,14 +50,14 @@ pub fn changed_paths_are_in_the_zone()
 /// The images of a body's two relations are those that their terms give of the paths before and after
 /// the change.
 pub fn images_mean_the_body<M: Reading>()
-    ensures before { (locations : ℕ) (body : Core) → M.setting.path_symbols
-        ≡ path_symbols locations → (v : List ℕ) →
-        In M.setting (PathTerm.Image PathTerm.Pre (before_of locations body)) v
-        ↔ ImageOf M.setting.pre (Before M.setting.classes locations body) v }
-    ensures after { (locations : ℕ) (body : Core) → M.setting.path_symbols
-        ≡ path_symbols locations → (v : List ℕ) →
-        In M.setting (PathTerm.Image PathTerm.Post (after_of locations body)) v
-        ↔ ImageOf M.setting.post (After M.setting.classes locations body) v }
+    ensures before { (at : M.setting.Name) (locations : ℕ) (body : Core) →
+        (M.setting.of at).path_symbols ≡ path_symbols locations → (v : List ℕ) →
+        In (M.setting.of at) (PathTerm.Image PathTerm.Pre (before_of locations body)) v
+        ↔ ImageOf (M.setting.of at).pre (Before (M.setting.of at).classes locations body) v }
+    ensures after { (at : M.setting.Name) (locations : ℕ) (body : Core) →
+        (M.setting.of at).path_symbols ≡ path_symbols locations → (v : List ℕ) →
+        In (M.setting.of at) (PathTerm.Image PathTerm.Post (after_of locations body)) v
+        ↔ ImageOf (M.setting.of at).post (After (M.setting.of at).classes locations body) v }
 {}
 
 /// Where a check is met, no word offends against it.

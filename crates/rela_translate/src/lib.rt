@@ -11,6 +11,6 @@ pub use body::{Change, Core, Expr};
 pub use checks::Check;
 pub use laws::{
     changed_paths_are_in_the_zone, images_mean_the_body, no_word_offends_where_met,
-    terms_mean_the_body,
+    terms_mean_the_body, terms_name_no_paths,
 };
 pub use translation::{Relations, translate, zone_term};
