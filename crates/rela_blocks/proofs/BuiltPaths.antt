@@ -12,10 +12,10 @@ use Rattle.rela_nfa.specs.Automaton.{Automaton, IsAutomaton, states}
 use Rattle.rela_nfa.specs.Relabelling.{blocks_of}
 use Rattle.rela_nfa.specs.Runs.{Accepts, Reach}
 use Rattle.rela_rir.specs.Built.{PathStates}
+use Rattle.rela_rir.specs.BuiltTerms.{PathPlaces}
 use Rattle.rela_rir.specs.Places.{NoParts, PartsApart, PathSetPlaces}
 use Rattle.rela_rir.specs.Tables.{IsExact}
-use Rattle.rela_rir.proofs.ExactTables as exact
-use Rattle.rela_rir.proofs.LeafTables as leaf
+use Rattle.rela_blocks.specs.GraphPaths.{graph_paths}
 use Rattle.rela_blocks.specs.Readable.{IsGraphReadable}
 use Rattle.rela_blocks.specs.Scenes.{arrivals_of}
 use Rattle.rela_blocks.proofs.PathLetters.{language_of, path_states, arrival_symbols, end_symbols, walk_nodes}
@@ -27,7 +27,7 @@ arrives_at_node g is level n w (before, walk, is_base) =
     subst (λ (k : ℕ). k < length g.nodes) (get_or_at before n [] 0 (length before) refl)
     (walk_nodes g is (before ++ n ∷ []) walk (length before) 0 within)
 
-pub built : (blocks : List ℕ) (g : Topology) → IsTopology g → (level : Level) (names : List (List ℕ)) (a : Automaton)
+pub built : PathPlaces graph_paths → (blocks : List ℕ) (g : Topology) → IsTopology g → (level : Level) (names : List (List ℕ)) (a : Automaton)
     → IsGraphReadable level names g blocks → IsAutomaton a → a.letters ≡ block_count blocks → states a ≡ length g.nodes + 2
     → ((w : List ℕ) → Reach a 0 w ↔ (w ≡ []))
     → ((k : ℕ) (w : List ℕ) → k < length g.nodes → All (λ s. s < length blocks) w → Reach a (1 + k) (blocks_of blocks w) ↔ Arrives g (locations g level) k w)
@@ -35,18 +35,19 @@ pub built : (blocks : List ℕ) (g : Topology) → IsTopology g → (level : Lev
     → ((w : List ℕ) → All (λ s. s < length blocks) w → Accepts a (blocks_of blocks w) ↔ Paths g level names w)
     → ((w : List ℕ) → Paths g level names w → All (λ s. s < path_symbols names) w)
     → IsBuilt (Unit {0}) blocks (Paths g level names) (PathSetPlaces (arrivals_of level names g)) (PartsApart NoParts NoParts) a
-built blocks g is level names a readable ok letters count begin nodes end language only =
+built placed blocks g is level names a readable ok letters count begin nodes end language only =
     let n = length g.nodes in
     let reads = language_of blocks (path_symbols names) (Paths g level names) a ok letters readable.symbols language only in
     let are : PathStates n (arrivals_of level names g) (Leads blocks a) =
     path_states blocks n (arrivals_of level names g) a ok letters count
     (arrival_symbols blocks g is level names readable.symbols readable.placed) (end_symbols blocks g is level names readable.symbols readable.placed) begin nodes end in
+    let places = placed (record { level = level; names = names; graph = g }) n (blocks, a) are in
     record {
       automaton = ok;
       letters = letters;
       language = reads;
-      table = leaf.path_table n;
-      placed = leaf.path_states n (arrivals_of level names g) (Leads blocks a) are;
-      exact = λ e. subst (λ (k : ℕ). IsExact k (Leads blocks a) (PathSetPlaces (arrivals_of level names g)) (leaf.path_table n)) (omega (arith, count))
-          (exact.path_states n (arrivals_of level names g) (Leads blocks a) are (arrives_at_node g is level));
+      table = places.table;
+      placed = places.is_table;
+      exact = λ e. subst (λ (k : ℕ). IsExact k (Leads blocks a) (PathSetPlaces (arrivals_of level names g)) places.table) (omega (arith, count))
+          (places.exact (arrives_at_node g is level));
     }

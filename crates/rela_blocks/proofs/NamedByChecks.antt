@@ -1,4 +1,4 @@
--- The terms of a body name drop and the body's markers alone.
+-- The terms of a body name `drop` and the body's markers alone, by what is known of the forms of terms.
 use Rattle.std.proofs.Common.{◌≡◌, ℕ, List, [], ◌∷◌, ◌++◌, sym, subst, arith}
 use Rattle.std.proofs.lemmas.List.Elements.{Contains-append_left, Contains-append_right, Contains-get_or}
 use Rattle.std.specs.Prelude.{Contains}
@@ -7,23 +7,27 @@ use Rattle.rela_rir.specs.declared.term.RelTerm.{RelTerm}
 use Rattle.rela_rir.specs.declared.term.PathTerm.TheVariants as P
 use Rattle.rela_rir.specs.declared.term.RelTerm.TheVariants as R
 use Rattle.rela_translate.specs.Zones.{drop_symbol, marker_symbol}
-use Rattle.rela_translate.specs.Terms.{path_of, Terms, unit_terms, layer_terms, terms_of, zone_of, before_of, after_of, without, outside}
+use Rattle.rela_translate.specs.Terms.{layer_path, path_of, Terms, unit_terms, layer_terms, terms_of, zone_of, before_of, after_of, without, outside}
 use Rattle.rela_translate.specs.Checked.{change_markers, layer_markers, markers_of}
-use Rattle.rela_translate.proofs.TermForms.{path_roll, terms_roll}
 use Rattle.rela_translate.specs.declared.body.Expr.{Expr}
 use Rattle.rela_translate.specs.declared.body.Expr.TheOpen as E
 use Rattle.rela_translate.specs.declared.body.Expr.TheViews.{roll-Expr}
-use Rattle.rela_translate.specs.declared.body.Expr.TheFolds.{map-Expr, ind-Expr}
+use Rattle.rela_translate.specs.declared.body.Expr.TheFolds.{fold-roll-Expr, map-Expr, ind-Expr}
 use Rattle.rela_translate.specs.declared.body.Change.{Change}
 use Rattle.rela_translate.specs.declared.body.Change.TheVariants.{Preserve, Add, Remove, Replace, Drop, AnyOf, Ignore}
 use Rattle.rela_translate.specs.declared.body.Core.{Core}
 use Rattle.rela_translate.specs.declared.body.Core.TheOpen as C
 use Rattle.rela_translate.specs.declared.body.Core.TheViews.{roll-Core}
 use Rattle.rela_translate.specs.declared.body.Core.TheFolds.{map-Core, ind-Core, fold-roll-Core}
-use Rattle.rela_build.specs.Named.{Names, NamesR}
-use Rattle.rela_build.proofs.NamedForms.{closed, names_class, names_empty, names_one, names_union, names_concat, names_star, names_meet, names_complement, names_identity, names_product, names_union_r, names_concat_r, names_compose}
+use Rattle.rela_build.specs.Named.{Names, NamedForms, NamesR}
 
-module _ (Q : ℕ → Type 0) where
+path_roll : (x : E.Expr-F Expr) → path_of (roll-Expr x) ≡ layer_path (map-Expr Expr PathTerm path_of x)
+path_roll x = fold-roll-Expr PathTerm layer_path x
+
+terms_roll : (n : ℕ) (x : C.Core-F Core) → terms_of n (roll-Core x) ≡ layer_terms n (map-Core Core Terms (terms_of n) x)
+terms_roll n x = fold-roll-Core Terms (layer_terms n) x
+
+module _ (Q : ℕ → Type 0) (forms : NamedForms Q) where
   abbrev NamesIn : Expr → Type 0
   NamesIn e = Names Q (path_of e)
 
@@ -31,40 +35,40 @@ module _ (Q : ℕ → Type 0) where
   by_path t t' is names = subst (Names Q) (sym is) names
 
   layer : (y : E.Expr-F ((e : Expr) × NamesIn e)) → NamesIn (roll-Expr (map-Expr ((e : Expr) × NamesIn e) Expr (λ e. e.0) y))
-  layer E.Empty = by_path _ P.Empty (path_roll E.Empty) (closed (names_empty Q) tt)
-  layer (E.Class k) = by_path _ (P.Class k) (path_roll (E.Class k)) (closed (names_class Q k) tt)
-  layer (E.Seq a b) = by_path _ (P.Concat (path_of a.0) (path_of b.0)) (path_roll (E.Seq a.0 b.0)) (closed (names_concat Q (path_of a.0) (path_of b.0)) (a.1, b.1))
-  layer (E.Alt a b) = by_path _ (P.Union (path_of a.0) (path_of b.0)) (path_roll (E.Alt a.0 b.0)) (closed (names_union Q (path_of a.0) (path_of b.0)) (a.1, b.1))
-  layer (E.Meet a b) = by_path _ (P.Meet (path_of a.0) (path_of b.0)) (path_roll (E.Meet a.0 b.0)) (closed (names_meet Q (path_of a.0) (path_of b.0)) (a.1, b.1))
-  layer (E.Not a) = by_path _ (P.Complement (path_of a.0)) (path_roll (E.Not a.0)) (closed (names_complement Q (path_of a.0)) a.1)
-  layer (E.Star a) = by_path _ (P.Star (path_of a.0)) (path_roll (E.Star a.0)) (closed (names_star Q (path_of a.0)) a.1)
+  layer E.Empty = by_path _ P.Empty (path_roll E.Empty) forms.empty
+  layer (E.Class k) = by_path _ (P.Class k) (path_roll (E.Class k)) (forms.class k)
+  layer (E.Seq a b) = by_path _ (P.Concat (path_of a.0) (path_of b.0)) (path_roll (E.Seq a.0 b.0)) ((forms.concat (path_of a.0) (path_of b.0)).1 (a.1, b.1))
+  layer (E.Alt a b) = by_path _ (P.Union (path_of a.0) (path_of b.0)) (path_roll (E.Alt a.0 b.0)) ((forms.union (path_of a.0) (path_of b.0)).1 (a.1, b.1))
+  layer (E.Meet a b) = by_path _ (P.Meet (path_of a.0) (path_of b.0)) (path_roll (E.Meet a.0 b.0)) ((forms.meet (path_of a.0) (path_of b.0)).1 (a.1, b.1))
+  layer (E.Not a) = by_path _ (P.Complement (path_of a.0)) (path_roll (E.Not a.0)) ((forms.complement (path_of a.0)).1 a.1)
+  layer (E.Star a) = by_path _ (P.Star (path_of a.0)) (path_roll (E.Star a.0)) ((forms.star (path_of a.0)).1 a.1)
 
   words : (e : Expr) → Names Q (path_of e)
   words = ind-Expr NamesIn (λ x y is. subst (λ z. NamesIn (roll-Expr z)) is (layer y))
 
   union : (x y : PathTerm) → Names Q x → Names Q y → Names Q (P.Union x y)
-  union x y f g = closed (names_union Q x y) (f, g)
+  union x y f g = (forms.union x y).1 (f, g)
 
   meet : (x y : PathTerm) → Names Q x → Names Q y → Names Q (P.Meet x y)
-  meet x y f g = closed (names_meet Q x y) (f, g)
+  meet x y f g = (forms.meet x y).1 (f, g)
 
   left_out : (x y : PathTerm) → Names Q x → Names Q y → Names Q (without x y)
-  left_out x y f g = meet x (P.Complement y) f (closed (names_complement Q y) g)
+  left_out x y f g = meet x (P.Complement y) f ((forms.complement y).1 g)
 
   one : (s : ℕ) → Q s → Names Q (P.One s)
-  one s q = closed (names_one Q s) q
+  one s q = (forms.one s).1 q
 
   identity : (x : PathTerm) → Names Q x → NamesR Q (R.Identity x)
-  identity x f = closed (names_identity Q x) f
+  identity x f = (forms.identity x).1 f
 
   product : (x y : PathTerm) → Names Q x → Names Q y → NamesR Q (R.Product x y)
-  product x y f g = closed (names_product Q x y) (f, g)
+  product x y f g = (forms.product x y).1 (f, g)
 
   union_r : (r s : RelTerm) → NamesR Q r → NamesR Q s → NamesR Q (R.Union r s)
-  union_r r s f g = closed (names_union_r Q r s) (f, g)
+  union_r r s f g = (forms.either r s).1 (f, g)
 
   outside_r : (x : PathTerm) (r : RelTerm) → Names Q x → NamesR Q r → NamesR Q (outside x r)
-  outside_r x r f g = closed (names_compose Q (R.Identity (P.Complement x)) r) (identity (P.Complement x) (closed (names_complement Q x) f), g)
+  outside_r x r f g = (forms.compose (R.Identity (P.Complement x)) r).1 (identity (P.Complement x) ((forms.complement x).1 f), g)
 
   -- the three terms name only symbols with Q
   record AreNamed (terms : Terms) : Type 0 where
@@ -136,9 +140,9 @@ module _ (Q : ℕ → Type 0) where
         let a = s.1 (front_fine (markers_of s.0) (markers_of t.0) both) in
         let b = t.1 (rest_fine (markers_of s.0) (markers_of t.0) both) in
         by_terms _ (layer_terms n (C.Then (terms_of n s.0) (terms_of n t.0))) (terms_roll n (C.Then s.0 t.0)) (record {
-          zone = closed (names_concat Q (zone_of n s.0) (zone_of n t.0)) (a.zone, b.zone);
-          before = closed (names_concat_r Q (before_of n s.0) (before_of n t.0)) (a.before, b.before);
-          after = closed (names_concat_r Q (after_of n s.0) (after_of n t.0)) (a.after, b.after);
+          zone = (forms.concat (zone_of n s.0) (zone_of n t.0)).1 (a.zone, b.zone);
+          before = (forms.joined (before_of n s.0) (before_of n t.0)).1 (a.before, b.before);
+          after = (forms.joined (after_of n s.0) (after_of n t.0)).1 (a.after, b.after);
         })
     layer_named (C.Else s t) fine =
         let both : AreFine (markers_of s.0 ++ markers_of t.0) = subst AreFine (markers_roll (C.Else s.0 t.0)) fine in
@@ -158,3 +162,6 @@ module _ (Q : ℕ → Type 0) where
 
     pub after_names : (body : Core) → ((k : ℕ) → Contains (markers_of body) k → Q (marker_symbol n k)) → NamesR Q (after_of n body)
     after_names body fine = (named body fine).after
+
+    pub zone_names : (body : Core) → ((k : ℕ) → Contains (markers_of body) k → Q (marker_symbol n k)) → Names Q (zone_of n body)
+    zone_names body fine = (named body fine).zone

@@ -17,11 +17,12 @@ use Rattle.rela_nfa.specs.Relabelling.{Refines}
 use Rattle.rela_translate.specs.Checked.{Checked, IsCheck, markers_of}
 use Rattle.rela_translate.specs.Terms.{after_of, before_of}
 use Rattle.rela_translate.specs.Zones.{marker_symbol}
+use Rattle.rela_translate.specs.declared.body.Core.{Core}
+use Rattle.rela_blocks.specs.Alone.{AreOthersAlone}
 use Rattle.rela_blocks.specs.Blocks.{AreBlocks, AreOne}
 use Rattle.rela_blocks.specs.Readable.{IsGraphReadable}
 use Rattle.rela_blocks.specs.RowBlocks.{AreCheckBlocks, AreRowBlocks, check_symbols_apart, node_symbols, symbols_of}
 use Rattle.rela_blocks.specs.Scenes.{lettering_of}
-use Rattle.rela_blocks.proofs.NamedByChecks.{before_names, after_names}
 
 -- a number from first on and below the end is in the range
 pub in_range : (first n s : ℕ) → first ≤ s → s < first + n → Contains (range_with_len first n) s
@@ -60,6 +61,11 @@ range_from first count i d within =
     let at = get_or-range_with_len first count i d inside in
     omega (arith, at)
 
+-- each symbol that the two relations of a body name is a block of its own where `drop` and the markers are
+pub record NamesAlone : Type 0 where
+  pub before : (blocks : List ℕ) (n : ℕ) (body : Core) → AreOthersAlone blocks n body → NamesR (IsAlone blocks) (before_of n body)
+  pub after : (blocks : List ℕ) (n : ℕ) (body : Core) → AreOthersAlone blocks n body → NamesR (IsAlone blocks) (after_of n body)
+
 -- the symbols u are set apart in the finer partition
 abbrev AreApart : List ℕ → ℕ → ℕ → Type 0
 AreApart symbols s t = (u : ℕ) → Contains symbols u → (s ≡ u) ↔ (t ≡ u)
@@ -87,11 +93,8 @@ module _ (check : Checked) (n : ℕ) where
         let high : k < 1 + m = All-contains (λ s. s < 1 + m) (range_with_len 1 m) k (range_below 1 m (1 + m) (omega arith)) among in
         apart (marker_symbol n k) (omega arith) (omega (arith, low, high))
 
-    before_alone : NamesR (IsAlone blocks) (before_of n check.body)
-    before_alone = before_names (IsAlone blocks) n (apart n (omega arith) (omega arith)) check.body marked
-
-    after_alone : NamesR (IsAlone blocks) (after_of n check.body)
-    after_alone = after_names (IsAlone blocks) n (apart n (omega arith) (omega arith)) check.body marked
+    others_alone : AreOthersAlone blocks n check.body
+    others_alone = record { drop = apart n (omega arith) (omega arith); markers = marked }
 
   -- blocks that split those of a check
   lettered : (blocks : List ℕ) → length blocks ≡ symbols_of check n → IsPartition blocks → ((s : ℕ) → n ≤ s → IsSymbol s → IsAlone blocks s)
@@ -110,7 +113,7 @@ module _ (check : Checked) (n : ℕ) where
 
   -- ---- the blocks of the check
 
-  module _ (split blocks : List ℕ) (few : length split ≡ symbols_of check n)
+  module _ (law : NamesAlone) (split blocks : List ℕ) (few : length split ≡ symbols_of check n)
       (alike : (s t : ℕ) → IsSymbol s → IsSymbol t → Together split s t → AreListedAlike check.classes s t)
       (size : length blocks ≡ length split) (partition : IsPartition blocks)
       (together : (s t : ℕ) → s < length split → t < length split → Together blocks s t ↔ (Together split s t × AreApart tail s t)) (is : IsCheck check) where
@@ -128,18 +131,18 @@ module _ (check : Checked) (n : ℕ) where
           alike s t (omega (arith, s_in, size, few)) (omega (arith, t_in, size, few))
           ((together s t (omega (arith, s_in, size)) (omega (arith, t_in, size))).0 one).0);
       apart = tail_alone;
-      before = before_alone blocks tail_alone is;
-      after = after_alone blocks tail_alone is;
+      before = law.before blocks n check.body (others_alone blocks tail_alone is);
+      after = law.after blocks n check.body (others_alone blocks tail_alone is);
     }
 
-  pub check_result : {E : Type 0} (split symbols : List ℕ) (r : Result (List ℕ) E) → symbols ≡ tail → length split ≡ symbols_of check n
+  pub check_result : {E : Type 0} → NamesAlone → (split symbols : List ℕ) (r : Result (List ℕ) E) → symbols ≡ tail → length split ≡ symbols_of check n
       → ((s t : ℕ) → IsSymbol s → IsSymbol t → Together split s t ↔ AreListedAlike check.classes s t)
       → IfOk r (λ blocks. length blocks ≡ length split) → IfOk r IsPartition
       → IfOk r (λ blocks. (s t : ℕ) → s < length split → t < length split → Together blocks s t ↔ (Together split s t × AreApart symbols s t))
       → IsCheck check → IfOk r (AreCheckBlocks check n)
-  check_result split symbols (Err e) gathered few alike size partition together is = tt
-  check_result split symbols (Ok blocks) gathered few alike size partition together is =
-      are_check_blocks split blocks few (λ s t s_in t_in. (alike s t s_in t_in).0) size partition
+  check_result law split symbols (Err e) gathered few alike size partition together is = tt
+  check_result law split symbols (Ok blocks) gathered few alike size partition together is =
+      are_check_blocks law split blocks few (λ s t s_in t_in. (alike s t s_in t_in).0) size partition
       (subst (λ (l : List ℕ). (s t : ℕ) → s < length split → t < length split → Together blocks s t ↔ (Together split s t × AreApart l s t)) gathered together) is
 
   -- ---- which symbols of the check share one
@@ -241,12 +244,12 @@ module _ (check : Checked) (names : List (List ℕ)) (pre post : Topology) where
       loops = stands (length names + 1) (still_alone (length names + 1) (omega arith) (omega arith));
     }
 
-    are_row_blocks : IsPlaced pre → IsPlaced post → AreRowBlocks check names pre post fine
-    are_row_blocks pre_placed post_placed = record {
+    are_row_blocks : NamesAlone → IsPlaced pre → IsPlaced post → AreRowBlocks check names pre post fine
+    are_row_blocks law pre_placed post_placed = record {
       letters = lettered check (length names) fine (omega (arith, size, few)) partition still_alone (λ s t s_in t_in one.
           are.letters.of_classes s t (omega (arith, s_in, size)) (omega (arith, t_in, size)) (refines.together s t s_in t_in one));
-      before = before_alone check (length names) fine still_alone is;
-      after = after_alone check (length names) fine still_alone is;
+      before = law.before fine (length names) check.body (others_alone check (length names) fine still_alone is);
+      after = law.after fine (length names) check.body (others_alone check (length names) fine still_alone is);
       graphs = (
         readable pre pre_placed (λ s has. Contains-append_left (At pre) (At post) s has),
         readable post post_placed (λ s has. Contains-append_right (At pre) (At post) s has),
@@ -258,11 +261,11 @@ module _ (check : Checked) (names : List (List ℕ)) (pre post : Topology) where
     abbrev IsSplit : List ℕ → List ℕ → Type 0
     IsSplit l fine = (s t : ℕ) → s < length coarse → t < length coarse → Together fine s t ↔ (Together coarse s t × AreApart l s t)
 
-    pub row_result : {E : Type 0} (r : Result (List ℕ) E) → IfOk r (λ fine. length fine ≡ length coarse) → IfOk r IsPartition → IfOk r (IsSplit symbols)
+    pub row_result : {E : Type 0} → NamesAlone → (r : Result (List ℕ) E) → IfOk r (λ fine. length fine ≡ length coarse) → IfOk r IsPartition → IfOk r (IsSplit symbols)
         → IsPlaced pre → IsPlaced post → IfOk r (AreRowBlocks check names pre post)
-    row_result (Err e) size partition together pre_placed post_placed = tt
-    row_result (Ok fine) size partition together pre_placed post_placed =
-        are_row_blocks coarse fine are is size partition (subst (λ (l : List ℕ). IsSplit l fine) gathered together) pre_placed post_placed
+    row_result law (Err e) size partition together pre_placed post_placed = tt
+    row_result law (Ok fine) size partition together pre_placed post_placed =
+        are_row_blocks coarse fine are is size partition (subst (λ (l : List ℕ). IsSplit l fine) gathered together) law pre_placed post_placed
 
     pub finer_result : {E : Type 0} (r : Result (List ℕ) E) → IfOk r (λ fine. length fine ≡ length coarse) → IfOk r IsPartition → IfOk r (IsSplit symbols)
         → IfOk r (λ fine. Refines fine coarse)

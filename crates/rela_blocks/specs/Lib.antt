@@ -2,3 +2,5 @@ pub mod Scenes
 pub mod Readable
 pub mod RowBlocks
 pub mod Blocks
+pub mod Alone
+pub mod GraphPaths

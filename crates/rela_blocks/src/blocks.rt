@@ -8,6 +8,7 @@ ghost use Rattle.rela_translate.specs.Checked.{IsCheck, markers_of};
 ghost use Rattle.rela_blocks.specs.Blocks.{AreBlocks};
 ghost use Rattle.rela_blocks.specs.RowBlocks.{AreCheckBlocks, AreRowBlocks, check_symbols_apart, node_symbols, symbols_of};
 
+use crate::laws::named_symbols_are_alone;
 use crate::markers::count_markers;
 use crate::split::blocks_of_classes;
 use rela_graph::push_locations;
@@ -32,6 +33,7 @@ pub fn check_blocks(
     ensures together { IfOk result (AreBlocks check.now (length alphabet.now)) }
 {
     let symbols = symbols_of(check, alphabet);
+    named_symbols_are_alone();
     let split = blocks_of_classes(alloc, check.classes(), symbols)?;
     let apart = set_apart(alloc, check, alphabet)?;
     split.with_alone(alloc, apart.as_slice())
@@ -57,6 +59,7 @@ pub fn row_blocks(
 {
     // By what each check keeps, its markers are numbered from 1 on.
     let _ = check.body();
+    named_symbols_are_alone();
     let nodes = node_locations(alloc, check, pair)?;
     blocks.with_alone(alloc, nodes.as_slice())
 }

@@ -3,6 +3,7 @@ ghost use Rattle.std.specs.Prelude.{IfOk};
 ghost use Rattle.rela_build.specs.Made.{IsBuilt};
 ghost use Rattle.rela_graph.specs.Paths.{Paths};
 ghost use Rattle.rela_rir.specs.Places.{NoParts, PartsApart, PathSetPlaces};
+ghost use Rattle.rela_blocks.specs.GraphPaths.{graph_paths};
 ghost use Rattle.rela_blocks.specs.Readable.{AreGraphsReadable, IsGraphReadable};
 ghost use Rattle.rela_blocks.specs.Scenes.{arrivals_of, paths_of};
 
@@ -11,6 +12,7 @@ use rela_graph::{Graph, MAX_NODES};
 use rela_labels::{Partition, WideSet};
 use rela_names::{Alphabet, Level};
 use rela_nfa::Nfa;
+use rela_rir::{Machinery, path_states_are_placed};
 use std::alloc::{AllocError, Global};
 
 /// The paths of a flow before and after a change: those of two graphs at a level.
@@ -41,6 +43,13 @@ impl<'a> PathSets for FlowPaths<'a> {
     }
 }
 
+/// The paths of graphs, which only contracts name.
+struct GraphPaths;
+
+impl Machinery for GraphPaths {
+    ghost machines = { graph_paths };
+}
+
 /// The automaton of the graph's paths at the level, with a state for each place of them. The only
 /// error is want of memory.
 fn paths_of_graph(
@@ -54,6 +63,7 @@ fn paths_of_graph(
     ensures { IfOk result (IsBuilt (Unit {0}) blocks.now (Paths graph.now level alphabet.now)
         (PathSetPlaces (arrivals_of level alphabet.now graph.now)) (PartsApart NoParts NoParts)) }
 {
+    path_states_are_placed::<GraphPaths>();
     prove!(graph.nodes().len() <= MAX_NODES);
     let nfa = graph.to_nfa(alloc, level, alphabet, blocks)?;
     prove!(nfa.start() < nfa.states());

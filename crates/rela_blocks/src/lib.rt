@@ -4,11 +4,13 @@
 
 mod blocks;
 mod flow_paths;
+mod laws;
 mod letters;
 mod markers;
 mod split;
 
 pub use blocks::{check_blocks, row_blocks, symbols_of};
 pub use flow_paths::FlowPaths;
+pub use laws::named_symbols_are_alone;
 pub use letters::check_letters;
 pub use split::blocks_of_classes;

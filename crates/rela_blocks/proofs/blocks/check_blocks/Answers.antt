@@ -20,7 +20,7 @@ returns-clause-blocks c =
     let check = c.args.check.now in
     let n = length c.args.alphabet.now in
     let count : c.symbols_of-symbols.result ≡ symbols_of check n = c.symbols_of-symbols.ensures.count in
-    check_result check n c.in_ok-split.split c.as_slice.result.now c.with_alone.result
+    check_result check n (record { before = c.named_symbols_are_alone.ensures.before; after = c.named_symbols_are_alone.ensures.after }) c.in_ok-split.split c.as_slice.result.now c.with_alone.result
     (c.as_slice.ensures.value ∙ c.in_ok-apart.ensures) (c.in_ok-split.ensures.symbols ∙ count)
     (λ s t s_in t_in.
     subst (λ (classes : List SymbolSet). Together c.in_ok-split.split s t ↔ AreListedAlike classes s t) c.classes.ensures

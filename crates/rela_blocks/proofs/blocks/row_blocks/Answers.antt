@@ -20,7 +20,8 @@ returns-clause-blocks c =
     let check = c.args.check.now in
     let names = c.args.alphabet.now in
     row_result check names c.args.pair.now.before c.args.pair.now.after c.args.blocks.now c.as_slice.result.now
-    (c.as_slice.ensures.value ∙ c.in_ok-nodes.ensures) c.requires.blocks c.body.ensures.check c.with_alone.result
+    (c.as_slice.ensures.value ∙ c.in_ok-nodes.ensures) c.requires.blocks c.body.ensures.check
+    (record { before = c.named_symbols_are_alone.ensures.before; after = c.named_symbols_are_alone.ensures.after }) c.with_alone.result
     c.with_alone.ensures.symbols c.with_alone.ensures.partition c.with_alone.ensures.together
     (placed names check.level check.level (length names) c.args.pair.now.before refl refl c.requires.located.0)
     (placed names check.level check.level (length names) c.args.pair.now.after refl refl c.requires.located.1)
