@@ -1,7 +1,9 @@
 -- Right rows of the same assertions for the same flows agree.
-use Rattle.std.proofs.Common.{◌≡◌, ◌∙◌, ℕ, inl, inr, List, [], ◌∷◌, ◌++◌, map, refl, sym, ap, subst, append_assoc}
+use Rattle.std.proofs.Common.{◌≡◌, ◌≢◌, ◌⊎◌, ◌∙◌, ℕ, nat_eq, inl, inr, List, [], ◌∷◌, ◌++◌, map, refl, sym, ap, subst, append_assoc}
 use Rattle.std.specs.Prelude.{◌↔◌}
+use Rattle.std.specs.Cmp.Lexicographic.{other_text, pointwise, same_text}
 use Rattle.std.specs.List.{AllZip}
+use Rattle.std.proofs.lemmas.Bool.{cases_Bool}
 use Rattle.rela_claims.specs.declared.claim.Claim.{Claim}
 use Rattle.rela_claims.specs.declared.claim.Tree.{Tree}
 use Rattle.rela_claims.specs.declared.claim.Tree.TheOpen as T
@@ -14,9 +16,8 @@ use Rattle.rela_blocks.specs.Scenes.{paths_of}
 use Rattle.rela_engine.specs.Scenes.{SamePathSets}
 use Rattle.rela_engine.specs.declared.leaf.Leaf.{Leaf}
 use Rattle.rela_engine.specs.declared.leaf.Leaf.TheVariants.{Holds, Fails, Undecided}
-use Rattle.rela_names.specs.Shortlex.{First}
+use Rattle.rela_names.specs.Shortlex.{First, IsBefore}
 use Rattle.rela_names.specs.declared.level.Level.{Level}
-use Rattle.rela_names.proofs.ShortlexLaws.{same_first}
 use Rattle.rela_rir.specs.Assertions.{FailsBy, HoldsOnPaths, TellsAgainst, both_of, either_of, first_term, opposite_of, second_term}
 use Rattle.rela_rir.specs.Meaning.{In}
 use Rattle.rela_rir.specs.Places.{Scene}
@@ -196,6 +197,20 @@ value_each [] (o ∷ others) each = absurd each
 value_each (t ∷ told) [] each = absurd each
 value_each (t ∷ told) (o ∷ others) each = (value_agrees t o each.0, value_each told others each.1)
 
+-- of two different words one is before the other
+abbrev IsTotal : Type 0
+IsTotal = (u v : List ℕ) → u ≢ v → IsBefore u v ⊎ IsBefore v u
+
+-- so a set of words has one first word
+same_first : IsTotal → (X : List ℕ → Type 0) (u v : List ℕ) → First X u → First X v → u ≡ v
+same_first total X u v one two = elim (cases_Bool (pointwise nat_eq u v)) [
+  | inl same ↦ same_text u v (sym same)
+  | inr apart ↦ elim (total u v (other_text u v (sym apart))) [
+    | inl before ↦ absurd (two.least u one.member before)
+    | inr after ↦ absurd (one.least v two.member after)
+  ]
+]
+
 -- a word that tells against an assertion is in one of its terms alone
 alone : (m : Scene) (assertion : Assertion) (w : List ℕ) → TellsAgainst m.setting assertion w → In m.setting (first_term assertion) w → In m.setting (second_term assertion) w → ⊥
 alone m (Equal x y) w (path, inl tells) one two = tells.1 two
@@ -208,7 +223,7 @@ not_told m (Equal x y) w holds (path, inl tells) = tells.1 ((holds w path).0 tel
 not_told m (Equal x y) w holds (path, inr tells) = tells.0 ((holds w path).1 tells.1)
 not_told m (Included x y) w holds tells = tells.2 (holds w tells.0 tells.1)
 
-module _ (names : List (List ℕ)) (level : Level) (classes : List SymbolSet) (p q : FlowPair)
+module _ (total : IsTotal) (names : List (List ℕ)) (level : Level) (classes : List SymbolSet) (p q : FlowPair)
     (same : SamePathSets (paths_of level names p.before p.after) (paths_of level names q.before q.after)) where
   abbrev m : Scene
   m = scene_for names level classes p
@@ -241,7 +256,7 @@ module _ (names : List (List ℕ)) (level : Level) (classes : List SymbolSet) (p
 
     one_failure : (u v : List ℕ) (s t : Which) → FailsBy m.setting assertion (term_on s assertion) u → FailsBy n.setting assertion (term_on t assertion) v → Fails u s ≡ Fails v t
     one_failure u v s t one two =
-        let word : u ≡ v = same_first (TellsAgainst m.setting assertion) u v one.first (first_back v two.first) in
+        let word : u ≡ v = same_first total (TellsAgainst m.setting assertion) u v one.first (first_back v two.first) in
         let in_other : In m.setting (term_on t assertion) u = subst (λ (w : List ℕ). In m.setting (term_on t assertion) w) (sym word) ((words (term_on t assertion) v).1 two.in_term) in
         let sides : s ≡ t = one_side u s t one.first.member one.in_term in_other in
         ap (λ (w : List ℕ). Fails w s) word ∙ ap (λ (x : Which). Fails v x) sides
@@ -281,7 +296,7 @@ zip_three S R Q P on (a ∷ first) (b ∷ second) (x ∷ xs) (y ∷ ys) s r q = 
 abbrev Asked : Type 0
 Asked = FlowPair × Claim
 
-module _ (names : List (List ℕ)) (level : Level) (states : ℕ) where
+module _ (total : IsTotal) (names : List (List ℕ)) (level : Level) (states : ℕ) where
   row_agrees : (p q : FlowPair) (c d : Claim) (row other : AssertionRow) → AreFlowsAlike names level p q → AreClaimsAlike c d → IsRowOf names level states p c row
       → IsRowOf names level states q d other → AgreeInRow row other
   row_agrees p q c d row other flows claims one two =
@@ -289,7 +304,7 @@ module _ (names : List (List ℕ)) (level : Level) (states : ℕ) where
       subst (λ (t : Tree). AllZip (λ leaf told. LeafOf (scene_for names level d.classes.items q) leaf states told) (leaves_of t) other.leaves.items) (sym claims.tree) two.leaves in
       let here : AllZip (λ leaf told. LeafOf (scene_for names level c.classes.items q) leaf states told) (leaves_of c.tree) other.leaves.items =
       subst (λ (cs : List SymbolSet). AllZip (λ leaf told. LeafOf (scene_for names level cs q) leaf states told) (leaves_of c.tree) other.leaves.items) (sym claims.classes) trees in
-      let leaves = leaves_agree names level c.classes.items p q flows.paths states (leaves_of c.tree) row.leaves.items other.leaves.items one.leaves here in
+      let leaves = leaves_agree total names level c.classes.items p q flows.paths states (leaves_of c.tree) row.leaves.items other.leaves.items one.leaves here in
       let value : HasValue c.tree (map value_of other.leaves.items) other.value = subst (λ (t : Tree). HasValue t (map value_of other.leaves.items) other.value) (sym claims.tree) two.value in
       record {
         flow = one.flow ∙ ap (λ c. c.name) flows.class ∙ sym two.flow;

@@ -9,6 +9,7 @@ ghost use Rattle.rela_names.specs.declared.level.Level.{Level};
 ghost use Rattle.rela_snapshot.specs.declared.pairing.FlowPair.{FlowPair};
 
 use crate::row::AssertionRow;
+use rela_names::shortlex_is_total;
 
 /// Right rows of the same flows under the same assertions differ at most where one of them leaves
 /// something undecided: what doesn't hold has just one first word, and just one side has it.
@@ -19,4 +20,6 @@ pub fn right_rows_agree()
         AllZip (AreFlowsAlike names level) pairs others → AllZip AreClaimsAlike claims asserted →
         AreRowsOf names level states pairs claims rows →
         AreRowsOf names level states others asserted told → AgreeInRows rows told }
-{}
+{
+    shortlex_is_total();
+}

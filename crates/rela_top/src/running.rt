@@ -18,12 +18,13 @@ use rela_demonstrate::demonstrate;
 use rela_draw::draw;
 use rela_format::format;
 use rela_inputs::{
-    Answer, BAD_WORDS, Halt, NO_MEMORY, READ_FAULT, REFUSED, WRITE_FAULT, refusal_line,
+    Answer, BAD_WORDS, Halt, NO_MEMORY, READ_FAULT, REFUSED, WRITE_FAULT, refusal_line, steps_chain,
 };
 use rela_io::{Files, Sink};
 use rela_words::{Command, WordsError, read_words};
 use rela_zone::show_zone;
 use std::alloc::Global;
+use std::marker::Brand;
 
 /// Does what the words ask for, those after the program's name: reads `files`, writes the whole
 /// answer to `out`, and gives the exit status. The answer is made before any of it is written.
@@ -142,6 +143,7 @@ fn carry_out<F: Files>(alloc: Global, files: &mut F, command: &Command) -> Resul
         HoldsFiles (F.holds files.old) (command_of command.now) →
         result ≢ Err Halt.ReadFault }
 {
+    steps_chain::<Brand>();
     match command {
         Command::Check(check) => report_asked(alloc, files, check),
         Command::Fmt(fmt) => format(alloc, files, fmt.spec.as_str()),

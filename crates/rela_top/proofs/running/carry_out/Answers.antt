@@ -4,15 +4,13 @@ use Rattle.rela_io.specs.Held.{HoldsName}
 use Rattle.rela_words.specs.Commands.{command_of}
 use Rattle.rela_words.specs.Words.{Command, Fmt, Fib, Rir, Certify, Audit, Zone, HasNumbers}
 use Rattle.rela_inputs.specs.Answer.{answer_by}
-use Rattle.rela_change_report.specs.Reports.{SameReports}
-use Rattle.rela_demonstrate.specs.Demos.{Demos}
 use Rattle.rela_inputs.specs.Given.{IsGiven, seen}
 use Rattle.rela_top.specs.Operands.{HoldsFiles, given_to, operands_of}
 use Rattle.rela_top.specs.Outcome.{Outcome, SameAnswer}
 use Rattle.rela_inputs.specs.Reading.{Ends}
 use Rattle.rela_inputs.specs.declared.refusal.Input.{Input}
 use Rattle.rela_inputs.specs.declared.refusal.Input.TheVariants.{Locations, Before, After, Spec, Tables, Other, Assertions, Certificate}
-use Rattle.rela_inputs.proofs.GivenLaws.{read_given}
+use Rattle.rela_top.proofs.Points.{at_demo}
 use Rattle.rela_top.proofs.running.carry_out.Goals as goal
 
 same_fib : (t tables o other l locations : List ℕ) → t ≡ tables → o ≡ other → l ≡ locations → Fib t o l ≡ Fib tables other locations
@@ -156,7 +154,7 @@ pub returns-in-Demo-clause-given : goal.returns-in-Demo-clause-given
 returns-in-Demo-clause-given g c =
     subst (λ (x : Command). IsGiven (is_some (g.F.Files.holds c.args.files.now)) (g.F.Files.steady c.args.files.now) (SameAnswer x)
     (Outcome (g.F.Files.holds c.args.files.now) x) (seen answer_by c.demonstrate.result))
-    (sym (ap command_of c.in-Demo.is)) (read_given _ _ SameReports (Demos c.in-Demo.demo.layers) _ c.demonstrate.ensures.report)
+    (sym (ap command_of c.in-Demo.is)) ((c.steps_chain.ensures _ _ (at_demo c.in-Demo.demo.layers)).first_read _ c.demonstrate.ensures.report)
 
 pub returns-in-Zone-clause-ends : goal.returns-in-Zone-clause-ends
 returns-in-Zone-clause-ends g c =
