@@ -1,10 +1,12 @@
 -- Letters of a set, and lists of states that grow at the end.
-use Rattle.std.proofs.Common.{◌≡◌, ℕ, ◌<◌, ◌⊎◌, ◌↔◌, Bool, true, false, List, [], ◌++◌, length, inl, inr, sym, ap, ◌∙◌, subst, append_assoc}
+use Rattle.std.proofs.Common.{◌≡◌, ℕ, ◌<◌, ◌⊎◌, ◌↔◌, Bool, true, false, List, [], ◌∷◌, ◌++◌, Some, length, inl, inr, sym, ap, ◌∙◌, subst, append_assoc}
 use Rattle.std.specs.List.{Contains}
 use Rattle.std.proofs.lemmas.Bool.{cases_lt, false≢true}
 use Rattle.std.proofs.lemmas.List.{append-nil, get_or_past}
-use Rattle.std.proofs.lemmas.List.Elements.{Contains-append_left}
+use Rattle.std.proofs.lemmas.List.Elements.{Contains-append_cases, Contains-append_left, Contains-append_right}
 use Rattle.rela_labels.specs.Letters.{has}
+use Rattle.rela_nfa.specs.Automaton.{Move}
+use Rattle.rela_nfa.specs.Runs.{StepIn}
 use Rattle.rela_nfa.specs.StateSet.{Adds}
 use Rattle.rela_subset.proofs.Targets.{Contains-nil}
 
@@ -35,3 +37,15 @@ adds_both P Q R old mid new first second left right cases = record {
     | inr two ↦ second.all m two
   ];
 }
+
+-- by the edges of a list, and then by one more
+pub adds_edge : (moves : List Move) (move : Move) (letter : ℕ) (old mid new : List ℕ) → Adds (StepIn moves (Some letter)) old mid
+    → Adds (StepIn (move ∷ []) (Some letter)) mid new → Adds (StepIn (moves ++ move ∷ []) (Some letter)) old new
+adds_edge moves move letter old mid new before one =
+    adds_both (StepIn moves (Some letter)) (StepIn (move ∷ []) (Some letter)) (StepIn (moves ++ move ∷ []) (Some letter)) old mid new before one
+    (λ m (set, among, has). (set, Contains-append_left moves (move ∷ []) (record { label = Some set; to = m }) among, has))
+    (λ m (set, among, has). (set, Contains-append_right moves (move ∷ []) (record { label = Some set; to = m }) among, has))
+    (λ m (set, among, has). elim (Contains-append_cases moves (move ∷ []) (record { label = Some set; to = m }) among) [
+      | inl first ↦ inl (set, first, has)
+      | inr last ↦ inr (set, last, has)
+    ])

@@ -5,7 +5,7 @@ use Rattle.rela_nfa.specs.Runs.{StepIn}
 use Rattle.rela_nfa.specs.StateSet.{Adds}
 use Rattle.rela_nfa.specs.Stored.{move_of}
 use Rattle.rela_nfa.specs.declared.edge.Edge.{Edge}
-use Rattle.rela_nfa.proofs.Growing.{one_edge}
+use Rattle.rela_subset.proofs.Sets.{adds_edge}
 use Rattle.rela_subset.proofs.outgoing.insert_others.Goals as goal
 
 pub loop-edge-preserved : goal.loop-edge-preserved
@@ -20,7 +20,7 @@ loop-edge-preserved g c =
       adds =
           subst (λ (l : List Move). Adds (StepIn l (Some c.args.letter)) c.args.visited.now.states c.follow.new.set.states)
           (sym (map_more move edges i edge c.loop-edge-test.true ∙ ap (λ e. so_far ++ move e ∷ []) (sym c.edge-item.is)))
-          (one_edge so_far (move edge) (Some c.args.letter) c.args.visited.now.states c.loop-edge.visited.states c.follow.new.set.states c.loop-edge.invariant.adds
+          (adds_edge so_far (move edge) c.args.letter c.args.visited.now.states c.loop-edge.visited.states c.follow.new.set.states c.loop-edge.invariant.adds
           c.in_ok-follow.ensures.adds);
     }
 
