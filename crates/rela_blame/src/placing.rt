@@ -1,6 +1,6 @@
 //! Where an alternative of a check's body stands in the text of its specification.
 
-ghost use Rattle.std.specs.Prelude.{◌≡◌, ℕ, ◌-◌, ◌^◌, ◌<◌, ◌≤◌, [], IfOk, length, slice_get};
+ghost use Rattle.std.specs.Prelude.{◌≡◌, ◌-◌, ◌^◌, ◌<◌, ◌≤◌, [], IfOk, length, slice_get};
 ghost use Rattle.rela_blame.specs.Alternatives.{StandsAt, check_leads, leads_from};
 ghost use Rattle.rela_blame.specs.Tables.{IsTable, named_by};
 ghost use Rattle.rela_blame.specs.Units.{unit_offsets};

@@ -3,7 +3,7 @@
 ghost use Rattle.std.specs.Prelude.{◌≡◌, IfOk, Ok};
 ghost use Rattle.rela_rir.specs.Size.{depth_of_rel};
 
-use rela_rir::{PathTerm, RelTerm, depth, nodes};
+use rela_rir::{PathTerm, RelTerm, depth, nodes, sizes_of_path_terms, sizes_of_rel_terms};
 use std::alloc::{AllocError, Global};
 
 /// Both values, or the first error. It knows of no field of either: the proof of a function that drops
@@ -27,7 +27,6 @@ pub(crate) fn is_class(term: &PathTerm, entry: u32) -> bool {
 }
 
 /// The members of entry 0 with themselves, and each of them with the word of symbol 7.
-#[tactic(auto, using(rela_rir::proofs::SizeForms::depth_forms))]
 fn sample(alloc: Global) -> Result<RelTerm, AllocError>
     ensures { IfOk result (λ r. depth_of_rel r ≡ 3) }
 {
@@ -35,6 +34,8 @@ fn sample(alloc: Global) -> Result<RelTerm, AllocError>
         RelTerm::identity(alloc, PathTerm::Class(0)),
         RelTerm::product(alloc, PathTerm::Class(0), PathTerm::One(7)),
     )?;
+    sizes_of_path_terms();
+    sizes_of_rel_terms();
     RelTerm::union(alloc, kept, changed)
 }
 

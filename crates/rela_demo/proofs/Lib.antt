@@ -13,4 +13,3 @@ pub mod Ranges
 pub mod ReadBack
 pub mod Snapshots
 pub mod Pairs
-pub mod Steps

@@ -1,6 +1,6 @@
 //! The letters and numbers of devices.
 
-ghost use Rattle.std.specs.Prelude.{◌≡◌, ◌<◌, ◌≤◌, ◌^◌, ◌-◌, ◌++◌, OnOk};
+ghost use Rattle.std.specs.Prelude.{◌≡◌, ◌<◌, ◌≤◌, ◌-◌, ◌++◌, OnOk};
 ghost use Rattle.rela_demo.specs.Names.{labels_from};
 
 use std::alloc::AllocError;

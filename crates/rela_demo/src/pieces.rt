@@ -1,8 +1,8 @@
 //! The pieces of compact JSON (RFC 8259) that the texts are written of.
 
-ghost use Rattle.std.specs.Prelude.{◌≡◌, ◌++◌, ◌∷◌, OnOk};
+ghost use Rattle.std.specs.Prelude.{◌≡◌, ◌++◌, OnOk};
 ghost use Rattle.serde_json.specs.Written.{comma_if, compact_text};
-ghost use Rattle.rela_demo.specs.Names.{device_name, interface_name};
+ghost use Rattle.rela_demo.specs.Names.{device_name};
 ghost use Rattle.rela_demo.specs.Text.{edge_data, edges_data, numbers_data};
 ghost use Rattle.rela_demo.specs.Pieces.{array_text, device_text, node_text};
 

@@ -22,7 +22,7 @@ use Rattle.rela_translate.specs.declared.body.Expr.TheOpen as E
 use Rattle.rela_translate.specs.declared.body.Expr.TheVariants as x
 use Rattle.rela_expand.proofs.Letters.{HasLetter}
 use Rattle.rela_expand.proofs.ListWords as words
-use Rattle.rela_expand.proofs.ListWords.{Equal, told, itself, through}
+use Rattle.rela_expand.proofs.ListWords.{Equal, told, itself}
 use Rattle.rela_expand.proofs.Layers.{lang_roll}
 use Rattle.rela_expand.proofs.Membership.{and_left, and_right, first_at}
 use Rattle.rela_expand.proofs.Numberings.{Grown, grown_twice, numbered_grows, table_has, place_stays}

@@ -1,6 +1,6 @@
 //! Pairs of states, reached from a first one.
 
-ghost use Rattle.std.specs.Prelude.{◌≡◌, ◌<◌, ◌∷◌, [], List, if◌then◌else◌, length};
+ghost use Rattle.std.specs.Prelude.{◌≡◌, ◌<◌, ◌∷◌, [], if◌then◌else◌, length};
 ghost use Rattle.rela_pairs.specs.Places.{Fits};
 ghost use Rattle.rela_pairs.specs.declared.pair.Pair.{Pair};
 ghost use Rattle.rela_pairs.specs.declared.shape.Shape.{Shape};

@@ -1,5 +1,4 @@
 pub mod FirstClasses
-pub mod Parted
 pub mod Paired
 pub mod CutApart
 pub mod Origins

@@ -1,5 +1,5 @@
 //! Pairs of classes, and their numbers.
-ghost use Rattle.std.specs.Prelude.{◌≡◌, ◌⊎◌, ℕ, ◌<◌, ◌^◌, [], ◌∷◌, ◌++◌, IfOk, IfSome, length, slice_index_or};
+ghost use Rattle.std.specs.Prelude.{◌≡◌, ◌⊎◌, ◌<◌, ◌^◌, [], ◌∷◌, ◌++◌, IfOk, IfSome, length, slice_index_or};
 ghost use Rattle.rela_minimise.specs.Cutting.{AreApart, no_pair};
 
 use indexmap::IndexSet;

@@ -1,5 +1,5 @@
 //! Classes that are split by one column.
-ghost use Rattle.std.specs.Prelude.{◌≡◌, ◌<◌, IfOk, length, slice_index};
+ghost use Rattle.std.specs.Prelude.{◌<◌, IfOk, length};
 ghost use Rattle.rela_minimise.specs.Cutting.{AreCounted, GoesTo, IsCut, IsParted, IsPassed};
 ghost use Rattle.rela_minimise.specs.Refining.{IsMap};
 ghost use Rattle.rela_minimise.specs.Stored.{lists_of};

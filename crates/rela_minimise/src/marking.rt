@@ -1,5 +1,5 @@
 //! States from which letters lead to new classes.
-ghost use Rattle.std.specs.Prelude.{◌≡◌, ℕ, ◌<◌, ◌≤◌, [], IfOk, Contains, length, slice_index_or};
+ghost use Rattle.std.specs.Prelude.{◌≡◌, ℕ, ◌<◌, [], IfOk, Contains, length, slice_index_or};
 ghost use Rattle.std.specs.List.{All};
 ghost use Rattle.rela_minimise.specs.Refining.{Marks, PrecedesNew};
 ghost use Rattle.rela_minimise.specs.Stored.{lists_of};

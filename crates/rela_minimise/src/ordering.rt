@@ -1,5 +1,5 @@
 //! Classes that are numbered by their first states.
-ghost use Rattle.std.specs.Prelude.{◌≡◌, ◌<◌, IfOk, length};
+ghost use Rattle.std.specs.Prelude.{◌<◌, IfOk};
 ghost use Rattle.std.specs.List.{All};
 ghost use Rattle.rela_minimise.specs.Classes.{AreInOrder};
 

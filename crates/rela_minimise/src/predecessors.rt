@@ -1,7 +1,6 @@
 //! The states from which edges lead to a state.
-ghost use Rattle.std.specs.Prelude.{◌≡◌, ◌⊎◌, ℕ, ◌<◌, ◌↔◌, List, [], IfOk, Contains, length, map, slice_index_or};
+ghost use Rattle.std.specs.Prelude.{◌≡◌, ℕ, ◌<◌, [], IfOk, length, map, slice_index_or};
 ghost use Rattle.std.specs.List.{All};
-ghost use Rattle.rela_nfa.specs.Automaton.{Move};
 ghost use Rattle.rela_nfa.specs.Stored.{move_of};
 ghost use Rattle.rela_subset.specs.Deterministic.{IsDeterministic, states};
 ghost use Rattle.rela_minimise.specs.Refining.{ArePredecessors, HasAdded};

@@ -1,8 +1,8 @@
 //! Classes of states in the course of their refinement.
-ghost use Rattle.std.specs.Prelude.{◌≡◌, ◌⊎◌, ℕ, ◌+◌, ◌<◌, ◌≤◌, false, List, [], ◌++◌, IfOk, length, slice_index, slice_index_or};
+ghost use Rattle.std.specs.Prelude.{◌≡◌, ℕ, ◌+◌, ◌<◌, false, [], IfOk, length, slice_index};
 ghost use Rattle.std.specs.List.{All};
 ghost use Rattle.rela_subset.specs.Deterministic.{IsDeterministic, states};
-ghost use Rattle.rela_minimise.specs.Refining.{AreAssigned, AreColumns, AreWaiting, Goes, HasFound, HasSettled, IsAfter, IsAssigned, IsCoarse, IsMap, IsOpened, IsSettledIn, IsSound, Settles};
+ghost use Rattle.rela_minimise.specs.Refining.{AreAssigned, AreColumns, AreWaiting, Goes, HasFound, HasSettled, IsAfter, IsAssigned, IsCoarse, IsMap, IsOpened, IsSound, Settles};
 ghost use Rattle.rela_minimise.specs.Stored.{lists_of, stage_of};
 
 use crate::lists::{has_settled, put, same};

@@ -1,6 +1,6 @@
 //! Sets of the flows of a block of at most 64, as the bits of one word: flow `k` is bit `k`.
 
-ghost use Rattle.std.specs.Prelude.{◌≡◌, ◌≢◌, ℕ, ◌⊎◌, ◌<◌, ◌≤◌, ◌↔◌, IsTrue, IfNone, IfSome};
+ghost use Rattle.std.specs.Prelude.{◌≢◌, ℕ, ◌⊎◌, ◌<◌, ◌≤◌, ◌↔◌, IsTrue, IfNone, IfSome};
 ghost use Rattle.rela_plan.specs.Selection.{HasFlow};
 
 /// How many flows a block has at most.

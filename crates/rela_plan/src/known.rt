@@ -1,6 +1,6 @@
 //! What is known of leaves for the flows of a block, so that hardly any is asked of a flow twice.
 
-ghost use Rattle.std.specs.Prelude.{◌≡◌, ◌<◌, ◌≤◌, ◌↔◌, ℕ, All, IfOk, IsTrue, List, None, length, slice_index_or};
+ghost use Rattle.std.specs.Prelude.{◌≡◌, ◌<◌, ◌≤◌, ◌↔◌, All, IfOk, IsTrue, List, None, length, slice_index_or};
 ghost use Rattle.rela_flows.specs.Selects.{Selects, depth};
 ghost use Rattle.rela_flows.specs.declared.predicate.Predicate.{Predicate};
 ghost use Rattle.rela_plan.specs.Selection.{IsAnswer, AreKnown};

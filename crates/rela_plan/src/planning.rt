@@ -1,6 +1,6 @@
 //! Which rows a report has.
 
-ghost use Rattle.std.specs.Prelude.{◌≡◌, ◌≢◌, ◌-◌, ◌%◌, ◌≤◌, ◌<◌, ◌++◌, ℕ, List, IfOk, OnOk, All, length, map};
+ghost use Rattle.std.specs.Prelude.{◌≡◌, ◌≢◌, ◌-◌, ◌%◌, ◌<◌, ◌++◌, ℕ, List, IfOk, OnOk, All, length, map};
 ghost use Rattle.std.specs.List.{HoldsAt};
 ghost use Rattle.rela_flows.specs.Plan.{ArePlaces, Plan, rows_of_flow};
 ghost use Rattle.rela_plan.specs.Selection.{HasFlow, AreSelections, block_at};

@@ -1,6 +1,6 @@
 //! What a flow is at a level but for the names of its locations.
 
-ghost use Rattle.std.specs.Prelude.{◌≡◌, ◌<◌, ◌^◌, ◌++◌, IfOk, OnOk, All, length, map};
+ghost use Rattle.std.specs.Prelude.{◌≡◌, ◌<◌, ◌^◌, IfOk, All, length, map};
 ghost use Rattle.rela_labels.specs.Partition.{block_of};
 ghost use Rattle.rela_shape.specs.Shape.{AreNumbered, IsShape, places_of};
 

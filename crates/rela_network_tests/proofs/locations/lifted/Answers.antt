@@ -1,4 +1,4 @@
-use Rattle.std.proofs.Common.{◌≡◌, Some, slice_get, length, refl, ap, sym, ◌∙◌}
+use Rattle.std.proofs.Common.{slice_get, refl, sym}
 use Rattle.std.proofs.lemmas.Option.{slice_get_within}
 use Rattle.rela_network_tests.proofs.locations.lifted.Goals as goal
 

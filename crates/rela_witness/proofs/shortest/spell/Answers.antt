@@ -9,7 +9,7 @@ use Rattle.rela_witness.specs.Numbered.{HasNumber, Grows, Spread, After, IsDone}
 use Rattle.rela_witness.proofs.Growing.{layer_within}
 use Rattle.rela_witness.proofs.Spelling.{choosing_start, choosing_more, some_continues, chosen}
 use Rattle.rela_witness.proofs.shortest.spell.Given.{Over}
-use Rattle.rela_witness.proofs.shortest.spell.Goals.{In_ok-word, In_ok-close_onward, After-least_letter}
+use Rattle.rela_witness.proofs.shortest.spell.Goals.{In_ok-word, In_ok-close_onward}
 use Rattle.rela_witness.proofs.shortest.spell.Goals as goal
 
 module _ (g : Over) (c : In_ok-word g) where
