@@ -42,8 +42,11 @@ fn is_accepted(
 
 /// A change, and the text of its certificate under a limit of 1,000 states, which lists so many rows.
 struct Certified {
+    /// The change.
     change: Change,
+    /// The text that `certify` writes of it.
     text: Text,
+    /// How many rows that text lists.
     rows: usize,
 }
 

@@ -11,8 +11,11 @@ use std::process::Abort;
 
 /// Snapshots of the flow f1, and a specification whose only check is c1.
 struct Change {
+    /// The text of the specification.
     spec: Text,
+    /// That of the snapshot before the change.
     before: Text,
+    /// That of the snapshot after it.
     after: Text,
     /// The lines that show how the change is violated, and none where it is compliant.
     shown: Option<&'static str>,

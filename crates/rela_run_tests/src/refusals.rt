@@ -9,9 +9,13 @@ use std::process::Abort;
 /// A text that a command refuses as each of these files, the others being those of a flow that stays as it is;
 /// and the fault.
 struct Refused {
+    /// The words of the command.
     words: Text,
+    /// The names of the files, one after the other, that have the text.
     names: &'static [&'static str],
+    /// The text that is refused.
     text: Text,
+    /// The line that says why, after the name of the input.
     fault: &'static str,
 }
 

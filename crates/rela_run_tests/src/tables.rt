@@ -8,7 +8,9 @@ use std::process::Abort;
 
 /// Tables, and the snapshot of them whose flows are cut by the routes of `TABLES` too.
 struct Drawn {
+    /// The text of the tables.
     tables: Text,
+    /// The text of their snapshot.
     text: Text,
 }
 
