@@ -14,7 +14,8 @@ pub record GraphName : Type 0 where
   pub names : List (List ℕ)
   pub graph : Topology
 
--- the graph's paths before a change and after it, with no classes and no symbols beside; blocks and an automaton over them
+-- The graph's paths are those before a change and those after it; there are no classes and no markers. An automaton
+-- goes by its blocks.
 abbrev pub graph_paths : Machines
 graph_paths = record {
   scene = record {

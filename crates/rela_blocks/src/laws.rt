@@ -1,5 +1,5 @@
-//! Which symbols the terms of a body name. The law is a function that does nothing, and its contract is
-//! the law.
+//! Which symbols the terms of a body name. The law is a function that does nothing, and its contract
+//! is the law.
 ghost use Rattle.std.specs.Prelude.{ℕ, List};
 ghost use Rattle.rela_build.specs.Lettering.{IsAlone};
 ghost use Rattle.rela_build.specs.Named.{Names, NamesR};
@@ -10,9 +10,9 @@ use rela_build::named_symbols_by_form;
 use rela_rir::{PathTerm, RelTerm};
 use rela_translate::Core;
 
-/// The terms of a body name `drop` and the body's markers alone. So where these are blocks of their own,
-/// so is each symbol that the terms name; and an image of one of the two path sets names what its
-/// relation does.
+/// The terms of a body name `drop` and the body's markers alone. So where these are blocks of their
+/// own, so is each symbol that the terms name; and an image of one of the two path sets names what
+/// its relation does.
 pub fn named_symbols_are_alone()
     ensures zone { (blocks : List ℕ) (locations : ℕ) (body : Core) →
         AreOthersAlone blocks locations body → Names (IsAlone blocks) (zone_of locations body) }

@@ -1,5 +1,5 @@
--- The states of what is built of the machines of a term's parts stand for the places of the term, form by form: by a
--- table that is exact over as many states as are added up, where those of the parts are.
+-- The states of what is built of the machines of a term's parts stand for the places of the term, form by form, by a
+-- table. It is exact over as many states as are added up, where those of the parts are exact.
 use Rattle.std.specs.Prelude.{◌≡◌, ℕ, ◌+◌, ◌<◌, ◌↔◌, Option, List, [], length}
 use Rattle.rela_rir.specs.Words.{Concatenation, Star, PairConcatenation, PairStar}
 use Rattle.rela_rir.specs.Meaning.{In, InR, IsInClass}
@@ -34,7 +34,8 @@ pub record ArePlacedLeaves (M : Machines) (at : M.scene.Name) (u : M.Automaton) 
       (M.exactly → (k : ℕ) (w : List ℕ) → (M.scene.of at).post.at_node k w → k < n) →
       Stand M at P.Post (2 + n) u
 
--- Path terms that are built of an automaton a for x, and of another for y or a transducer for r: u is that of the whole.
+-- Path terms that are built of an automaton a for x, and of another for y or a transducer for r. That of the whole is
+-- u.
 pub record ArePlacedSets (M : Machines) (at : M.scene.Name) (x : PathTerm) (n : ℕ)
     (a u : M.Automaton) : Type 0 where
   pub star : StarStates (λ w. w ≡ [])
@@ -60,17 +61,18 @@ pub record ArePlacedSets (M : Machines) (at : M.scene.Name) (x : PathTerm) (n : 
       NumberedPairs pairs (ReachFromSource (M.reach a) (M.reach_pair t)) (M.reach u) →
       Stand M at (P.Image x r) (length pairs) u
 
--- Relation terms that are built of an automaton a for x, and of another for y.
+-- Relation terms that are built of an automaton a for x, and of another for y, likewise.
 pub record ArePlacedProducts (M : Machines) (at : M.scene.Name) (x : PathTerm) (n : ℕ)
     (a : M.Automaton) (u : M.Transducer) : Type 0 where
   pub identity : ((q : ℕ) (v w : List ℕ) → M.reach_pair u q v w ↔ ((v ≡ w) × M.reach a q v)) →
       StandR M at (R.Identity x) n u
   pub product : (y : PathTerm) (k : ℕ) (b : M.Automaton) → Stand M at y k b →
       SideBySide n (OnPairs (λ q v w. M.reach a q v × (w ≡ [])))
-      (OnPairs (λ q v w. In (M.scene.of at).setting x v × M.reach b q w)) (OnPairs (M.reach_pair u)) →
+      (OnPairs (λ q v w. In (M.scene.of at).setting x v × M.reach b q w))
+      (OnPairs (M.reach_pair u)) →
       StandR M at (R.Product x y) (n + k) u
 
--- Relation terms that are built of a transducer t for r, and of another for s.
+-- Relation terms that are built of a transducer t for r, and of another for s, likewise.
 pub record ArePlacedRelations (M : Machines) (at : M.scene.Name) (r : RelTerm) (n : ℕ)
     (t u : M.Transducer) : Type 0 where
   pub star : StarStates IsEmptyPair (OnPairs
@@ -105,7 +107,8 @@ pub record BuiltTerms (M : Machines) : Type 0 where
 -- The states of an automaton of the paths before a change stand for the places of a path set.
 pub record ArePathPlaces (M : Machines) (at : M.scene.Name) (n : ℕ) (u : M.Automaton) : Type 0 where
   pub table : Place → Option ℕ
-  pub is_table : IsTable (M.reach u) (PathSetPlaces (M.scene.of at).pre) (PartsApart NoParts NoParts) table
+  pub is_table : IsTable (M.reach u) (PathSetPlaces (M.scene.of at).pre)
+      (PartsApart NoParts NoParts) table
   pub exact : ((k : ℕ) (w : List ℕ) → (M.scene.of at).pre.at_node k w → k < n) →
       IsExact (2 + n) (M.reach u) (PathSetPlaces (M.scene.of at).pre) table
 

@@ -14,8 +14,8 @@ pub record Scenes : Type 1 where
   pub Name : Type 0
   pub of : Name → Scene
 
--- Scenes, and automata and transducers, each told by a name. Of a machine only this is given: which words, or pairs of
--- words, reach each of its states. Where `exactly` holds their tables are exact.
+-- Scenes, automata and transducers, each told by a name. Of a machine only this is given: which words, or pairs of
+-- words, reach each of its states. Where `exactly` holds, tables are exact.
 pub record Machines : Type 1 where
   pub scene : Scenes
   pub Automaton : Type 0

@@ -1,5 +1,5 @@
--- How many reached places a term has by the reached states that stand for them, and which states stand for the same
--- places.
+-- How many reached places a term has, by the reached states that stand for them, and which states stand for the
+-- same places.
 use Rattle.std.specs.Prelude.{ℕ, ◌↔◌, ◌⊎◌, Option, List}
 use Rattle.std.specs.Option.{ForSome}
 use Rattle.rela_names.specs.Shortlex.{IsBefore}
@@ -20,10 +20,10 @@ Places M at x a = IsPlaced (M.scene.of at) x (M.reach a)
 abbrev pub PlacesR : (M : Machines) → M.scene.Name → RelTerm → M.Transducer → Type 0
 PlacesR M at r t = IsPlacedR (M.scene.of at) r (M.reach_pair t)
 
--- A term has as many reached places as there are reached states. A meet, an image or a composition has as many as there are
--- pairs of states of its parts that are reached by one word, from one source or by one word in the middle. A complement
--- has as many as there are words of path symbols, each two of which are told apart by a state of its part. Words that are
--- told apart by states of two automata are told apart by places of the two terms.
+-- A term has as many reached places as there are reached states. A meet, an image or a composition has as many as
+-- there are pairs of states of its parts that are reached by one word, from one source or by one word in the middle.
+-- A complement has as many as there are words of path symbols, each two of which are told apart by a state of its
+-- part. Words that are told apart by states of two automata are told apart by places of the two terms.
 pub record ReachedTerms (M : Machines) (at : M.scene.Name) : Type 0 where
   pub paths : (x : PathTerm) (a : M.Automaton) → Places M at x a → (k : ℕ) →
       ManyStates (IsStateReached (M.scene.of at) (M.reach a)) k → Reached (M.scene.of at) x k
@@ -36,7 +36,8 @@ pub record ReachedTerms (M : Machines) (at : M.scene.Name) : Type 0 where
       Places M at x a → PlacesR M at r t → (k : ℕ) →
       ManyStates (IsStateReached (M.scene.of at) (ReachFromSource (M.reach a) (M.reach_pair t))) k →
       Reached (M.scene.of at) (P.Image x r) k
-  pub compose : (r s : RelTerm) (t u : M.Transducer) → PlacesR M at r t → PlacesR M at s u → (k : ℕ) →
+  pub compose : (r s : RelTerm) (t u : M.Transducer) →
+      PlacesR M at r t → PlacesR M at s u → (k : ℕ) →
       ManyStates (IsStateReachedR (M.scene.of at)
       (ReachByMiddle (M.reach_pair t) (M.reach_pair u))) k →
       ReachedR (M.scene.of at) (R.Compose r s) k
@@ -49,8 +50,8 @@ pub record ReachedTerms (M : Machines) (at : M.scene.Name) : Type 0 where
       (λ w z. ToldByState (M.reach a) w z ⊎ ToldByState (M.reach b) w z) k →
       ReachedPair (M.scene.of at) last x y k
 
--- States that stand for places of a term do so in each scene that agrees on what the term names, and so do states that are
--- reached by the same words, or pairs of words.
+-- States that stand for places of a term do so in each scene that agrees on what the term names, and so do states
+-- that are reached by the same words, or pairs of words.
 pub record CarriedTables (M : Machines) : Type 0 where
   pub paths : (at other : M.scene.Name) (x : PathTerm) (a : M.Automaton) →
       AgreeOn (M.scene.of at) (M.scene.of other) x → Places M at x a → Places M other x a

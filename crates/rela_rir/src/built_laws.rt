@@ -10,8 +10,8 @@ pub fn built_terms_are_placed<M: Machinery>()
     ensures { BuiltTerms M.machines }
 {}
 
-/// The states that are a start, one for each node and one for the end stand for the places of a path
-/// set.
+/// The states that are a start, one for each node and one for the end stand for the places of a
+/// path set.
 pub fn path_states_are_placed<M: Machinery>()
     ensures { PathPlaces M.machines }
 {}

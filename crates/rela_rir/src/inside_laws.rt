@@ -106,10 +106,12 @@ pub fn complemented_parts_of_rel_terms()
 pub fn complements_inside<M: Staging>()
     ensures forced { (at : M.scene.Name) (k : ℕ) (x : PathTerm) →
         ForcedInside (M.scene.of at) k x
-        ↔ ((part : PathTerm) × Contains (complemented_parts x) part × AreTold (M.scene.of at) part k) }
+        ↔ ((part : PathTerm) × Contains (complemented_parts x) part
+        × AreTold (M.scene.of at) part k) }
     ensures forced_pairs { (at : M.scene.Name) (k : ℕ) (r : RelTerm) →
         ForcedInsideR (M.scene.of at) k r
-        ↔ ((part : PathTerm) × Contains (complemented_parts_r r) part × AreTold (M.scene.of at) part k) }
+        ↔ ((part : PathTerm) × Contains (complemented_parts_r r) part
+        × AreTold (M.scene.of at) part k) }
     ensures reached { (at : M.scene.Name) (k : ℕ) (x part : PathTerm) →
         Contains (complemented_parts x) part →
         Reached (M.scene.of at) (PathTerm.Complement part) k → ReachedInside (M.scene.of at) k x }

@@ -23,7 +23,8 @@ pub fn places_of_path_terms<M: Staging>()
         ↔ UnionPlaces (At (M.scene.of at) x) (At (M.scene.of at) y) p w }
     ensures concat { (at : M.scene.Name) (x y : PathTerm) (p : Place) (w : List ℕ) →
         At (M.scene.of at) (PathTerm.Concat x y) p w
-        ↔ ConcatPlaces (In (M.scene.of at).setting x) (At (M.scene.of at) x) (At (M.scene.of at) y) p w }
+        ↔ ConcatPlaces (In (M.scene.of at).setting x)
+        (At (M.scene.of at) x) (At (M.scene.of at) y) p w }
     ensures star { (at : M.scene.Name) (x : PathTerm) (p : Place) (w : List ℕ) →
         At (M.scene.of at) (PathTerm.Star x) p w
         ↔ StarPlaces (In (M.scene.of at).setting x) (At (M.scene.of at) x) p w }
@@ -50,13 +51,15 @@ pub fn places_of_rel_terms<M: Staging>()
         ↔ IdentityPlaces (At (M.scene.of at) x) p u v }
     ensures product { (at : M.scene.Name) (x y : PathTerm) (p : Place) (u v : List ℕ) →
         AtR (M.scene.of at) (RelTerm.Product x y) p u v
-        ↔ ProductPlaces (In (M.scene.of at).setting x) (At (M.scene.of at) x) (At (M.scene.of at) y) p u v }
+        ↔ ProductPlaces (In (M.scene.of at).setting x)
+        (At (M.scene.of at) x) (At (M.scene.of at) y) p u v }
     ensures union { (at : M.scene.Name) (r s : RelTerm) (p : Place) (u v : List ℕ) →
         AtR (M.scene.of at) (RelTerm.Union r s) p u v
         ↔ PairUnionPlaces (AtR (M.scene.of at) r) (AtR (M.scene.of at) s) p u v }
     ensures concat { (at : M.scene.Name) (r s : RelTerm) (p : Place) (u v : List ℕ) →
         AtR (M.scene.of at) (RelTerm.Concat r s) p u v
-        ↔ PairConcatPlaces (InR (M.scene.of at).setting r) (AtR (M.scene.of at) r) (AtR (M.scene.of at) s) p u v }
+        ↔ PairConcatPlaces (InR (M.scene.of at).setting r)
+        (AtR (M.scene.of at) r) (AtR (M.scene.of at) s) p u v }
     ensures star { (at : M.scene.Name) (r : RelTerm) (p : Place) (u v : List ℕ) →
         AtR (M.scene.of at) (RelTerm.Star r) p u v
         ↔ PairStarPlaces (InR (M.scene.of at).setting r) (AtR (M.scene.of at) r) p u v }
