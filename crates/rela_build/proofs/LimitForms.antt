@@ -20,11 +20,12 @@ use Rattle.rela_trans.specs.Machine.{Machine}
 use Rattle.rela_trans.specs.Runs.{ReachR}
 use Rattle.rela_build.specs.Lettering.{Lettering}
 use Rattle.rela_build.specs.Made.{Leads, LeadsR, IsMade, IsMadeR}
+use Rattle.rela_build.specs.Numbered.{two_of}
 use Rattle.rela_build.specs.PathSets.{Paths, scene_of}
 use Rattle.rela_build.specs.Reading.{read_by}
 use Rattle.rela_build.proofs.Insides.{at_meet, at_image, at_compose_r}
 use Rattle.rela_build.proofs.LetterWords.{Below, reached_letters, reached_letters_r, symbols_of, word_for}
-use Rattle.rela_build.proofs.PairStates.{two_of, many_states}
+use Rattle.rela_build.proofs.PairStates.{many_states}
 use Rattle.rela_build.proofs.PlacedTerms.{plainly, plainly_r}
 use Rattle.rela_build.proofs.TransducerRuns.{symbols_reached}
 

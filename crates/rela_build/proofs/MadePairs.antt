@@ -20,10 +20,11 @@ use Rattle.rela_trans.specs.Relations.{PairJoins, PairRepeats}
 use Rattle.rela_trans.specs.Runs.{ReachR, Relates}
 use Rattle.rela_build.specs.Lettering.{Lettering}
 use Rattle.rela_build.specs.Made.{Leads, LeadsR, IsMade, IsMadeR}
+use Rattle.rela_build.specs.Numbered.{two_of}
 use Rattle.rela_build.specs.PathSets.{Paths, scene_of}
 use Rattle.rela_build.specs.Reading.{read_by}
 use Rattle.rela_build.proofs.LetterWords.{state_reached}
-use Rattle.rela_build.proofs.PairStates.{two_of, numbered}
+use Rattle.rela_build.proofs.PairStates.{numbered}
 use Rattle.rela_build.proofs.PlacedTerms.{placed, placed_r, by_form_r}
 use Rattle.rela_build.proofs.ReadPairs.{same_as, pairs_joined, pairs_repeated}
 use Rattle.rela_build.proofs.TransducerRuns.{state_of_reach, letters_reached}
@@ -172,8 +173,10 @@ module _ (E : Type 0) (l : Lettering) (paths : Paths) where
         λ c. (relation f covers_a v o).1 (c.middle, (one.relation v c.middle).1 c.first, (two.relation c.middle o).1 c.second),
       ))
       (built.composed m E x y (machine_states a) (machine_states b) (L a) (L b) (L u) (placed_r E l paths x a one) (placed_r E l paths y b two) (map two_of pairs)
-      (numbered pairs (OnPairs (ReachByMiddle (L a) (L b))) (OnPairs (L u)) composes.distinct
-      (λ s z (middle, first, second).
-      composes.all s (map f z.0, map f z.1, (map f middle, letters_reached f a s.left z.0 middle first, letters_reached f b s.right middle z.1 second)))
-      (λ k z h. let less = below u ok k z h in omega (arith, less, composes.count))
-      (λ k s at z. composes.reached f covers_a k s at z.0 z.1))))
+      (numbered pairs (OnPairs (ReachByMiddle (L a) (L b))) (OnPairs (L u)) (record {
+        distinct = composes.distinct;
+        all = λ s z (middle, first, second).
+            composes.all s (map f z.0, map f z.1, (map f middle, letters_reached f a s.left z.0 middle first, letters_reached f b s.right middle z.1 second));
+        below = λ k z h. let less = below u ok k z h in omega (arith, less, composes.count);
+        reached = λ k s at z. composes.reached f covers_a k s at z.0 z.1;
+      }))))

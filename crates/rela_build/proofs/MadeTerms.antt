@@ -26,10 +26,11 @@ use Rattle.rela_build.specs.Complement.{IsOver, IsComplement, ReachApart}
 use Rattle.rela_build.specs.Lettering.{Lettering, IsInEntry}
 use Rattle.rela_build.specs.Made.{Leads, LeadsR, IsBuilt, IsLetterAutomaton, IsMade, IsMadeR}
 use Rattle.rela_build.specs.Notes.{IsComplementOf}
+use Rattle.rela_build.specs.Numbered.{two_of}
 use Rattle.rela_build.specs.PathSets.{Paths, scene_of}
 use Rattle.rela_build.specs.Reading.{read_by, HoldsJust}
 use Rattle.rela_build.proofs.LetterWords.{state_reached}
-use Rattle.rela_build.proofs.PairStates.{two_of, numbered}
+use Rattle.rela_build.proofs.PairStates.{numbered}
 use Rattle.rela_build.proofs.PlacedTerms.{placed, placed_r, by_form}
 use Rattle.rela_build.proofs.ReadWords.{read_as, no_letters, joined, repeated, over}
 use Rattle.rela_build.proofs.TransducerRuns.{letters_reached}
@@ -196,10 +197,12 @@ module _ (E : Type 0) (l : Lettering) (paths : Paths) where
         λ both. (language (map f w)).1 ((one.language w).1 both.0, (two.language w).1 both.1),
       ))
       (built.meet m E x y (states a) (states b) (L a) (L b) (L u) (placed E l paths x a one) (placed E l paths y b two) (map two_of pairs)
-      (numbered pairs (ReachTogether (L a) (L b)) (L u) meets.distinct
-      (λ z w both. meets.all z (map f w, both))
-      (λ k w h. let less = below u ok k w h in omega (arith, less, meets.count))
-      (λ k z at w. meets.reached k z at (map f w)))))
+      (numbered pairs (ReachTogether (L a) (L b)) (L u) (record {
+        distinct = meets.distinct;
+        all = λ z w both. meets.all z (map f w, both);
+        below = λ k w h. let less = below u ok k w h in omega (arith, less, meets.count);
+        reached = λ k z at w. meets.reached k z at (map f w);
+      }))))
 
   pub image : (t x : PathTerm) (r : RelTerm) (a : Automaton) (s : Machine) (u w : Automaton) → t ≡ P.Image x r → Covers (read_by l.blocks) (block_count l.blocks)
       → Is x a → IsMadeR E l paths r s → w ≡ u → IsAutomaton w → u.letters ≡ a.letters → (pairs : List Pair) × IsImage a s pairs u
@@ -220,10 +223,12 @@ module _ (E : Type 0) (l : Lettering) (paths : Paths) where
         λ i. (language f covers_a v).1 (i.source, (one.language i.source).1 i.in_set, (two.relation i.source v).1 i.related),
       ))
       (built.image m E x (states a) (L a) (L u) (placed E l paths x a one) r (machine_states s) (LeadsR l.blocks s) (map two_of pairs) (placed_r E l paths r s two)
-      (numbered pairs (ReachFromSource (L a) (LeadsR l.blocks s)) (L u) images.distinct
-      (λ z v (source, first, second). images.all z (map f source, map f v, first, letters_reached f s z.right source v second))
-      (λ k v h. let less = below u ok k v h in omega (arith, less, images.count))
-      (λ k z at v. images.reached f covers_a k z at v))))
+      (numbered pairs (ReachFromSource (L a) (LeadsR l.blocks s)) (L u) (record {
+        distinct = images.distinct;
+        all = λ z v (source, first, second). images.all z (map f source, map f v, first, letters_reached f s z.right source v second);
+        below = λ k v h. let less = below u ok k v h in omega (arith, less, images.count);
+        reached = λ k z at v. images.reached f covers_a k z at v;
+      }))))
 
   -- ---- complements
 

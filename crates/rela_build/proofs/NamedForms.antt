@@ -1,6 +1,6 @@
 -- Which symbols each form of term names.
-use Rattle.std.proofs.Common.{◌≡◌, ◌∙◌, ℕ, refl, sym, ap, subst}
-use Rattle.rela_build.specs.Named.{LayerNames, LayerNamesR, Names, NamesR}
+use Rattle.std.proofs.Common.{◌≡◌, ◌↔◌, ◌∙◌, ℕ, refl, sym, ap, subst}
+use Rattle.rela_build.specs.Named.{LayerNames, LayerNamesR, NamedForms, Names, NamesR}
 use Rattle.rela_rir.specs.declared.term.PathTerm.{PathTerm}
 use Rattle.rela_rir.specs.declared.term.RelTerm.{RelTerm}
 use Rattle.rela_rir.specs.declared.term.PathTerm.TheOpen as F
@@ -86,6 +86,39 @@ module _ (Q : ℕ → Type 0) where
 
   pub names_compose : (r s : RelTerm) → NamesR Q (R.Compose r s) ≡ (NamesR Q r × NamesR Q s)
   names_compose r s = ap (NamesR Q) (sym (R.rolls-Compose r s)) ∙ names_roll_r (F.Compose r s)
+
+  -- by what its layer names
+  as_layer : (z : F.PathTerm-F PathTerm RelTerm) (t : PathTerm) → roll-PathTerm z ≡ t → Names Q t ↔ LayerNames Q (Names Q) (NamesR Q) z
+  as_layer z t rolls =
+      subst (λ (s : PathTerm). Names Q s ↔ LayerNames Q (Names Q) (NamesR Q) z) rolls
+      (subst (λ (T : Type 0). T ↔ LayerNames Q (Names Q) (NamesR Q) z) (sym (names_roll z)) (λ h. h, λ h. h))
+
+  as_layer_r : (z : F.RelTerm-F PathTerm RelTerm) (t : RelTerm) → roll-RelTerm z ≡ t → NamesR Q t ↔ LayerNamesR Q (Names Q) (NamesR Q) z
+  as_layer_r z t rolls =
+      subst (λ (s : RelTerm). NamesR Q s ↔ LayerNamesR Q (Names Q) (NamesR Q) z) rolls
+      (subst (λ (T : Type 0). T ↔ LayerNamesR Q (Names Q) (NamesR Q) z) (sym (names_roll_r z)) (λ h. h, λ h. h))
+
+  pub named_forms : NamedForms Q
+  named_forms = record {
+    none = (as_layer F.None _ P.rolls-None).1 tt;
+    empty = (as_layer F.Empty _ P.rolls-Empty).1 tt;
+    class = λ k. (as_layer (F.Class k) _ (P.rolls-Class k)).1 tt;
+    one = λ s. as_layer (F.One s) _ (P.rolls-One s);
+    union = λ x y. as_layer (F.PathTerm::Union x y) _ (P.rolls-Union x y);
+    concat = λ x y. as_layer (F.PathTerm::Concat x y) _ (P.rolls-Concat x y);
+    star = λ x. as_layer (F.PathTerm::Star x) _ (P.rolls-Star x);
+    meet = λ x y. as_layer (F.Meet x y) _ (P.rolls-Meet x y);
+    complement = λ x. as_layer (F.Complement x) _ (P.rolls-Complement x);
+    before = (as_layer F.Pre _ P.rolls-Pre).1 tt;
+    after = (as_layer F.Post _ P.rolls-Post).1 tt;
+    image = λ x r. as_layer (F.Image x r) _ (P.rolls-Image x r);
+    identity = λ x. as_layer_r (F.Identity x) _ (R.rolls-Identity x);
+    product = λ x y. as_layer_r (F.Product x y) _ (R.rolls-Product x y);
+    either = λ r s. as_layer_r (F.RelTerm::Union r s) _ (R.rolls-Union r s);
+    joined = λ r s. as_layer_r (F.RelTerm::Concat r s) _ (R.rolls-Concat r s);
+    repeated = λ r. as_layer_r (F.RelTerm::Star r) _ (R.rolls-Star r);
+    compose = λ r s. as_layer_r (F.Compose r s) _ (R.rolls-Compose r s);
+  }
 
 -- by equal types
 pub opened : {A B : Type 0} → A ≡ B → A → B

@@ -1,5 +1,5 @@
 -- Pairs of states, numbered by where they stand in a list, as the states of what is built of two machines.
-use Rattle.std.proofs.Common.{◌≡◌, ◌≢◌, ℕ, ◌+◌, ◌<◌, ◌↔◌, List, length, map, get_or, sym, ap, ◌∙◌, arith}
+use Rattle.std.proofs.Common.{◌≡◌, ◌≢◌, ℕ, ◌+◌, ◌<◌, List, length, map, get_or, sym, ap, ◌∙◌, arith}
 use Rattle.std.specs.Prelude.{Some, slice_get, AllPairs, Contains}
 use Rattle.std.specs.Option.{option_map}
 use Rattle.std.proofs.lemmas.List.{length-map, get_or-map}
@@ -9,9 +9,7 @@ use Rattle.rela_pairs.specs.Reachable.{AreDistinct, MoreThan}
 use Rattle.rela_pairs.specs.declared.pair.Pair.{Pair}
 use Rattle.rela_rir.specs.Built.{NumberedPairs}
 use Rattle.rela_rir.specs.Tables.{ManyStates}
-
-abbrev pub two_of : Pair → ℕ × ℕ
-two_of z = (z.left, z.right)
+use Rattle.rela_build.specs.Numbered.{AreNumbered, two_of}
 
 abbrev pub pair_of : ℕ × ℕ → Pair
 pair_of q = record { left = q.0; right = q.1 }
@@ -36,19 +34,17 @@ pair_at zs k q at =
     slice_get-get_or zs k (pair_of q) below
     ∙ ap Some (ap pair_of (sym (get_or-map two_of zs k (pair_of q) q below) ∙ get_or_from_slice_get (map two_of zs) k q q at))
 
--- what is reached just by what reaches a pair that has its number
-pub numbered : {I : Type 0} (pairs : List Pair) (reach : ℕ × ℕ → I → Type 0) (r : ℕ → I → Type 0) → AreDistinct pairs
-    → ((z : Pair) (i : I) → reach (two_of z) i → Contains pairs z) → ((k : ℕ) (i : I) → r k i → k < length pairs)
-    → ((k : ℕ) (z : Pair) → slice_get pairs k ≡ Some z → (i : I) → r k i ↔ reach (two_of z) i) → NumberedPairs (map two_of pairs) reach r
-numbered pairs reach r distinct all below reached = record {
-  different = twos_differ pairs distinct;
-  all = λ q i has. listed pairs q (all (pair_of q) i has);
+-- by their numbers
+pub numbered : {I : Type 0} (pairs : List Pair) (reach : ℕ × ℕ → I → Type 0) (r : ℕ → I → Type 0) → AreNumbered pairs reach r → NumberedPairs (map two_of pairs) reach r
+numbered pairs reach r are = record {
+  different = twos_differ pairs are.distinct;
+  all = λ q i has. listed pairs q (are.all (pair_of q) i has);
   numbered = λ k i. (
     λ has.
-        let at = slice_get-get_or pairs k (pair_of (0, 0)) (below k i has) in
+        let at = slice_get-get_or pairs k (pair_of (0, 0)) (are.below k i has) in
         let z = get_or pairs k (pair_of (0, 0)) in
-        (two_of z, two_at pairs k z at, (reached k z at i).0 has),
-    λ (q, at, has). (reached k (pair_of q) (pair_at pairs k q at) i).1 has,
+        (two_of z, two_at pairs k z at, (are.reached k z at i).0 has),
+    λ (q, at, has). (are.reached k (pair_of q) (pair_at pairs k q at) i).1 has,
   );
 }
 

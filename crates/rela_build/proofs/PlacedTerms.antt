@@ -5,11 +5,10 @@ use Rattle.rela_nfa.specs.Automaton.{Automaton, IsAutomaton, states}
 use Rattle.rela_nfa.specs.Runs.{Accepts}
 use Rattle.rela_rir.specs.Meaning.{In, InR}
 use Rattle.rela_rir.specs.Places.{Scene, At, AtR}
-use Rattle.rela_rir.specs.Tables.{OnPairs, IsExact, IsPlaced, IsPlacedR}
+use Rattle.rela_rir.specs.Tables.{OnPairs, IsExact, IsPlaced, IsPlacedR, IsPlacedWhere, IsPlacedWhereR}
 use Rattle.rela_rir.specs.Words.{WordSet, Relation}
 use Rattle.rela_rir.specs.declared.term.PathTerm.{PathTerm}
 use Rattle.rela_rir.specs.declared.term.RelTerm.{RelTerm}
-use Rattle.rela_rir.proofs.BuiltTerms.{PlacedIf, PlacedIfR}
 use Rattle.rela_trans.specs.Machine.{Machine, IsMachine, machine_states}
 use Rattle.rela_trans.specs.Runs.{Relates}
 use Rattle.rela_build.specs.Lettering.{Lettering}
@@ -21,13 +20,13 @@ module _ (E : Type 0) (l : Lettering) (paths : Paths) where
   abbrev m : Scene
   m = scene_of l paths
 
-  pub placed : (t : PathTerm) (a : Automaton) → IsMade E l paths t a → PlacedIf E (states a) m t (Leads l.blocks a)
+  pub placed : (t : PathTerm) (a : Automaton) → IsMade E l paths t a → IsPlacedWhere E (states a) m t (Leads l.blocks a)
   unfolding IsMade
-  placed t a made = record { table = made.table; tabled = record { is_table = made.placed; exact = made.exact } }
+  placed t a made = record { table = made.table; is_table = made.placed; exact = made.exact }
 
-  pub placed_r : (t : RelTerm) (a : Machine) → IsMadeR E l paths t a → PlacedIfR E (machine_states a) m t (LeadsR l.blocks a)
+  pub placed_r : (t : RelTerm) (a : Machine) → IsMadeR E l paths t a → IsPlacedWhereR E (machine_states a) m t (LeadsR l.blocks a)
   unfolding IsMadeR
-  placed_r t a made = record { table = made.table; tabled = record { is_table = made.placed; exact = made.exact } }
+  placed_r t a made = record { table = made.table; is_table = made.placed; exact = made.exact }
 
   -- where it doesn't matter whether the table turns round
   pub plainly : (t : PathTerm) (a : Automaton) → IsMade E l paths t a → IsPlaced m t (Leads l.blocks a)
@@ -40,7 +39,7 @@ module _ (E : Type 0) (l : Lettering) (paths : Paths) where
 
   -- the automaton of a term of this form, with these words and n states
   pub by_form : (t u : PathTerm) (X : WordSet) (a : Automaton) (n : ℕ) → t ≡ u → In m.setting u ≡ X → IsAutomaton a → a.letters ≡ block_count l.blocks → states a ≡ n
-      → ((w : List ℕ) → Accepts a (map (read_by l.blocks) w) ↔ X w) → PlacedIf E n m u (Leads l.blocks a) → IsMade E l paths t a
+      → ((w : List ℕ) → Accepts a (map (read_by l.blocks) w) ↔ X w) → IsPlacedWhere E n m u (Leads l.blocks a) → IsMade E l paths t a
   unfolding IsMade
   by_form t u X a n is words ok letters count language placed =
       subst (λ (v : PathTerm). IsMade E l paths v a) (sym is) (record {
@@ -48,12 +47,12 @@ module _ (E : Type 0) (l : Lettering) (paths : Paths) where
         letters = letters;
         language = subst (λ (Y : WordSet). (w : List ℕ) → Accepts a (map (read_by l.blocks) w) ↔ Y w) (sym words) language;
         table = placed.table;
-        placed = placed.tabled.is_table;
-        exact = λ e. subst (λ (k : ℕ). IsExact k (Leads l.blocks a) (At m u) placed.table) (sym count) (placed.tabled.exact e);
+        placed = placed.is_table;
+        exact = λ e. subst (λ (k : ℕ). IsExact k (Leads l.blocks a) (At m u) placed.table) (sym count) (placed.exact e);
       })
 
   pub by_form_r : (t u : RelTerm) (X : Relation) (a : Machine) (n : ℕ) → t ≡ u → InR m.setting u ≡ X → IsMachine a → a.letters ≡ block_count l.blocks → machine_states a ≡ n
-      → ((v o : List ℕ) → Relates (read_by l.blocks) a v o ↔ X v o) → PlacedIfR E n m u (LeadsR l.blocks a) → IsMadeR E l paths t a
+      → ((v o : List ℕ) → Relates (read_by l.blocks) a v o ↔ X v o) → IsPlacedWhereR E n m u (LeadsR l.blocks a) → IsMadeR E l paths t a
   unfolding IsMadeR
   by_form_r t u X a n is pairs ok letters count relation placed =
       subst (λ (v : RelTerm). IsMadeR E l paths v a) (sym is) (record {
@@ -61,6 +60,6 @@ module _ (E : Type 0) (l : Lettering) (paths : Paths) where
         letters = letters;
         relation = subst (λ (Y : Relation). (v o : List ℕ) → Relates (read_by l.blocks) a v o ↔ Y v o) (sym pairs) relation;
         table = placed.table;
-        placed = placed.tabled.is_table;
-        exact = λ e. subst (λ (k : ℕ). IsExact k (OnPairs (LeadsR l.blocks a)) (OnPairs (AtR m u)) placed.table) (sym count) (placed.tabled.exact e);
+        placed = placed.is_table;
+        exact = λ e. subst (λ (k : ℕ). IsExact k (OnPairs (LeadsR l.blocks a)) (OnPairs (AtR m u)) placed.table) (sym count) (placed.exact e);
       })

@@ -4,6 +4,7 @@ pub mod Lettering
 pub mod Made
 pub mod Named
 pub mod Notes
+pub mod Numbered
 pub mod PathSets
 pub mod Reading
 pub mod Stops

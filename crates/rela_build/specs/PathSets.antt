@@ -10,6 +10,11 @@ pub record Paths : Type 1 where
   pub at_pre : Arrivals
   pub at_post : Arrivals
 
+-- pairs of path sets, each told by a name; what a name stands for is given to a law
+pub record PathFamily : Type 1 where
+  pub Name : Type 0
+  pub of : Name → Paths
+
 -- no paths at all
 abbrev pub no_paths : Paths
 no_paths = record {

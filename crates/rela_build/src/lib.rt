@@ -6,6 +6,7 @@
 mod builder;
 mod combined;
 mod complements;
+mod laws;
 mod letter_sets;
 mod letters;
 mod path_sets;
@@ -14,6 +15,7 @@ mod well_formed;
 
 pub use builder::Builder;
 pub use complements::{Answer, Complements};
+pub use laws::{NamedPaths, images_are_placed, named_symbols_by_form, path_sets_are_made};
 pub use letters::Letters;
 pub use path_sets::{NoPaths, PathSets};
 pub use stop::Stop;
