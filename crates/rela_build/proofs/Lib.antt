@@ -15,6 +15,7 @@ pub mod Insides
 pub mod NotesInOrder
 pub mod PairStates
 pub mod PlacedTerms
+pub mod MadeLeaves
 pub mod MadeTerms
 pub mod LimitForms
 pub mod MadePairs

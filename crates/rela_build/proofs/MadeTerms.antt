@@ -1,5 +1,5 @@
--- Automata of path terms, form by form, from those of their parts and what the calls tell.
-use Rattle.std.proofs.Common.{◌≡◌, ℕ, ◌+◌, ◌<◌, ◌↔◌, ◌⊎◌, Bool, List, [], ◌∷◌, length, map, refl, sym, ap, ◌∙◌, subst, inl, inr, arith}
+-- Automata of path terms, form by form, from those of their parts, if any, and what the calls tell.
+use Rattle.std.proofs.Common.{◌≡◌, ℕ, ◌+◌, ◌<◌, ◌↔◌, ◌⊎◌, Bool, List, [], length, map, refl, sym, ◌∙◌, subst, inl, inr, arith}
 use Rattle.std.proofs.lemmas.List.{length-map}
 use Rattle.rela_labels.specs.Partition.{block_count}
 use Rattle.rela_nfa.specs.Automaton.{Automaton, IsAutomaton, states}
@@ -8,27 +8,26 @@ use Rattle.rela_nfa.specs.Meeting.{IsMeet}
 use Rattle.rela_nfa.specs.Runs.{Reach, Accepts}
 use Rattle.rela_pairs.specs.declared.pair.Pair.{Pair}
 use Rattle.rela_rir.specs.Built.{OneState, ComplementStates}
+use Rattle.rela_rir.specs.BuiltTerms.{ArePlacedSets, BuiltTerms}
 use Rattle.rela_rir.specs.Meaning.{In, InR, IsPathWord}
-use Rattle.rela_rir.specs.Places.{Scene, Places, Tells, At, Apart, LetterPlaces, PathSetPlaces, PartsApart, NoParts}
+use Rattle.rela_rir.specs.Places.{Scene}
 use Rattle.rela_rir.specs.Tables.{ReachTogether, ReachFromSource, ToldByState}
-use Rattle.rela_rir.specs.Words.{WordSet, Concatenation, Star, ImageOf}
+use Rattle.rela_rir.specs.Words.{Concatenation, Star, ImageOf}
 use Rattle.rela_rir.specs.declared.term.PathTerm.{PathTerm}
 use Rattle.rela_rir.specs.declared.term.RelTerm.{RelTerm}
 use Rattle.rela_rir.specs.declared.term.PathTerm.TheVariants as P
-use Rattle.rela_rir.proofs.BuiltTerms as built
-use Rattle.rela_build.proofs.TermMeanings.{in_none, in_empty, in_class, in_one, in_union, in_concat, in_star, in_meet, in_complement, in_pre, in_post, in_image}
-use Rattle.rela_build.proofs.TermPlaces.{at_class, at_one, at_pre, at_post, apart_class, apart_one, apart_pre, apart_post}
+use Rattle.rela_build.proofs.TermMeanings.{in_none, in_empty, in_union, in_concat, in_star, in_meet, in_complement, in_image}
 use Rattle.rela_trans.specs.Composition.{Covers}
 use Rattle.rela_trans.specs.Images.{IsImage}
 use Rattle.rela_trans.specs.Machine.{Machine, machine_states}
 use Rattle.rela_trans.specs.Runs.{Relates}
-use Rattle.rela_build.specs.Complement.{IsOver, IsComplement, ReachApart}
-use Rattle.rela_build.specs.Lettering.{Lettering, IsInEntry}
-use Rattle.rela_build.specs.Made.{Leads, LeadsR, IsBuilt, IsLetterAutomaton, IsMade, IsMadeR}
-use Rattle.rela_build.specs.Notes.{IsComplementOf}
+use Rattle.rela_build.specs.Complement.{IsOver, IsComplement, ReachApart, TellsAll}
+use Rattle.rela_build.specs.Lettering.{Lettering}
+use Rattle.rela_build.specs.Made.{Leads, LeadsR, IsMade, IsMadeR}
 use Rattle.rela_build.specs.Numbered.{two_of}
 use Rattle.rela_build.specs.PathSets.{Paths, scene_of}
 use Rattle.rela_build.specs.Reading.{read_by, HoldsJust}
+use Rattle.rela_build.specs.TermMachines.{term_machines}
 use Rattle.rela_build.proofs.LetterWords.{state_reached}
 use Rattle.rela_build.proofs.PairStates.{numbered}
 use Rattle.rela_build.proofs.PlacedTerms.{placed, placed_r, by_form}
@@ -39,7 +38,10 @@ use Rattle.rela_build.proofs.TransducerRuns.{letters_reached}
 pub well : (Is : Automaton → Type 0) (u w : Automaton) → w ≡ u → IsAutomaton w → (IsAutomaton u → Is u) → Is w
 well Is u w same ok is = subst Is (sym same) (is (subst IsAutomaton same ok))
 
-module _ (E : Type 0) (l : Lettering) (paths : Paths) where
+module _ (E : Type 0) (S : Type 0) (sets : S → Paths) (built : BuiltTerms (term_machines E S sets)) (l : Lettering) (at : S) where
+  abbrev paths : Paths
+  paths = sets at
+
   abbrev m : Scene
   m = scene_of l paths
 
@@ -52,9 +54,12 @@ module _ (E : Type 0) (l : Lettering) (paths : Paths) where
   abbrev Is : PathTerm → Automaton → Type 0
   Is t a = IsMade E l paths t a
 
-  pub made_letters : (t : PathTerm) (a : Automaton) → Is t a → a.letters ≡ block_count l.blocks
-  unfolding IsMade
-  made_letters t a made = made.letters
+  -- what is built of the automaton of a term
+  abbrev Sets : PathTerm → Automaton → Automaton → Type 0
+  Sets x a u = ArePlacedSets (term_machines E S sets) (l, at) x (states a) (l.blocks, a) (l.blocks, u)
+
+  of : (x : PathTerm) (a u : Automaton) → Is x a → Sets x a u
+  of x a u one = built.sets (l, at) x (states a) (l.blocks, a) (l.blocks, u) (placed E l paths x a one)
 
   below : (a : Automaton) → IsAutomaton a → (q : ℕ) (w : List ℕ) → L a q w → q < states a
   below a ok q w h = state_reached a ok q (map f w) h
@@ -70,114 +75,70 @@ module _ (E : Type 0) (l : Lettering) (paths : Paths) where
     count = λ q w h. let less = below a ok q w h in omega (arith, less, count);
   }
 
-  pub none : (t : PathTerm) (u w : Automaton) (n : ℕ) → t ≡ P.None → w ≡ u → IsAutomaton w → n ≡ block_count l.blocks → u.letters ≡ n → states u ≡ 1
-      → ((v : List ℕ) → Reach u 0 v ↔ (v ≡ [])) → ((v : List ℕ) → ¬ Accepts u v) → Is t w
-  none t u w n is same ok size letters count start language =
-      well (Is t) u w same ok (λ ok.
-      by_form E l paths t P.None (λ w. ⊥) u 1 is (in_none m.setting) ok (letters ∙ size) count (λ w. (language (map f w), λ h. absurd h))
-      (built.none m E (L u) (one_state u ok count start)))
+  pub none : (u w : Automaton) (n : ℕ) → w ≡ u → IsAutomaton w → n ≡ block_count l.blocks → u.letters ≡ n → states u ≡ 1
+      → ((v : List ℕ) → Reach u 0 v ↔ (v ≡ [])) → ((v : List ℕ) → ¬ Accepts u v) → Is P.None w
+  none u w n same ok size letters count start language =
+      well (Is P.None) u w same ok (λ ok.
+      by_form E l paths P.None (λ w. ⊥) u 1 (in_none m.setting) ok (letters ∙ size) count (λ w. (language (map f w), λ h. absurd h))
+      ((built.leaves (l, at) (l.blocks, u)).none (one_state u ok count start)))
 
-  pub empty : (t : PathTerm) (u w : Automaton) (n : ℕ) → t ≡ P.Empty → w ≡ u → IsAutomaton w → n ≡ block_count l.blocks → u.letters ≡ n → states u ≡ 1
-      → ((v : List ℕ) → Reach u 0 v ↔ (v ≡ [])) → ((v : List ℕ) → Accepts u v ↔ (v ≡ [])) → Is t w
-  empty t u w n is same ok size letters count start language =
-      well (Is t) u w same ok (λ ok.
-      by_form E l paths t P.Empty (λ w. w ≡ []) u 1 is (in_empty m.setting) ok (letters ∙ size) count
+  pub empty : (u w : Automaton) (n : ℕ) → w ≡ u → IsAutomaton w → n ≡ block_count l.blocks → u.letters ≡ n → states u ≡ 1
+      → ((v : List ℕ) → Reach u 0 v ↔ (v ≡ [])) → ((v : List ℕ) → Accepts u v ↔ (v ≡ [])) → Is P.Empty w
+  empty u w n same ok size letters count start language =
+      well (Is P.Empty) u w same ok (λ ok.
+      by_form E l paths P.Empty (λ w. w ≡ []) u 1 (in_empty m.setting) ok (letters ∙ size) count
       (read_as f (Accepts u) (λ w. w ≡ []) (λ w. w ≡ []) language (no_letters f))
-      (built.empty m E (L u) (one_state u ok count start)))
-
-  -- ---- what is given, with a table that turns round always
-
-  given : (t u : PathTerm) (X : WordSet) (x : Places) (D : Tells) (a : Automaton) → t ≡ u → In m.setting u ≡ X → At m u ≡ x → Apart m u ≡ D → IsBuilt (Unit {0}) l.blocks X x D a → Is t a
-  unfolding IsMade
-  given t u X x D a is words places apart built =
-      subst (λ (v : PathTerm). Is v a) (sym is)
-      (subst (λ (Y : WordSet). IsBuilt E l.blocks Y (At m u) (Apart m u) a) (sym words)
-      (subst (λ (y : Places). IsBuilt E l.blocks X y (Apart m u) a) (sym places)
-      (subst (λ (F : Tells). IsBuilt E l.blocks X x F a) (sym apart) (record {
-        automaton = built.automaton;
-        letters = built.letters;
-        language = built.language;
-        table = built.table;
-        placed = built.placed;
-        exact = λ e. built.exact tt;
-      }))))
-
-  pub class : (t : PathTerm) (k : ℕ) (a : Automaton) → t ≡ P.Class k → IsLetterAutomaton l.blocks (IsInEntry l k) a → Is t a
-  unfolding IsLetterAutomaton
-  class t k a is built = given t (P.Class k) _ _ _ a is (in_class m.setting k) (at_class m k) (apart_class m k) built
-
-  one_word : (s : ℕ) (a : Automaton) → IsLetterAutomaton l.blocks (λ t. t ≡ s) a → IsBuilt (Unit {0}) l.blocks (λ w. w ≡ s ∷ []) (LetterPlaces (λ t. t ≡ s)) (PartsApart NoParts NoParts) a
-  unfolding IsLetterAutomaton
-  one_word s a built = record {
-    automaton = built.automaton;
-    letters = built.letters;
-    language = λ w. (
-      λ h. let found = (built.language w).0 h in found.1 ∙ ap (λ (t : ℕ). t ∷ []) found.2,
-      λ e. (built.language w).1 (s, e, refl),
-    );
-    table = built.table;
-    placed = built.placed;
-    exact = built.exact;
-  }
-
-  pub one : (t : PathTerm) (s : ℕ) (a : Automaton) → t ≡ P.One s → IsLetterAutomaton l.blocks (λ r. r ≡ s) a → Is t a
-  one t s a is built = given t (P.One s) _ _ _ a is (in_one m.setting s) (at_one m s) (apart_one m s) (one_word s a built)
-
-  pub pre : (t : PathTerm) (a : Automaton) → t ≡ P.Pre → IsBuilt (Unit {0}) l.blocks paths.pre (PathSetPlaces paths.at_pre) (PartsApart NoParts NoParts) a → Is t a
-  pre t a is built = given t P.Pre _ _ _ a is (in_pre m.setting) (at_pre m) (apart_pre m) built
-
-  pub post : (t : PathTerm) (a : Automaton) → t ≡ P.Post → IsBuilt (Unit {0}) l.blocks paths.post (PathSetPlaces paths.at_post) (PartsApart NoParts NoParts) a → Is t a
-  post t a is built = given t P.Post _ _ _ a is (in_post m.setting) (at_post m) (apart_post m) built
+      ((built.leaves (l, at) (l.blocks, u)).empty (one_state u ok count start)))
 
   -- ---- states side by side
 
-  pub union : (t x y : PathTerm) (a b u w : Automaton) → t ≡ P.Union x y → Is x a → Is y b → w ≡ u → IsAutomaton w → u.letters ≡ a.letters
+  pub union : (x y : PathTerm) (a b u w : Automaton) → Is x a → Is y b → w ≡ u → IsAutomaton w → u.letters ≡ a.letters
       → states u ≡ 1 + states a + states b → ((v : List ℕ) → Reach u 0 v ↔ (v ≡ []))
       → ((q : ℕ) (v : List ℕ) → q < states a → Reach u (1 + q) v ↔ Reach a q v) → ((q : ℕ) (v : List ℕ) → Reach u (1 + states a + q) v ↔ Reach b q v)
-      → ((v : List ℕ) → Accepts u v ↔ (Accepts a v ⊎ Accepts b v)) → Is t w
+      → ((v : List ℕ) → Accepts u v ↔ (Accepts a v ⊎ Accepts b v)) → Is (P.Union x y) w
   unfolding IsMade
-  union t x y a b u w is one two same ok letters count start first second language =
-      well (Is t) u w same ok (λ ok.
-      by_form E l paths t (P.Union x y) (λ w. In m.setting x w ⊎ In m.setting y w) u (1 + (states a + states b)) is (in_union m.setting x y) ok (letters ∙ one.letters) (omega (arith, count))
+  union x y a b u w one two same ok letters count start first second language =
+      well (Is (P.Union x y)) u w same ok (λ ok.
+      by_form E l paths (P.Union x y) (λ w. In m.setting x w ⊎ In m.setting y w) u (1 + (states a + states b)) (in_union m.setting x y) ok (letters ∙ one.letters) (omega (arith, count))
       (λ w. (
         λ h. elim ((language (map f w)).0 h) [ inl left ↦ inl ((one.language w).0 left) | inr right ↦ inr ((two.language w).0 right) ],
         λ either. (language (map f w)).1 (elim either [ inl left ↦ inl ((one.language w).1 left) | inr right ↦ inr ((two.language w).1 right) ]),
       ))
-      (built.union m E x y (states a) (states b) (L a) (L b) (L u) (placed E l paths x a one) (placed E l paths y b two) (record {
+      ((of x a u one).union y (states b) (l.blocks, b) (placed E l paths y b two) (record {
         count = below a one.automaton;
         begin = begun u start;
         first = λ q w. first q (map f w);
         second = λ q w. second q (map f w);
       })))
 
-  pub concat : (t x y : PathTerm) (a b u w : Automaton) → t ≡ P.Concat x y → Is x a → Is y b → w ≡ u → IsAutomaton w → u.letters ≡ a.letters
+  pub concat : (x y : PathTerm) (a b u w : Automaton) → Is x a → Is y b → w ≡ u → IsAutomaton w → u.letters ≡ a.letters
       → states u ≡ states a + states b → ((q : ℕ) (v : List ℕ) → q < states a → Reach u q v ↔ Reach a q v)
       → ((q : ℕ) (v : List ℕ) → Reach u (states a + q) v ↔ Joins (Accepts a) (Reach b q) v)
-      → ((v : List ℕ) → Accepts u v ↔ Joins (Accepts a) (Accepts b) v) → Is t w
+      → ((v : List ℕ) → Accepts u v ↔ Joins (Accepts a) (Accepts b) v) → Is (P.Concat x y) w
   unfolding IsMade
-  concat t x y a b u w is one two same ok letters count first second language =
-      well (Is t) u w same ok (λ ok.
-      by_form E l paths t (P.Concat x y) (λ w. Concatenation (In m.setting x) (In m.setting y) w) u (states a + states b) is (in_concat m.setting x y) ok (letters ∙ one.letters) count
+  concat x y a b u w one two same ok letters count first second language =
+      well (Is (P.Concat x y)) u w same ok (λ ok.
+      by_form E l paths (P.Concat x y) (λ w. Concatenation (In m.setting x) (In m.setting y) w) u (states a + states b) (in_concat m.setting x y) ok (letters ∙ one.letters) count
       (read_as f (Accepts u) (Joins (Accepts a) (Accepts b)) (Concatenation (In m.setting x) (In m.setting y)) language
       (joined f (Accepts a) (Accepts b) (In m.setting x) (In m.setting y) one.language two.language))
-      (built.joined m E x y (states a) (states b) (L a) (L b) (L u) (placed E l paths x a one) (placed E l paths y b two) (record {
+      ((of x a u one).concat y (states b) (l.blocks, b) (placed E l paths y b two) (record {
         count = below a one.automaton;
         first = λ q w. first q (map f w);
         second = λ q. read_as f (Reach u (states a + q)) (Joins (Accepts a) (Reach b q)) (Concatenation (In m.setting x) (L b q)) (second q)
             (joined f (Accepts a) (Reach b q) (In m.setting x) (L b q) one.language (λ v. ((λ h. h), λ h. h)));
       })))
 
-  pub star : (t x : PathTerm) (a u w : Automaton) → t ≡ P.Star x → Is x a → w ≡ u → IsAutomaton w → u.letters ≡ a.letters
+  pub star : (x : PathTerm) (a u w : Automaton) → Is x a → w ≡ u → IsAutomaton w → u.letters ≡ a.letters
       → states u ≡ 1 + states a → ((v : List ℕ) → Reach u 0 v ↔ (v ≡ []))
       → ((q : ℕ) (v : List ℕ) → Reach u (1 + q) v ↔ Joins (Repeats (Accepts a)) (Reach a q) v)
-      → ((v : List ℕ) → Accepts u v ↔ Repeats (Accepts a) v) → Is t w
+      → ((v : List ℕ) → Accepts u v ↔ Repeats (Accepts a) v) → Is (P.Star x) w
   unfolding IsMade
-  star t x a u w is one same ok letters count start copies language =
+  star x a u w one same ok letters count start copies language =
       let stars = repeated f (Accepts a) (In m.setting x) one.language in
-      well (Is t) u w same ok (λ ok.
-      by_form E l paths t (P.Star x) (λ w. Star (In m.setting x) w) u (1 + states a) is (in_star m.setting x) ok (letters ∙ one.letters) count
+      well (Is (P.Star x)) u w same ok (λ ok.
+      by_form E l paths (P.Star x) (λ w. Star (In m.setting x) w) u (1 + states a) (in_star m.setting x) ok (letters ∙ one.letters) count
       (read_as f (Accepts u) (Repeats (Accepts a)) (Star (In m.setting x)) language stars)
-      (built.star m E x (states a) (L a) (L u) (placed E l paths x a one) (record {
+      ((of x a u one).star (record {
         begin = begun u start;
         copies = λ q. read_as f (Reach u (1 + q)) (Joins (Repeats (Accepts a)) (Reach a q)) (Concatenation (Star (In m.setting x)) (L a q)) (copies q)
             (joined f (Repeats (Accepts a)) (Reach a q) (Star (In m.setting x)) (L a q) stars (λ v. ((λ h. h), λ h. h)));
@@ -185,18 +146,18 @@ module _ (E : Type 0) (l : Lettering) (paths : Paths) where
 
   -- ---- pairs of states
 
-  pub meet : (t x y : PathTerm) (a b u w : Automaton) → t ≡ P.Meet x y → Is x a → Is y b → w ≡ u → IsAutomaton w → u.letters ≡ a.letters
-      → (pairs : List Pair) × IsMeet a b pairs u → ((v : List ℕ) → Accepts u v ↔ (Accepts a v × Accepts b v)) → Is t w
+  pub meet : (x y : PathTerm) (a b u w : Automaton) → Is x a → Is y b → w ≡ u → IsAutomaton w → u.letters ≡ a.letters
+      → (pairs : List Pair) × IsMeet a b pairs u → ((v : List ℕ) → Accepts u v ↔ (Accepts a v × Accepts b v)) → Is (P.Meet x y) w
   unfolding IsMade
-  meet t x y a b u w is one two same ok letters (pairs, meets) language =
-      well (Is t) u w same ok (λ ok.
-      by_form E l paths t (P.Meet x y) (λ w. In m.setting x w × In m.setting y w) u (length (map two_of pairs)) is (in_meet m.setting x y) ok (letters ∙ one.letters)
+  meet x y a b u w one two same ok letters (pairs, meets) language =
+      well (Is (P.Meet x y)) u w same ok (λ ok.
+      by_form E l paths (P.Meet x y) (λ w. In m.setting x w × In m.setting y w) u (length (map two_of pairs)) (in_meet m.setting x y) ok (letters ∙ one.letters)
       (sym (length-map pairs two_of ∙ meets.count))
       (λ w. (
         λ h. let both = (language (map f w)).0 h in ((one.language w).0 both.0, (two.language w).0 both.1),
         λ both. (language (map f w)).1 ((one.language w).1 both.0, (two.language w).1 both.1),
       ))
-      (built.meet m E x y (states a) (states b) (L a) (L b) (L u) (placed E l paths x a one) (placed E l paths y b two) (map two_of pairs)
+      ((of x a u one).meet y (states b) (l.blocks, b) (placed E l paths y b two) (map two_of pairs)
       (numbered pairs (ReachTogether (L a) (L b)) (L u) (record {
         distinct = meets.distinct;
         all = λ z w both. meets.all z (map f w, both);
@@ -204,14 +165,14 @@ module _ (E : Type 0) (l : Lettering) (paths : Paths) where
         reached = λ k z at w. meets.reached k z at (map f w);
       }))))
 
-  pub image : (t x : PathTerm) (r : RelTerm) (a : Automaton) (s : Machine) (u w : Automaton) → t ≡ P.Image x r → Covers (read_by l.blocks) (block_count l.blocks)
+  pub image : (x : PathTerm) (r : RelTerm) (a : Automaton) (s : Machine) (u w : Automaton) → Covers (read_by l.blocks) (block_count l.blocks)
       → Is x a → IsMadeR E l paths r s → w ≡ u → IsAutomaton w → u.letters ≡ a.letters → (pairs : List Pair) × IsImage a s pairs u
-      → ((read : ℕ → ℕ) → Covers read a.letters → (v : List ℕ) → Accepts u (map read v) ↔ ((source : List ℕ) × Accepts a (map read source) × Relates read s source v)) → Is t w
+      → ((read : ℕ → ℕ) → Covers read a.letters → (v : List ℕ) → Accepts u (map read v) ↔ ((source : List ℕ) × Accepts a (map read source) × Relates read s source v)) → Is (P.Image x r) w
   unfolding IsMade IsMadeR
-  image t x r a s u w is covers one two same ok letters (pairs, images) language =
+  image x r a s u w covers one two same ok letters (pairs, images) language =
       let covers_a : Covers f a.letters = subst (Covers f) (sym one.letters) covers in
-      well (Is t) u w same ok (λ ok.
-      by_form E l paths t (P.Image x r) (λ w. ImageOf (In m.setting x) (InR m.setting r) w) u (length (map two_of pairs)) is (in_image m.setting x r) ok (letters ∙ one.letters)
+      well (Is (P.Image x r)) u w same ok (λ ok.
+      by_form E l paths (P.Image x r) (λ w. ImageOf (In m.setting x) (InR m.setting r) w) u (length (map two_of pairs)) (in_image m.setting x r) ok (letters ∙ one.letters)
       (sym (length-map pairs two_of ∙ images.count))
       (λ v. (
         λ accepted.
@@ -222,7 +183,7 @@ module _ (E : Type 0) (l : Lettering) (paths : Paths) where
             },
         λ i. (language f covers_a v).1 (i.source, (one.language i.source).1 i.in_set, (two.relation i.source v).1 i.related),
       ))
-      (built.image m E x (states a) (L a) (L u) (placed E l paths x a one) r (machine_states s) (LeadsR l.blocks s) (map two_of pairs) (placed_r E l paths r s two)
+      ((of x a u one).image r (machine_states s) (l.blocks, s) (placed_r E l paths r s two) (map two_of pairs)
       (numbered pairs (ReachFromSource (L a) (LeadsR l.blocks s)) (L u) (record {
         distinct = images.distinct;
         all = λ z v (source, first, second). images.all z (map f source, map f v, first, letters_reached f s z.right source v second);
@@ -257,10 +218,10 @@ module _ (E : Type 0) (l : Lettering) (paths : Paths) where
     arrives : (w : List ℕ) (q : ℕ) → IsPathWord l.path_symbols w → is.after (map f w) ≡ q → L r q w
     arrives w q path at = (is.reached q (map f w)).1 (is_over w path, at)
 
-  pub complement : (t x : PathTerm) (a u : Automaton) → t ≡ P.Complement x → Is x a → IsComplementOf l E a u → Is t u
+  pub complement : (x : PathTerm) (a u : Automaton) → Is x a → (set : List Bool) → HoldsJust l.blocks (λ s. s < l.path_symbols) set → IsComplement a set u → (E → TellsAll a u) → Is (P.Complement x) u
   unfolding IsMade complement_states
-  complement t x a u is one (set, of_path, complements, all) =
-      by_form E l paths t (P.Complement x) (λ w. IsPathWord l.path_symbols w × (¬ In m.setting x w)) u (states u) is (in_complement m.setting x) complements.automaton
+  complement x a u one set of_path complements all =
+      by_form E l paths (P.Complement x) (λ w. IsPathWord l.path_symbols w × (¬ In m.setting x w)) u (states u) (in_complement m.setting x) complements.automaton
       (complements.letters ∙ one.letters) refl
       (λ w. (
         λ h.
@@ -268,7 +229,7 @@ module _ (E : Type 0) (l : Lettering) (paths : Paths) where
             (of_over a u set of_path complements w both.0, λ in_x. both.1 ((one.language w).1 in_x)),
         λ both. (complements.language (map f w)).1 (is_over a u set of_path complements w both.0, λ accepted. both.1 ((one.language w).0 accepted)),
       ))
-      (built.complement m E x (states a) (L a) (L u) (placed E l paths x a one) (states u) (complement_states a u set of_path complements) (λ e. record {
+      ((of x a u one).complement (states u) (complement_states a u set of_path complements) (λ e. record {
         below = λ v path. below u complements.automaton (complements.after (map f v)) v (arrives a u set of_path complements v (complements.after (map f v)) path refl);
         alike = λ v w of_v of_w same.
             all e (complements.after (map f w)) (map f v) (map f w)

@@ -8,3 +8,4 @@ pub mod Numbered
 pub mod PathSets
 pub mod Reading
 pub mod Stops
+pub mod TermMachines

@@ -5,7 +5,6 @@ use Rattle.rela_rir.specs.Complements.{complemented_parts, complemented_parts_r}
 use Rattle.rela_rir.specs.Limit.{ReachedInside, ReachedInsideR}
 use Rattle.rela_rir.specs.declared.term.PathTerm.{PathTerm}
 use Rattle.rela_rir.specs.declared.term.RelTerm.{RelTerm}
-use Rattle.rela_build.specs.Complement.{IsComplement, TellsAll}
 use Rattle.rela_build.specs.Lettering.{Lettering}
 use Rattle.rela_build.specs.PathSets.{Paths, scene_of}
 use Rattle.rela_build.specs.Reading.{HoldsJust}
@@ -103,13 +102,8 @@ module _ (refuses : ℕ → Automaton → List Bool → Type 0) (exactly : Type 
       ⊎ ReachedInsideR (scene_of l paths) (limit + 1) s)
       (Refuses (complemented_parts_r r ++ complemented_parts_r s)) e
 
--- r is the complement of the part over the letters of the path symbols
-abbrev pub IsComplementOf : Lettering → Type 0 → Automaton → Automaton → Type 0
-IsComplementOf l exactly a r =
-    (over : List Bool) × HoldsJust l.blocks (λ s. s < l.path_symbols) over × IsComplement a over r
-    × (exactly → TellsAll a r)
-
--- new is old and a note of that complement, whose number is how many notes were there before
+-- new is old and a note of the complement of the automaton over the letters of the path symbols, whose number is how many
+-- notes were there before
 abbrev pub NotesOne : {N : Type 0} → (ℕ → Automaton → List Bool → N → Type 0) → Lettering →
     Automaton → List N → List N → Type 0
 NotesOne {N} answers l a old new =

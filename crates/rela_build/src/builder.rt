@@ -2,12 +2,14 @@
 //! determinised. The functions go as deep into the stack as the terms.
 ghost use Rattle.std.specs.Prelude.{◌≡◌, ◌≤◌, IfOk, IfErr, OnOk, length};
 ghost use Rattle.rela_labels.specs.Partition.{block_count};
+ghost use Rattle.rela_build.specs.Combined.{FromOne};
 ghost use Rattle.rela_build.specs.Lettering.{IsAlone, IsInEntry};
 ghost use Rattle.rela_build.specs.Made.{IsLetterAutomaton, IsMade, IsMadeR};
 ghost use Rattle.rela_build.specs.Named.{Names, NamesR};
-ghost use Rattle.rela_build.specs.Notes.{Explains, IsComplementOf, Noted, NotedR, NotedTwo, NotedTwoR, NotesOne, RefusesOne, Stopped, StoppedR, StoppedTwo, StoppedTwoR};
+ghost use Rattle.rela_build.specs.Notes.{Explains, Noted, NotedR, NotedTwo, NotedTwoR, NotesOne, RefusesOne, Stopped, StoppedR, StoppedTwo, StoppedTwoR};
+ghost use Rattle.rela_rir.specs.declared.term.PathTerm.TheVariants as sets;
 
-use crate::combined::Two;
+use crate::combined::{TermMachines, Two};
 use crate::complements::Complements;
 use crate::letters::Letters;
 use crate::path_sets::PathSets;
@@ -16,7 +18,7 @@ use crate::well_formed::as_automaton;
 use rela_labels::WideSet;
 use rela_names::Symbol;
 use rela_nfa::Nfa;
-use rela_rir::{PathTerm, RelTerm};
+use rela_rir::{PathTerm, RelTerm, built_terms_are_placed};
 use rela_trans::Transducer;
 use std::alloc::{AllocError, Global};
 
@@ -66,14 +68,8 @@ impl<'a, C: Complements, P: PathSets> Builder<'a, C, P> {
             (length notes.old.items) term.now) }
     {
         match term {
-            PathTerm::None => {
-                let none = Nfa::none(alloc, self.letters.count())?;
-                Ok(as_automaton(none))
-            }
-            PathTerm::Empty => {
-                let empty = Nfa::empty_word(alloc, self.letters.count())?;
-                Ok(as_automaton(empty))
-            }
+            PathTerm::None => Ok(self.none(alloc)?),
+            PathTerm::Empty => Ok(self.empty(alloc)?),
             PathTerm::Class(entry) => Ok(class_automaton(alloc, *entry, self.letters)?),
             PathTerm::One(symbol) => Ok(symbol_automaton(alloc, *symbol, self.letters)?),
             PathTerm::Union(a, b) => {
@@ -90,7 +86,6 @@ impl<'a, C: Complements, P: PathSets> Builder<'a, C, P> {
             }
             PathTerm::Meet(a, b) => {
                 let parts = self.two(alloc, a.get(), b.get(), notes)?;
-                self.letters.are_covered();
                 Ok(self.meet(alloc, parts)?)
             }
             PathTerm::Complement(part) => {
@@ -102,7 +97,6 @@ impl<'a, C: Complements, P: PathSets> Builder<'a, C, P> {
             PathTerm::Image(set, relation) => {
                 let words = self.automaton(alloc, set.get(), notes)?;
                 let pairs = self.transducer(alloc, relation.get(), notes)?;
-                self.letters.are_covered();
                 Ok(self.image(alloc, words, pairs)?)
             }
         }
@@ -151,7 +145,6 @@ impl<'a, C: Complements, P: PathSets> Builder<'a, C, P> {
             }
             RelTerm::Compose(a, b) => {
                 let parts = self.two_transducers(alloc, a.get(), b.get(), notes)?;
-                self.letters.are_covered();
                 Ok(self.compose(alloc, parts)?)
             }
         }
@@ -215,6 +208,26 @@ impl<'a, C: Complements, P: PathSets> Builder<'a, C, P> {
         Ok(Two { first, second })
     }
 
+    /// No word.
+    fn none(&self, alloc: Global) -> Result<Nfa<WideSet>, AllocError>
+        ensures { IfOk result (IsMade C.tells_all self.now.letters.now
+            (P.paths self.now.paths.now) sets.None) }
+    {
+        built_terms_are_placed::<TermMachines<C, P>>();
+        let none = Nfa::none(alloc, self.letters.count())?;
+        Ok(as_automaton(none))
+    }
+
+    /// The empty word alone.
+    fn empty(&self, alloc: Global) -> Result<Nfa<WideSet>, AllocError>
+        ensures { IfOk result (IsMade C.tells_all self.now.letters.now
+            (P.paths self.now.paths.now) sets.Empty) }
+    {
+        built_terms_are_placed::<TermMachines<C, P>>();
+        let empty = Nfa::empty_word(alloc, self.letters.count())?;
+        Ok(as_automaton(empty))
+    }
+
     /// The complement of a part over the path symbols, of which the note is pushed to `notes`. Its
     /// number is the number of notes before it.
     ///
@@ -229,13 +242,14 @@ impl<'a, C: Complements, P: PathSets> Builder<'a, C, P> {
         notes: &mut Vec<C::Note>,
     ) -> Result<Nfa<WideSet>, Stop>
         requires { part.now.letters ≡ block_count self.now.letters.now.blocks }
-        ensures complement { IfOk result
-            (IsComplementOf self.now.letters.now C.tells_all part.now) }
+        ensures made { IfOk result (FromOne C.tells_all self.now.letters.now
+            (P.paths self.now.paths.now) sets.Complement part.now) }
         ensures noted { OnOk result (NotesOne (C.answers self.now.complements.now)
             self.now.letters.now part.now notes.old.items notes.new.items) }
         ensures stopped { IfErr result (Explains ⊥ (RefusesOne (C.refuses self.now.complements.now)
             self.now.letters.now part.now (length notes.old.items))) }
     {
+        built_terms_are_placed::<TermMachines<C, P>>();
         let number = notes.len();
         match self
             .complements

@@ -1,14 +1,10 @@
 //! The operations on what the parts of a term were made into. Each lets its parts go, so that the
 //! builder's functions hold none of them while a call can fail.
 ghost use Rattle.std.specs.Prelude.{◌≡◌, ◌≤◌, IfOk, IfErr};
-ghost use Rattle.rela_build.specs.Combined.{FromBoth, FromOne, FromOneR, FromSides, FromTwo, FromTwoR, FromWords};
-ghost use Rattle.rela_nfa.specs.Meeting.{AreReachedTogether};
-ghost use Rattle.rela_pairs.specs.Reachable.{MoreThan};
-ghost use Rattle.rela_pairs.specs.declared.errors.BuildError.{BuildError};
+ghost use Rattle.rela_build.specs.Combined.{FromBoth, FromOne, FromOneR, FromSides, FromTwo, FromTwoR, FromWords, PassesBoth, PassesTwo, PassesTwoR};
+ghost use Rattle.rela_build.specs.TermMachines.{term_machines};
 ghost use Rattle.rela_rir.specs.declared.term.PathTerm.TheVariants as sets;
 ghost use Rattle.rela_rir.specs.declared.term.RelTerm.TheVariants as relations;
-ghost use Rattle.rela_trans.specs.Composition.{AreReachedThrough};
-ghost use Rattle.rela_trans.specs.Images.{AreReachedFrom};
 
 use crate::builder::Builder;
 use crate::complements::Complements;
@@ -16,8 +12,23 @@ use crate::path_sets::PathSets;
 use crate::well_formed::{as_automaton, as_transducer};
 use rela_labels::WideSet;
 use rela_nfa::{BuildError, Nfa};
+use rela_rir::{Machinery, built_terms_are_placed, reached_states_are_places};
 use rela_trans::{Transducer, image};
 use std::alloc::{AllocError, Global};
+use std::marker::PhantomData;
+
+/// What terms are built into, over any letters and with any of these path sets. Only contracts name
+/// it.
+pub(crate) struct TermMachines<C: Complements, P: PathSets> {
+    /// How complements are made.
+    complements: PhantomData<C>,
+    /// The path sets.
+    paths: PhantomData<P>,
+}
+
+impl<C: Complements, P: PathSets> Machinery for TermMachines<C, P> {
+    ghost machines = { term_machines C.tells_all P P.paths };
+}
 
 /// The automata of two path terms, or the transducers of two relation terms.
 #[derive(Drop)]
@@ -39,6 +50,7 @@ impl<'a, C: Complements, P: PathSets> Builder<'a, C, P> {
         ensures { IfOk result (FromTwo C.tells_all self.now.letters.now (P.paths self.now.paths.now)
             sets.Union parts.first parts.second) }
     {
+        built_terms_are_placed::<TermMachines<C, P>>();
         let union = parts.first.union(alloc, &parts.second)?;
         Ok(as_automaton(union))
     }
@@ -53,6 +65,7 @@ impl<'a, C: Complements, P: PathSets> Builder<'a, C, P> {
         ensures { IfOk result (FromTwo C.tells_all self.now.letters.now (P.paths self.now.paths.now)
             sets.Concat parts.first parts.second) }
     {
+        built_terms_are_placed::<TermMachines<C, P>>();
         let concat = parts.first.concat(alloc, &parts.second)?;
         Ok(as_automaton(concat))
     }
@@ -66,6 +79,7 @@ impl<'a, C: Complements, P: PathSets> Builder<'a, C, P> {
         ensures { IfOk result (FromOne C.tells_all self.now.letters.now (P.paths self.now.paths.now)
             sets.Star words) }
     {
+        built_terms_are_placed::<TermMachines<C, P>>();
         let star = words.star(alloc)?;
         Ok(as_automaton(star))
     }
@@ -81,9 +95,12 @@ impl<'a, C: Complements, P: PathSets> Builder<'a, C, P> {
         ensures made { IfOk result (FromTwo C.tells_all self.now.letters.now
             (P.paths self.now.paths.now)
             sets.Meet parts.first parts.second) }
-        ensures limit { IfErr result (λ e. e ≡ BuildError.Limit
-            → MoreThan self.now.limit (AreReachedTogether parts.first parts.second)) }
+        ensures limit { IfErr result (PassesTwo C.tells_all self.now.letters.now
+            (P.paths self.now.paths.now) sets.Meet self.now.limit parts.first parts.second) }
     {
+        self.letters.are_covered();
+        built_terms_are_placed::<TermMachines<C, P>>();
+        reached_states_are_places::<TermMachines<C, P>>();
         let meet = parts.first.meet(alloc, &parts.second, self.limit)?;
         Ok(as_automaton(meet))
     }
@@ -100,10 +117,12 @@ impl<'a, C: Complements, P: PathSets> Builder<'a, C, P> {
         ensures made { IfOk result (FromBoth C.tells_all self.now.letters.now
             (P.paths self.now.paths.now)
             sets.Image words pairs) }
-        ensures limit { IfErr result (λ e. e ≡ BuildError.Limit
-            → MoreThan self.now.limit (AreReachedFrom words pairs)) }
+        ensures limit { IfErr result (PassesBoth C.tells_all self.now.letters.now
+            (P.paths self.now.paths.now) sets.Image self.now.limit words pairs) }
     {
         self.letters.are_covered();
+        built_terms_are_placed::<TermMachines<C, P>>();
+        reached_states_are_places::<TermMachines<C, P>>();
         let image = image(alloc, &words, &pairs, self.limit)?;
         Ok(as_automaton(image))
     }
@@ -118,6 +137,7 @@ impl<'a, C: Complements, P: PathSets> Builder<'a, C, P> {
             (P.paths self.now.paths.now)
             relations.Identity words) }
     {
+        built_terms_are_placed::<TermMachines<C, P>>();
         let identity = Transducer::identity(alloc, &words)?;
         Ok(as_transducer(identity))
     }
@@ -133,6 +153,7 @@ impl<'a, C: Complements, P: PathSets> Builder<'a, C, P> {
             (P.paths self.now.paths.now)
             relations.Product parts.first parts.second) }
     {
+        built_terms_are_placed::<TermMachines<C, P>>();
         let product = Transducer::product(alloc, &parts.first, &parts.second)?;
         Ok(as_transducer(product))
     }
@@ -148,6 +169,7 @@ impl<'a, C: Complements, P: PathSets> Builder<'a, C, P> {
             (P.paths self.now.paths.now)
             relations.Union parts.first parts.second) }
     {
+        built_terms_are_placed::<TermMachines<C, P>>();
         let Two { first, second } = parts;
         let union = first.into_union(alloc, second)?;
         Ok(as_transducer(union))
@@ -164,6 +186,7 @@ impl<'a, C: Complements, P: PathSets> Builder<'a, C, P> {
             (P.paths self.now.paths.now)
             relations.Concat parts.first parts.second) }
     {
+        built_terms_are_placed::<TermMachines<C, P>>();
         let Two { first, second } = parts;
         let concat = first.into_concat(alloc, second)?;
         Ok(as_transducer(concat))
@@ -179,6 +202,7 @@ impl<'a, C: Complements, P: PathSets> Builder<'a, C, P> {
             (P.paths self.now.paths.now)
             relations.Star pairs) }
     {
+        built_terms_are_placed::<TermMachines<C, P>>();
         let star = pairs.into_star(alloc)?;
         Ok(as_transducer(star))
     }
@@ -194,10 +218,13 @@ impl<'a, C: Complements, P: PathSets> Builder<'a, C, P> {
         ensures made { IfOk result (FromTwoR C.tells_all self.now.letters.now
             (P.paths self.now.paths.now)
             relations.Compose parts.first parts.second) }
-        ensures limit { IfErr result (λ e. e ≡ BuildError.Limit
-            → MoreThan self.now.limit (AreReachedThrough parts.first parts.second)) }
+        ensures limit { IfErr result (PassesTwoR C.tells_all self.now.letters.now
+            (P.paths self.now.paths.now) relations.Compose self.now.limit
+            parts.first parts.second) }
     {
         self.letters.are_covered();
+        built_terms_are_placed::<TermMachines<C, P>>();
+        reached_states_are_places::<TermMachines<C, P>>();
         let composition = parts.first.compose(alloc, &parts.second, self.limit)?;
         Ok(as_transducer(composition))
     }

@@ -1,5 +1,6 @@
-use Rattle.std.proofs.Common.{ℕ, ◌<◌, List, length, refl, sym, ap, ◌∙◌, subst, rules, arith}
+use Rattle.std.proofs.Common.{ℕ, ◌+◌, ◌<◌, List, length, refl, sym, ◌∙◌, subst, rules, arith}
 use Rattle.std.proofs.lemmas.Result.{IfOk-weaker, IfErr-weaker, on_ok_weaker}
+use Rattle.rela_rir.specs.Limit.{ReachedInside, ReachedInsideR}
 use Rattle.rela_rir.specs.Places.{PathSetPlaces, PartsApart, NoParts}
 use Rattle.rela_rir.specs.declared.term.PathTerm.{PathTerm}
 use Rattle.rela_rir.specs.declared.term.RelTerm.{RelTerm}
@@ -11,14 +12,14 @@ use Rattle.rela_rir.proofs.term.RelTerm.TheLaws as relation_sizes
 use Rattle.rela_build.specs.Lettering.{IsAlone}
 use Rattle.rela_build.specs.Made.{IsBuilt, IsMade, IsMadeR}
 use Rattle.rela_build.specs.Named.{Names, NamesR}
+use Rattle.rela_build.specs.PathSets.{scene_of}
 use Rattle.rela_build.specs.Notes.{Stopped, StoppedR, StoppedTwo, StoppedTwoR}
 use Rattle.rela_build.specs.declared.stop.Stop.{Stop}
-use Rattle.rela_build.proofs.LimitForms as limits
-use Rattle.rela_build.proofs.MadePairs as pairs
-use Rattle.rela_build.proofs.MadeTerms as terms
-use Rattle.rela_build.proofs.NamedForms.{opened, part_named, form_of_one, form_of_two, names_one, names_union, names_concat, names_star, names_meet, names_complement, names_image, names_identity, names_product, names_union_r, names_concat_r, names_star_r, names_compose}
+use Rattle.rela_build.proofs.MadeLeaves as leaves
+use Rattle.rela_build.proofs.NamedForms.{named_forms, part_named, form_of_one, form_of_two}
 use Rattle.rela_build.proofs.NoteForms.{note_none, note_empty, note_class, note_one, note_pre, note_post, note_union, note_concat, note_star, note_meet, note_image, note_complement, note_identity_r, note_product_r, note_union_r, note_concat_r, note_star_r, note_compose_r, note_two, note_two_r, after_term, after_term_r, stop_union, stop_concat, stop_star, stop_meet, stop_complement, stop_refused, stop_image_set, stop_image_pairs, stop_identity_r, stop_product_r, stop_union_r, stop_concat_r, stop_star_r, stop_compose_r, stop_limit, stop_limit_r, stop_memory, stop_memory_r, stop_first, stop_second, stop_first_r, stop_second_r}
 use Rattle.rela_build.proofs.NotesInOrder.{exit}
+use Rattle.rela_build.proofs.PlacedTerms.{made_letters, made_letters_r}
 use Rattle.rela_build.proofs.builder.Builder.+terms.Goals as goal
 
 pub automaton-returns-in_err-parts-in-Union-clause-stopped : goal.automaton-returns-in_err-parts-in-Union-clause-stopped
@@ -38,7 +39,7 @@ automaton-returns-in_ok-union-in-Union-clause-noted g t c =
 
 pub automaton-union-requires : goal.automaton-union-requires
 automaton-union-requires g t c =
-    terms.made_letters g.C.Complements.tells_all c.args.self.now.letters.now (g.P.PathSets.paths c.args.self.now.paths.now) c.get.result.now c.in_ok-parts-in-Union.parts.first c.in_ok-parts-in-Union.ensures.first ∙ sym (terms.made_letters g.C.Complements.tells_all c.args.self.now.letters.now (g.P.PathSets.paths c.args.self.now.paths.now) c.get-in-Union.result.now c.in_ok-parts-in-Union.parts.second c.in_ok-parts-in-Union.ensures.second)
+    made_letters g.C.Complements.tells_all c.args.self.now.letters.now (g.P.PathSets.paths c.args.self.now.paths.now) c.get.result.now c.in_ok-parts-in-Union.parts.first c.in_ok-parts-in-Union.ensures.first ∙ sym (made_letters g.C.Complements.tells_all c.args.self.now.letters.now (g.P.PathSets.paths c.args.self.now.paths.now) c.get-in-Union.result.now c.in_ok-parts-in-Union.parts.second c.in_ok-parts-in-Union.ensures.second)
 
 pub automaton-returns-in_err-union-in-Union-clause-stopped : goal.automaton-returns-in_err-union-in-Union-clause-stopped
 automaton-returns-in_err-union-in-Union-clause-stopped g t c =
@@ -61,7 +62,7 @@ automaton-returns-in_ok-concat-in-Concat-clause-noted g t c =
 
 pub automaton-concat-requires : goal.automaton-concat-requires
 automaton-concat-requires g t c =
-    terms.made_letters g.C.Complements.tells_all c.args.self.now.letters.now (g.P.PathSets.paths c.args.self.now.paths.now) c.get-in-Concat.result.now c.in_ok-parts-in-Concat.parts.first c.in_ok-parts-in-Concat.ensures.first ∙ sym (terms.made_letters g.C.Complements.tells_all c.args.self.now.letters.now (g.P.PathSets.paths c.args.self.now.paths.now) c.get-in-Concat-2.result.now c.in_ok-parts-in-Concat.parts.second c.in_ok-parts-in-Concat.ensures.second)
+    made_letters g.C.Complements.tells_all c.args.self.now.letters.now (g.P.PathSets.paths c.args.self.now.paths.now) c.get-in-Concat.result.now c.in_ok-parts-in-Concat.parts.first c.in_ok-parts-in-Concat.ensures.first ∙ sym (made_letters g.C.Complements.tells_all c.args.self.now.letters.now (g.P.PathSets.paths c.args.self.now.paths.now) c.get-in-Concat-2.result.now c.in_ok-parts-in-Concat.parts.second c.in_ok-parts-in-Concat.ensures.second)
 
 pub automaton-returns-in_err-concat-in-Concat-clause-stopped : goal.automaton-returns-in_err-concat-in-Concat-clause-stopped
 automaton-returns-in_err-concat-in-Concat-clause-stopped g t c =
@@ -84,13 +85,14 @@ automaton-returns-in_ok-meet-in-Meet-clause-noted g t c =
 
 pub automaton-meet-requires-clause-letters : goal.automaton-meet-requires-clause-letters
 automaton-meet-requires-clause-letters g t c =
-    terms.made_letters g.C.Complements.tells_all c.args.self.now.letters.now (g.P.PathSets.paths c.args.self.now.paths.now) c.get-in-Meet.result.now c.in_ok-parts-in-Meet.parts.first c.in_ok-parts-in-Meet.ensures.first ∙ sym (terms.made_letters g.C.Complements.tells_all c.args.self.now.letters.now (g.P.PathSets.paths c.args.self.now.paths.now) c.get-in-Meet-2.result.now c.in_ok-parts-in-Meet.parts.second c.in_ok-parts-in-Meet.ensures.second)
+    made_letters g.C.Complements.tells_all c.args.self.now.letters.now (g.P.PathSets.paths c.args.self.now.paths.now) c.get-in-Meet.result.now c.in_ok-parts-in-Meet.parts.first c.in_ok-parts-in-Meet.ensures.first ∙ sym (made_letters g.C.Complements.tells_all c.args.self.now.letters.now (g.P.PathSets.paths c.args.self.now.paths.now) c.get-in-Meet-2.result.now c.in_ok-parts-in-Meet.parts.second c.in_ok-parts-in-Meet.ensures.second)
 
 pub automaton-returns-in_err-meet-in-Meet-clause-stopped : goal.automaton-returns-in_err-meet-in-Meet-clause-stopped
 automaton-returns-in_err-meet-in-Meet-clause-stopped g t c =
     exit _ _ c.from_residual-in_err-meet-in-Meet.result c.from_residual-in_err-meet-in-Meet.ensures.1
     (λ e is. stop_limit (g.C.Complements.refuses c.args.self.now.complements.now) g.C.Complements.tells_all c.args.self.now.letters.now (g.P.PathSets.paths c.args.self.now.paths.now) c.args.self.now.limit (length c.args.notes.now.items) c.args.term.now _ e is
-    (λ passed. limits.meet g.C.Complements.tells_all c.args.self.now.letters.now (g.P.PathSets.paths c.args.self.now.paths.now) c.are_covered.ensures.letters c.are_covered.ensures.symbols c.get-in-Meet.result.now c.get-in-Meet-2.result.now c.in_ok-parts-in-Meet.parts.first c.in_ok-parts-in-Meet.parts.second c.in_ok-parts-in-Meet.ensures.first c.in_ok-parts-in-Meet.ensures.second c.args.term.now c.args.self.now.limit (form_of_two P.Meet c.args.term.now c.in-Meet.a c.get-in-Meet.result.now c.in-Meet.b c.get-in-Meet-2.result.now c.in-Meet.is c.get-in-Meet.ensures c.get-in-Meet-2.ensures) (c.in_err-meet-in-Meet.ensures.limit passed)))
+    (λ passed. part_named (λ (v : PathTerm). ReachedInside (scene_of c.args.self.now.letters.now (g.P.PathSets.paths c.args.self.now.paths.now)) (c.args.self.now.limit + 1) v) c.args.term.now (P.Meet c.get-in-Meet.result.now c.get-in-Meet-2.result.now)
+    (form_of_two P.Meet c.args.term.now c.in-Meet.a c.get-in-Meet.result.now c.in-Meet.b c.get-in-Meet-2.result.now c.in-Meet.is c.get-in-Meet.ensures c.get-in-Meet-2.ensures) (c.in_err-meet-in-Meet.ensures.limit passed c.get-in-Meet.result.now c.get-in-Meet-2.result.now c.in_ok-parts-in-Meet.ensures.first c.in_ok-parts-in-Meet.ensures.second)))
 
 pub automaton-returns-in_err-words-in-Star-clause-stopped : goal.automaton-returns-in_err-words-in-Star-clause-stopped
 automaton-returns-in_err-words-in-Star-clause-stopped g t c =
@@ -118,7 +120,8 @@ automaton-returns-in_err-words-in-Complement-clause-stopped g t c =
 
 pub automaton-returns-in_ok-words-in-Complement-clause-made : goal.automaton-returns-in_ok-words-in-Complement-clause-made
 automaton-returns-in_ok-words-in-Complement-clause-made g t c =
-    IfOk-weaker c.complement.result _ _ (λ u of. terms.complement g.C.Complements.tells_all c.args.self.now.letters.now (g.P.PathSets.paths c.args.self.now.paths.now) c.args.term.now c.get-in-Complement.result.now c.in_ok-words-in-Complement.words u (form_of_one P.Complement c.args.term.now c.in-Complement.part c.get-in-Complement.result.now c.in-Complement.is c.get-in-Complement.ensures) c.in_ok-words-in-Complement.ensures.made of) c.complement.ensures.complement
+    IfOk-weaker c.complement.result _ _
+    (λ u made. part_named (λ (v : PathTerm). IsMade g.C.Complements.tells_all c.args.self.now.letters.now (g.P.PathSets.paths c.args.self.now.paths.now) v u) c.args.term.now (P.Complement c.get-in-Complement.result.now) (form_of_one P.Complement c.args.term.now c.in-Complement.part c.get-in-Complement.result.now c.in-Complement.is c.get-in-Complement.ensures) (made c.get-in-Complement.result.now c.in_ok-words-in-Complement.ensures.made)) c.complement.ensures.made
 
 pub automaton-returns-in_ok-words-in-Complement-clause-noted : goal.automaton-returns-in_ok-words-in-Complement-clause-noted
 automaton-returns-in_ok-words-in-Complement-clause-noted g t c =
@@ -132,7 +135,7 @@ automaton-returns-in_ok-words-in-Complement-clause-stopped g t c =
 
 pub automaton-complement-requires : goal.automaton-complement-requires
 automaton-complement-requires g t c =
-    terms.made_letters g.C.Complements.tells_all c.args.self.now.letters.now (g.P.PathSets.paths c.args.self.now.paths.now) c.get-in-Complement.result.now c.in_ok-words-in-Complement.words c.in_ok-words-in-Complement.ensures.made
+    made_letters g.C.Complements.tells_all c.args.self.now.letters.now (g.P.PathSets.paths c.args.self.now.paths.now) c.get-in-Complement.result.now c.in_ok-words-in-Complement.words c.in_ok-words-in-Complement.ensures.made
 
 pub automaton-returns-in_err-words-in-Image-clause-stopped : goal.automaton-returns-in_err-words-in-Image-clause-stopped
 automaton-returns-in_err-words-in-Image-clause-stopped g t c =
@@ -157,13 +160,14 @@ automaton-returns-in_ok-image-in-Image-clause-noted g t c =
 
 pub automaton-image-requires-clause-letters : goal.automaton-image-requires-clause-letters
 automaton-image-requires-clause-letters g t c =
-    terms.made_letters g.C.Complements.tells_all c.args.self.now.letters.now (g.P.PathSets.paths c.args.self.now.paths.now) c.get-in-Image.result.now c.in_ok-words-in-Image.words c.in_ok-words-in-Image.ensures.made ∙ sym (pairs.made_letters g.C.Complements.tells_all c.args.self.now.letters.now (g.P.PathSets.paths c.args.self.now.paths.now) c.get-in-Image-2.result.now c.in_ok-pairs-in-Image.pairs c.in_ok-pairs-in-Image.ensures.made)
+    made_letters g.C.Complements.tells_all c.args.self.now.letters.now (g.P.PathSets.paths c.args.self.now.paths.now) c.get-in-Image.result.now c.in_ok-words-in-Image.words c.in_ok-words-in-Image.ensures.made ∙ sym (made_letters_r g.C.Complements.tells_all c.args.self.now.letters.now (g.P.PathSets.paths c.args.self.now.paths.now) c.get-in-Image-2.result.now c.in_ok-pairs-in-Image.pairs c.in_ok-pairs-in-Image.ensures.made)
 
 pub automaton-returns-in_err-image-in-Image-clause-stopped : goal.automaton-returns-in_err-image-in-Image-clause-stopped
 automaton-returns-in_err-image-in-Image-clause-stopped g t c =
     exit _ _ c.from_residual-in_err-image-in-Image.result c.from_residual-in_err-image-in-Image.ensures.1
     (λ e is. stop_limit (g.C.Complements.refuses c.args.self.now.complements.now) g.C.Complements.tells_all c.args.self.now.letters.now (g.P.PathSets.paths c.args.self.now.paths.now) c.args.self.now.limit (length c.args.notes.now.items) c.args.term.now _ e is
-    (λ passed. limits.image g.C.Complements.tells_all c.args.self.now.letters.now (g.P.PathSets.paths c.args.self.now.paths.now) c.are_covered-in-Image.ensures.letters c.are_covered-in-Image.ensures.symbols c.get-in-Image.result.now c.get-in-Image-2.result.now c.in_ok-words-in-Image.words c.in_ok-pairs-in-Image.pairs c.in_ok-words-in-Image.ensures.made c.in_ok-pairs-in-Image.ensures.made c.args.term.now c.args.self.now.limit (form_of_two P.Image c.args.term.now c.in-Image.set c.get-in-Image.result.now c.in-Image.relation c.get-in-Image-2.result.now c.in-Image.is c.get-in-Image.ensures c.get-in-Image-2.ensures) (c.in_err-image-in-Image.ensures.limit passed)))
+    (λ passed. part_named (λ (v : PathTerm). ReachedInside (scene_of c.args.self.now.letters.now (g.P.PathSets.paths c.args.self.now.paths.now)) (c.args.self.now.limit + 1) v) c.args.term.now (P.Image c.get-in-Image.result.now c.get-in-Image-2.result.now)
+    (form_of_two P.Image c.args.term.now c.in-Image.set c.get-in-Image.result.now c.in-Image.relation c.get-in-Image-2.result.now c.in-Image.is c.get-in-Image.ensures c.get-in-Image-2.ensures) (c.in_err-image-in-Image.ensures.limit passed c.get-in-Image.result.now c.get-in-Image-2.result.now c.in_ok-words-in-Image.ensures.made c.in_ok-pairs-in-Image.ensures.made)))
 
 pub transducer-returns-in_err-words-in-Identity-clause-stopped : goal.transducer-returns-in_err-words-in-Identity-clause-stopped
 transducer-returns-in_err-words-in-Identity-clause-stopped g t c =
@@ -201,7 +205,7 @@ transducer-returns-in_ok-product-in-Product-clause-noted g t c =
 
 pub transducer-product-requires : goal.transducer-product-requires
 transducer-product-requires g t c =
-    terms.made_letters g.C.Complements.tells_all c.args.self.now.letters.now (g.P.PathSets.paths c.args.self.now.paths.now) c.get-in-Product.result.now c.in_ok-parts-in-Product.parts.first c.in_ok-parts-in-Product.ensures.first ∙ sym (terms.made_letters g.C.Complements.tells_all c.args.self.now.letters.now (g.P.PathSets.paths c.args.self.now.paths.now) c.get-in-Product-2.result.now c.in_ok-parts-in-Product.parts.second c.in_ok-parts-in-Product.ensures.second)
+    made_letters g.C.Complements.tells_all c.args.self.now.letters.now (g.P.PathSets.paths c.args.self.now.paths.now) c.get-in-Product.result.now c.in_ok-parts-in-Product.parts.first c.in_ok-parts-in-Product.ensures.first ∙ sym (made_letters g.C.Complements.tells_all c.args.self.now.letters.now (g.P.PathSets.paths c.args.self.now.paths.now) c.get-in-Product-2.result.now c.in_ok-parts-in-Product.parts.second c.in_ok-parts-in-Product.ensures.second)
 
 pub transducer-returns-in_err-product-in-Product-clause-stopped : goal.transducer-returns-in_err-product-in-Product-clause-stopped
 transducer-returns-in_err-product-in-Product-clause-stopped g t c =
@@ -224,7 +228,7 @@ transducer-returns-in_ok-relation_union-in-Union-clause-noted g t c =
 
 pub transducer-relation_union-requires : goal.transducer-relation_union-requires
 transducer-relation_union-requires g t c =
-    pairs.made_letters g.C.Complements.tells_all c.args.self.now.letters.now (g.P.PathSets.paths c.args.self.now.paths.now) c.get-in-Union.result.now c.in_ok-parts-in-Union.parts.first c.in_ok-parts-in-Union.ensures.first ∙ sym (pairs.made_letters g.C.Complements.tells_all c.args.self.now.letters.now (g.P.PathSets.paths c.args.self.now.paths.now) c.get-in-Union-2.result.now c.in_ok-parts-in-Union.parts.second c.in_ok-parts-in-Union.ensures.second)
+    made_letters_r g.C.Complements.tells_all c.args.self.now.letters.now (g.P.PathSets.paths c.args.self.now.paths.now) c.get-in-Union.result.now c.in_ok-parts-in-Union.parts.first c.in_ok-parts-in-Union.ensures.first ∙ sym (made_letters_r g.C.Complements.tells_all c.args.self.now.letters.now (g.P.PathSets.paths c.args.self.now.paths.now) c.get-in-Union-2.result.now c.in_ok-parts-in-Union.parts.second c.in_ok-parts-in-Union.ensures.second)
 
 pub transducer-returns-in_err-relation_union-in-Union-clause-stopped : goal.transducer-returns-in_err-relation_union-in-Union-clause-stopped
 transducer-returns-in_err-relation_union-in-Union-clause-stopped g t c =
@@ -247,7 +251,7 @@ transducer-returns-in_ok-relation_concat-in-Concat-clause-noted g t c =
 
 pub transducer-relation_concat-requires : goal.transducer-relation_concat-requires
 transducer-relation_concat-requires g t c =
-    pairs.made_letters g.C.Complements.tells_all c.args.self.now.letters.now (g.P.PathSets.paths c.args.self.now.paths.now) c.get-in-Concat.result.now c.in_ok-parts-in-Concat.parts.first c.in_ok-parts-in-Concat.ensures.first ∙ sym (pairs.made_letters g.C.Complements.tells_all c.args.self.now.letters.now (g.P.PathSets.paths c.args.self.now.paths.now) c.get-in-Concat-2.result.now c.in_ok-parts-in-Concat.parts.second c.in_ok-parts-in-Concat.ensures.second)
+    made_letters_r g.C.Complements.tells_all c.args.self.now.letters.now (g.P.PathSets.paths c.args.self.now.paths.now) c.get-in-Concat.result.now c.in_ok-parts-in-Concat.parts.first c.in_ok-parts-in-Concat.ensures.first ∙ sym (made_letters_r g.C.Complements.tells_all c.args.self.now.letters.now (g.P.PathSets.paths c.args.self.now.paths.now) c.get-in-Concat-2.result.now c.in_ok-parts-in-Concat.parts.second c.in_ok-parts-in-Concat.ensures.second)
 
 pub transducer-returns-in_err-relation_concat-in-Concat-clause-stopped : goal.transducer-returns-in_err-relation_concat-in-Concat-clause-stopped
 transducer-returns-in_err-relation_concat-in-Concat-clause-stopped g t c =
@@ -289,17 +293,18 @@ transducer-returns-in_ok-compose-in-Compose-clause-noted g t c =
 
 pub transducer-compose-requires-clause-letters : goal.transducer-compose-requires-clause-letters
 transducer-compose-requires-clause-letters g t c =
-    pairs.made_letters g.C.Complements.tells_all c.args.self.now.letters.now (g.P.PathSets.paths c.args.self.now.paths.now) c.get-in-Compose.result.now c.in_ok-parts-in-Compose.parts.first c.in_ok-parts-in-Compose.ensures.first ∙ sym (pairs.made_letters g.C.Complements.tells_all c.args.self.now.letters.now (g.P.PathSets.paths c.args.self.now.paths.now) c.get-in-Compose-2.result.now c.in_ok-parts-in-Compose.parts.second c.in_ok-parts-in-Compose.ensures.second)
+    made_letters_r g.C.Complements.tells_all c.args.self.now.letters.now (g.P.PathSets.paths c.args.self.now.paths.now) c.get-in-Compose.result.now c.in_ok-parts-in-Compose.parts.first c.in_ok-parts-in-Compose.ensures.first ∙ sym (made_letters_r g.C.Complements.tells_all c.args.self.now.letters.now (g.P.PathSets.paths c.args.self.now.paths.now) c.get-in-Compose-2.result.now c.in_ok-parts-in-Compose.parts.second c.in_ok-parts-in-Compose.ensures.second)
 
 pub transducer-returns-in_err-compose-in-Compose-clause-stopped : goal.transducer-returns-in_err-compose-in-Compose-clause-stopped
 transducer-returns-in_err-compose-in-Compose-clause-stopped g t c =
     exit _ _ c.from_residual-in_err-compose-in-Compose.result c.from_residual-in_err-compose-in-Compose.ensures.1
     (λ e is. stop_limit_r (g.C.Complements.refuses c.args.self.now.complements.now) g.C.Complements.tells_all c.args.self.now.letters.now (g.P.PathSets.paths c.args.self.now.paths.now) c.args.self.now.limit (length c.args.notes.now.items) c.args.term.now _ e is
-    (λ passed. limits.compose g.C.Complements.tells_all c.args.self.now.letters.now (g.P.PathSets.paths c.args.self.now.paths.now) c.are_covered.ensures.letters c.are_covered.ensures.symbols c.get-in-Compose.result.now c.get-in-Compose-2.result.now c.in_ok-parts-in-Compose.parts.first c.in_ok-parts-in-Compose.parts.second c.in_ok-parts-in-Compose.ensures.first c.in_ok-parts-in-Compose.ensures.second c.args.term.now c.args.self.now.limit (form_of_two R.Compose c.args.term.now c.in-Compose.a c.get-in-Compose.result.now c.in-Compose.b c.get-in-Compose-2.result.now c.in-Compose.is c.get-in-Compose.ensures c.get-in-Compose-2.ensures) (c.in_err-compose-in-Compose.ensures.limit passed)))
+    (λ passed. part_named (λ (v : RelTerm). ReachedInsideR (scene_of c.args.self.now.letters.now (g.P.PathSets.paths c.args.self.now.paths.now)) (c.args.self.now.limit + 1) v) c.args.term.now (R.Compose c.get-in-Compose.result.now c.get-in-Compose-2.result.now)
+    (form_of_two R.Compose c.args.term.now c.in-Compose.a c.get-in-Compose.result.now c.in-Compose.b c.get-in-Compose-2.result.now c.in-Compose.is c.get-in-Compose.ensures c.get-in-Compose-2.ensures) (c.in_err-compose-in-Compose.ensures.limit passed c.get-in-Compose.result.now c.get-in-Compose-2.result.now c.in_ok-parts-in-Compose.ensures.first c.in_ok-parts-in-Compose.ensures.second)))
 
 pub automaton-returns-in_ok-none-in-None-clause-made : goal.automaton-returns-in_ok-none-in-None-clause-made
 automaton-returns-in_ok-none-in-None-clause-made g t c =
-    terms.none g.C.Complements.tells_all c.args.self.now.letters.now (g.P.PathSets.paths c.args.self.now.paths.now) c.args.term.now c.in_ok-none-in-None.none c.as_automaton.result c.count.result c.in-None.is c.as_automaton.ensures.same c.as_automaton.ensures.automaton c.count.ensures c.in_ok-none-in-None.ensures.letters c.in_ok-none-in-None.ensures.states c.in_ok-none-in-None.ensures.start c.in_ok-none-in-None.ensures.language
+    part_named (λ (v : PathTerm). IsMade g.C.Complements.tells_all c.args.self.now.letters.now (g.P.PathSets.paths c.args.self.now.paths.now) v c.in_ok-none-in-None.field-0) c.args.term.now P.None c.in-None.is c.in_ok-none-in-None.ensures
 
 pub automaton-returns-in_ok-none-in-None-clause-noted : goal.automaton-returns-in_ok-none-in-None-clause-noted
 automaton-returns-in_ok-none-in-None-clause-noted g t c =
@@ -311,7 +316,7 @@ automaton-returns-in_err-none-in-None-clause-stopped g t c =
 
 pub automaton-returns-in_ok-empty-in-Empty-clause-made : goal.automaton-returns-in_ok-empty-in-Empty-clause-made
 automaton-returns-in_ok-empty-in-Empty-clause-made g t c =
-    terms.empty g.C.Complements.tells_all c.args.self.now.letters.now (g.P.PathSets.paths c.args.self.now.paths.now) c.args.term.now c.in_ok-empty-in-Empty.empty c.as_automaton-in-Empty.result c.count-in-Empty.result c.in-Empty.is c.as_automaton-in-Empty.ensures.same c.as_automaton-in-Empty.ensures.automaton c.count-in-Empty.ensures c.in_ok-empty-in-Empty.ensures.letters c.in_ok-empty-in-Empty.ensures.states c.in_ok-empty-in-Empty.ensures.start c.in_ok-empty-in-Empty.ensures.language
+    part_named (λ (v : PathTerm). IsMade g.C.Complements.tells_all c.args.self.now.letters.now (g.P.PathSets.paths c.args.self.now.paths.now) v c.in_ok-empty-in-Empty.field-0) c.args.term.now P.Empty c.in-Empty.is c.in_ok-empty-in-Empty.ensures
 
 pub automaton-returns-in_ok-empty-in-Empty-clause-noted : goal.automaton-returns-in_ok-empty-in-Empty-clause-noted
 automaton-returns-in_ok-empty-in-Empty-clause-noted g t c =
@@ -323,7 +328,8 @@ automaton-returns-in_err-empty-in-Empty-clause-stopped g t c =
 
 pub automaton-returns-in_ok-class_automaton-in-Class-clause-made : goal.automaton-returns-in_ok-class_automaton-in-Class-clause-made
 automaton-returns-in_ok-class_automaton-in-Class-clause-made g t c =
-    terms.class g.C.Complements.tells_all c.args.self.now.letters.now (g.P.PathSets.paths c.args.self.now.paths.now) c.args.term.now c.in-Class.entry c.in_ok-class_automaton-in-Class.field-0 c.in-Class.is c.in_ok-class_automaton-in-Class.ensures
+    part_named (λ (v : PathTerm). IsMade g.C.Complements.tells_all c.args.self.now.letters.now (g.P.PathSets.paths c.args.self.now.paths.now) v c.in_ok-class_automaton-in-Class.field-0) c.args.term.now (P.Class c.in-Class.entry) c.in-Class.is
+    (leaves.class g.C.Complements.tells_all c.args.self.now.letters.now (g.P.PathSets.paths c.args.self.now.paths.now) c.in-Class.entry c.in_ok-class_automaton-in-Class.field-0 c.in_ok-class_automaton-in-Class.ensures)
 
 pub automaton-returns-in_ok-class_automaton-in-Class-clause-noted : goal.automaton-returns-in_ok-class_automaton-in-Class-clause-noted
 automaton-returns-in_ok-class_automaton-in-Class-clause-noted g t c =
@@ -335,7 +341,8 @@ automaton-returns-in_err-class_automaton-in-Class-clause-stopped g t c =
 
 pub automaton-returns-in_ok-symbol_automaton-in-One-clause-made : goal.automaton-returns-in_ok-symbol_automaton-in-One-clause-made
 automaton-returns-in_ok-symbol_automaton-in-One-clause-made g t c =
-    terms.one g.C.Complements.tells_all c.args.self.now.letters.now (g.P.PathSets.paths c.args.self.now.paths.now) c.args.term.now c.in-One.symbol c.in_ok-symbol_automaton-in-One.field-0 c.in-One.is c.in_ok-symbol_automaton-in-One.ensures
+    part_named (λ (v : PathTerm). IsMade g.C.Complements.tells_all c.args.self.now.letters.now (g.P.PathSets.paths c.args.self.now.paths.now) v c.in_ok-symbol_automaton-in-One.field-0) c.args.term.now (P.One c.in-One.symbol) c.in-One.is
+    (leaves.one g.C.Complements.tells_all c.args.self.now.letters.now (g.P.PathSets.paths c.args.self.now.paths.now) c.in-One.symbol c.in_ok-symbol_automaton-in-One.field-0 c.in_ok-symbol_automaton-in-One.ensures)
 
 pub automaton-returns-in_ok-symbol_automaton-in-One-clause-noted : goal.automaton-returns-in_ok-symbol_automaton-in-One-clause-noted
 automaton-returns-in_ok-symbol_automaton-in-One-clause-noted g t c =
@@ -347,8 +354,9 @@ automaton-returns-in_err-symbol_automaton-in-One-clause-stopped g t c =
 
 pub automaton-returns-in_ok-before-in-Pre-clause-made : goal.automaton-returns-in_ok-before-in-Pre-clause-made
 automaton-returns-in_ok-before-in-Pre-clause-made g t c =
-    terms.pre g.C.Complements.tells_all c.args.self.now.letters.now (g.P.PathSets.paths c.args.self.now.paths.now) c.args.term.now c.in_ok-before-in-Pre.field-0 c.in-Pre.is
-    (subst (λ (b : List ℕ). IsBuilt (Unit {0}) b (g.P.PathSets.paths c.args.self.now.paths.now).pre (PathSetPlaces (g.P.PathSets.paths c.args.self.now.paths.now).at_pre) (PartsApart NoParts NoParts) c.in_ok-before-in-Pre.field-0) c.partition.ensures c.in_ok-before-in-Pre.ensures)
+    part_named (λ (v : PathTerm). IsMade g.C.Complements.tells_all c.args.self.now.letters.now (g.P.PathSets.paths c.args.self.now.paths.now) v c.in_ok-before-in-Pre.field-0) c.args.term.now P.Pre c.in-Pre.is
+    (leaves.pre g.C.Complements.tells_all c.args.self.now.letters.now (g.P.PathSets.paths c.args.self.now.paths.now) c.in_ok-before-in-Pre.field-0
+    (subst (λ (b : List ℕ). IsBuilt (Unit {0}) b (g.P.PathSets.paths c.args.self.now.paths.now).pre (PathSetPlaces (g.P.PathSets.paths c.args.self.now.paths.now).at_pre) (PartsApart NoParts NoParts) c.in_ok-before-in-Pre.field-0) c.partition.ensures c.in_ok-before-in-Pre.ensures))
 
 pub automaton-returns-in_ok-before-in-Pre-clause-noted : goal.automaton-returns-in_ok-before-in-Pre-clause-noted
 automaton-returns-in_ok-before-in-Pre-clause-noted g t c =
@@ -364,8 +372,9 @@ automaton-before-requires g t c =
 
 pub automaton-returns-in_ok-after-in-Post-clause-made : goal.automaton-returns-in_ok-after-in-Post-clause-made
 automaton-returns-in_ok-after-in-Post-clause-made g t c =
-    terms.post g.C.Complements.tells_all c.args.self.now.letters.now (g.P.PathSets.paths c.args.self.now.paths.now) c.args.term.now c.in_ok-after-in-Post.field-0 c.in-Post.is
-    (subst (λ (b : List ℕ). IsBuilt (Unit {0}) b (g.P.PathSets.paths c.args.self.now.paths.now).post (PathSetPlaces (g.P.PathSets.paths c.args.self.now.paths.now).at_post) (PartsApart NoParts NoParts) c.in_ok-after-in-Post.field-0) c.partition-in-Post.ensures c.in_ok-after-in-Post.ensures)
+    part_named (λ (v : PathTerm). IsMade g.C.Complements.tells_all c.args.self.now.letters.now (g.P.PathSets.paths c.args.self.now.paths.now) v c.in_ok-after-in-Post.field-0) c.args.term.now P.Post c.in-Post.is
+    (leaves.post g.C.Complements.tells_all c.args.self.now.letters.now (g.P.PathSets.paths c.args.self.now.paths.now) c.in_ok-after-in-Post.field-0
+    (subst (λ (b : List ℕ). IsBuilt (Unit {0}) b (g.P.PathSets.paths c.args.self.now.paths.now).post (PathSetPlaces (g.P.PathSets.paths c.args.self.now.paths.now).at_post) (PartsApart NoParts NoParts) c.in_ok-after-in-Post.field-0) c.partition-in-Post.ensures c.in_ok-after-in-Post.ensures))
 
 pub automaton-returns-in_ok-after-in-Post-clause-noted : goal.automaton-returns-in_ok-after-in-Post-clause-noted
 automaton-returns-in_ok-after-in-Post-clause-noted g t c =
@@ -381,84 +390,84 @@ automaton-after-requires g t c =
 
 pub automaton-symbol_automaton-requires : goal.automaton-symbol_automaton-requires
 automaton-symbol_automaton-requires g t c =
-    opened (ap (Names (IsAlone c.args.self.now.letters.now.blocks)) c.in-One.is ∙ names_one (IsAlone c.args.self.now.letters.now.blocks) c.in-One.symbol) c.requires.alone
+    ((named_forms (IsAlone c.args.self.now.letters.now.blocks)).one c.in-One.symbol).0 (subst (Names (IsAlone c.args.self.now.letters.now.blocks)) c.in-One.is c.requires.alone)
 
 pub automaton-two-requires : goal.automaton-two-requires
 automaton-two-requires g t c κs within = (
   (let p : path_sizes.the_size (c.get.result.now) < path_sizes.the_size c.args.term.now = search (rules, the_lemmas) in let q : path_sizes.the_size (c.get-in-Union.result.now) < path_sizes.the_size c.args.term.now = search (rules, the_lemmas) in omega arith),
-  (within.0, (within.1.0, (within.1.1, (c.requires.limit, (part_named (Names (IsAlone c.args.self.now.letters.now.blocks)) c.get.result.now c.in-Union.a c.get.ensures (opened (ap (Names (IsAlone c.args.self.now.letters.now.blocks)) c.in-Union.is ∙ names_union (IsAlone c.args.self.now.letters.now.blocks) c.in-Union.a c.in-Union.b) c.requires.alone).0, (part_named (Names (IsAlone c.args.self.now.letters.now.blocks)) c.get-in-Union.result.now c.in-Union.b c.get-in-Union.ensures (opened (ap (Names (IsAlone c.args.self.now.letters.now.blocks)) c.in-Union.is ∙ names_union (IsAlone c.args.self.now.letters.now.blocks) c.in-Union.a c.in-Union.b) c.requires.alone).1, c.requires.paths)))))),
+  (within.0, (within.1.0, (within.1.1, (c.requires.limit, (part_named (Names (IsAlone c.args.self.now.letters.now.blocks)) c.get.result.now c.in-Union.a c.get.ensures (((named_forms (IsAlone c.args.self.now.letters.now.blocks)).union c.in-Union.a c.in-Union.b).0 (subst (Names (IsAlone c.args.self.now.letters.now.blocks)) c.in-Union.is c.requires.alone)).0, (part_named (Names (IsAlone c.args.self.now.letters.now.blocks)) c.get-in-Union.result.now c.in-Union.b c.get-in-Union.ensures (((named_forms (IsAlone c.args.self.now.letters.now.blocks)).union c.in-Union.a c.in-Union.b).0 (subst (Names (IsAlone c.args.self.now.letters.now.blocks)) c.in-Union.is c.requires.alone)).1, c.requires.paths)))))),
 )
 
 pub automaton-two-requires-in-Concat : goal.automaton-two-requires-in-Concat
 automaton-two-requires-in-Concat g t c κs within = (
   (let p : path_sizes.the_size (c.get-in-Concat.result.now) < path_sizes.the_size c.args.term.now = search (rules, the_lemmas) in let q : path_sizes.the_size (c.get-in-Concat-2.result.now) < path_sizes.the_size c.args.term.now = search (rules, the_lemmas) in omega arith),
-  (within.0, (within.1.0, (within.1.1, (c.requires.limit, (part_named (Names (IsAlone c.args.self.now.letters.now.blocks)) c.get-in-Concat.result.now c.in-Concat.a c.get-in-Concat.ensures (opened (ap (Names (IsAlone c.args.self.now.letters.now.blocks)) c.in-Concat.is ∙ names_concat (IsAlone c.args.self.now.letters.now.blocks) c.in-Concat.a c.in-Concat.b) c.requires.alone).0, (part_named (Names (IsAlone c.args.self.now.letters.now.blocks)) c.get-in-Concat-2.result.now c.in-Concat.b c.get-in-Concat-2.ensures (opened (ap (Names (IsAlone c.args.self.now.letters.now.blocks)) c.in-Concat.is ∙ names_concat (IsAlone c.args.self.now.letters.now.blocks) c.in-Concat.a c.in-Concat.b) c.requires.alone).1, c.requires.paths)))))),
+  (within.0, (within.1.0, (within.1.1, (c.requires.limit, (part_named (Names (IsAlone c.args.self.now.letters.now.blocks)) c.get-in-Concat.result.now c.in-Concat.a c.get-in-Concat.ensures (((named_forms (IsAlone c.args.self.now.letters.now.blocks)).concat c.in-Concat.a c.in-Concat.b).0 (subst (Names (IsAlone c.args.self.now.letters.now.blocks)) c.in-Concat.is c.requires.alone)).0, (part_named (Names (IsAlone c.args.self.now.letters.now.blocks)) c.get-in-Concat-2.result.now c.in-Concat.b c.get-in-Concat-2.ensures (((named_forms (IsAlone c.args.self.now.letters.now.blocks)).concat c.in-Concat.a c.in-Concat.b).0 (subst (Names (IsAlone c.args.self.now.letters.now.blocks)) c.in-Concat.is c.requires.alone)).1, c.requires.paths)))))),
 )
 
 pub automaton-two-requires-in-Meet : goal.automaton-two-requires-in-Meet
 automaton-two-requires-in-Meet g t c κs within = (
   (let p : path_sizes.the_size (c.get-in-Meet.result.now) < path_sizes.the_size c.args.term.now = search (rules, the_lemmas) in let q : path_sizes.the_size (c.get-in-Meet-2.result.now) < path_sizes.the_size c.args.term.now = search (rules, the_lemmas) in omega arith),
-  (within.0, (within.1.0, (within.1.1, (c.requires.limit, (part_named (Names (IsAlone c.args.self.now.letters.now.blocks)) c.get-in-Meet.result.now c.in-Meet.a c.get-in-Meet.ensures (opened (ap (Names (IsAlone c.args.self.now.letters.now.blocks)) c.in-Meet.is ∙ names_meet (IsAlone c.args.self.now.letters.now.blocks) c.in-Meet.a c.in-Meet.b) c.requires.alone).0, (part_named (Names (IsAlone c.args.self.now.letters.now.blocks)) c.get-in-Meet-2.result.now c.in-Meet.b c.get-in-Meet-2.ensures (opened (ap (Names (IsAlone c.args.self.now.letters.now.blocks)) c.in-Meet.is ∙ names_meet (IsAlone c.args.self.now.letters.now.blocks) c.in-Meet.a c.in-Meet.b) c.requires.alone).1, c.requires.paths)))))),
+  (within.0, (within.1.0, (within.1.1, (c.requires.limit, (part_named (Names (IsAlone c.args.self.now.letters.now.blocks)) c.get-in-Meet.result.now c.in-Meet.a c.get-in-Meet.ensures (((named_forms (IsAlone c.args.self.now.letters.now.blocks)).meet c.in-Meet.a c.in-Meet.b).0 (subst (Names (IsAlone c.args.self.now.letters.now.blocks)) c.in-Meet.is c.requires.alone)).0, (part_named (Names (IsAlone c.args.self.now.letters.now.blocks)) c.get-in-Meet-2.result.now c.in-Meet.b c.get-in-Meet-2.ensures (((named_forms (IsAlone c.args.self.now.letters.now.blocks)).meet c.in-Meet.a c.in-Meet.b).0 (subst (Names (IsAlone c.args.self.now.letters.now.blocks)) c.in-Meet.is c.requires.alone)).1, c.requires.paths)))))),
 )
 
 pub transducer-two-requires : goal.transducer-two-requires
 transducer-two-requires g t c κs within = (
   (let p : path_sizes.the_size (c.get-in-Product.result.now) < relation_sizes.the_size c.args.term.now = search (rules, the_lemmas) in let q : path_sizes.the_size (c.get-in-Product-2.result.now) < relation_sizes.the_size c.args.term.now = search (rules, the_lemmas) in omega arith),
-  (within.0, (within.1.0, (within.1.1, (c.requires.limit, (part_named (Names (IsAlone c.args.self.now.letters.now.blocks)) c.get-in-Product.result.now c.in-Product.a c.get-in-Product.ensures (opened (ap (NamesR (IsAlone c.args.self.now.letters.now.blocks)) c.in-Product.is ∙ names_product (IsAlone c.args.self.now.letters.now.blocks) c.in-Product.a c.in-Product.b) c.requires.alone).0, (part_named (Names (IsAlone c.args.self.now.letters.now.blocks)) c.get-in-Product-2.result.now c.in-Product.b c.get-in-Product-2.ensures (opened (ap (NamesR (IsAlone c.args.self.now.letters.now.blocks)) c.in-Product.is ∙ names_product (IsAlone c.args.self.now.letters.now.blocks) c.in-Product.a c.in-Product.b) c.requires.alone).1, c.requires.paths)))))),
+  (within.0, (within.1.0, (within.1.1, (c.requires.limit, (part_named (Names (IsAlone c.args.self.now.letters.now.blocks)) c.get-in-Product.result.now c.in-Product.a c.get-in-Product.ensures (((named_forms (IsAlone c.args.self.now.letters.now.blocks)).product c.in-Product.a c.in-Product.b).0 (subst (NamesR (IsAlone c.args.self.now.letters.now.blocks)) c.in-Product.is c.requires.alone)).0, (part_named (Names (IsAlone c.args.self.now.letters.now.blocks)) c.get-in-Product-2.result.now c.in-Product.b c.get-in-Product-2.ensures (((named_forms (IsAlone c.args.self.now.letters.now.blocks)).product c.in-Product.a c.in-Product.b).0 (subst (NamesR (IsAlone c.args.self.now.letters.now.blocks)) c.in-Product.is c.requires.alone)).1, c.requires.paths)))))),
 )
 
 pub transducer-two_transducers-requires : goal.transducer-two_transducers-requires
 transducer-two_transducers-requires g t c κs within = (
   (let p : relation_sizes.the_size (c.get-in-Union.result.now) < relation_sizes.the_size c.args.term.now = search (rules, the_lemmas) in let q : relation_sizes.the_size (c.get-in-Union-2.result.now) < relation_sizes.the_size c.args.term.now = search (rules, the_lemmas) in omega arith),
-  (within.0, (within.1.0, (within.1.1, (c.requires.limit, (part_named (NamesR (IsAlone c.args.self.now.letters.now.blocks)) c.get-in-Union.result.now c.in-Union.a c.get-in-Union.ensures (opened (ap (NamesR (IsAlone c.args.self.now.letters.now.blocks)) c.in-Union.is ∙ names_union_r (IsAlone c.args.self.now.letters.now.blocks) c.in-Union.a c.in-Union.b) c.requires.alone).0, (part_named (NamesR (IsAlone c.args.self.now.letters.now.blocks)) c.get-in-Union-2.result.now c.in-Union.b c.get-in-Union-2.ensures (opened (ap (NamesR (IsAlone c.args.self.now.letters.now.blocks)) c.in-Union.is ∙ names_union_r (IsAlone c.args.self.now.letters.now.blocks) c.in-Union.a c.in-Union.b) c.requires.alone).1, c.requires.paths)))))),
+  (within.0, (within.1.0, (within.1.1, (c.requires.limit, (part_named (NamesR (IsAlone c.args.self.now.letters.now.blocks)) c.get-in-Union.result.now c.in-Union.a c.get-in-Union.ensures (((named_forms (IsAlone c.args.self.now.letters.now.blocks)).either c.in-Union.a c.in-Union.b).0 (subst (NamesR (IsAlone c.args.self.now.letters.now.blocks)) c.in-Union.is c.requires.alone)).0, (part_named (NamesR (IsAlone c.args.self.now.letters.now.blocks)) c.get-in-Union-2.result.now c.in-Union.b c.get-in-Union-2.ensures (((named_forms (IsAlone c.args.self.now.letters.now.blocks)).either c.in-Union.a c.in-Union.b).0 (subst (NamesR (IsAlone c.args.self.now.letters.now.blocks)) c.in-Union.is c.requires.alone)).1, c.requires.paths)))))),
 )
 
 pub transducer-two_transducers-requires-in-Concat : goal.transducer-two_transducers-requires-in-Concat
 transducer-two_transducers-requires-in-Concat g t c κs within = (
   (let p : relation_sizes.the_size (c.get-in-Concat.result.now) < relation_sizes.the_size c.args.term.now = search (rules, the_lemmas) in let q : relation_sizes.the_size (c.get-in-Concat-2.result.now) < relation_sizes.the_size c.args.term.now = search (rules, the_lemmas) in omega arith),
-  (within.0, (within.1.0, (within.1.1, (c.requires.limit, (part_named (NamesR (IsAlone c.args.self.now.letters.now.blocks)) c.get-in-Concat.result.now c.in-Concat.a c.get-in-Concat.ensures (opened (ap (NamesR (IsAlone c.args.self.now.letters.now.blocks)) c.in-Concat.is ∙ names_concat_r (IsAlone c.args.self.now.letters.now.blocks) c.in-Concat.a c.in-Concat.b) c.requires.alone).0, (part_named (NamesR (IsAlone c.args.self.now.letters.now.blocks)) c.get-in-Concat-2.result.now c.in-Concat.b c.get-in-Concat-2.ensures (opened (ap (NamesR (IsAlone c.args.self.now.letters.now.blocks)) c.in-Concat.is ∙ names_concat_r (IsAlone c.args.self.now.letters.now.blocks) c.in-Concat.a c.in-Concat.b) c.requires.alone).1, c.requires.paths)))))),
+  (within.0, (within.1.0, (within.1.1, (c.requires.limit, (part_named (NamesR (IsAlone c.args.self.now.letters.now.blocks)) c.get-in-Concat.result.now c.in-Concat.a c.get-in-Concat.ensures (((named_forms (IsAlone c.args.self.now.letters.now.blocks)).joined c.in-Concat.a c.in-Concat.b).0 (subst (NamesR (IsAlone c.args.self.now.letters.now.blocks)) c.in-Concat.is c.requires.alone)).0, (part_named (NamesR (IsAlone c.args.self.now.letters.now.blocks)) c.get-in-Concat-2.result.now c.in-Concat.b c.get-in-Concat-2.ensures (((named_forms (IsAlone c.args.self.now.letters.now.blocks)).joined c.in-Concat.a c.in-Concat.b).0 (subst (NamesR (IsAlone c.args.self.now.letters.now.blocks)) c.in-Concat.is c.requires.alone)).1, c.requires.paths)))))),
 )
 
 pub transducer-two_transducers-requires-in-Compose : goal.transducer-two_transducers-requires-in-Compose
 transducer-two_transducers-requires-in-Compose g t c κs within = (
   (let p : relation_sizes.the_size (c.get-in-Compose.result.now) < relation_sizes.the_size c.args.term.now = search (rules, the_lemmas) in let q : relation_sizes.the_size (c.get-in-Compose-2.result.now) < relation_sizes.the_size c.args.term.now = search (rules, the_lemmas) in omega arith),
-  (within.0, (within.1.0, (within.1.1, (c.requires.limit, (part_named (NamesR (IsAlone c.args.self.now.letters.now.blocks)) c.get-in-Compose.result.now c.in-Compose.a c.get-in-Compose.ensures (opened (ap (NamesR (IsAlone c.args.self.now.letters.now.blocks)) c.in-Compose.is ∙ names_compose (IsAlone c.args.self.now.letters.now.blocks) c.in-Compose.a c.in-Compose.b) c.requires.alone).0, (part_named (NamesR (IsAlone c.args.self.now.letters.now.blocks)) c.get-in-Compose-2.result.now c.in-Compose.b c.get-in-Compose-2.ensures (opened (ap (NamesR (IsAlone c.args.self.now.letters.now.blocks)) c.in-Compose.is ∙ names_compose (IsAlone c.args.self.now.letters.now.blocks) c.in-Compose.a c.in-Compose.b) c.requires.alone).1, c.requires.paths)))))),
+  (within.0, (within.1.0, (within.1.1, (c.requires.limit, (part_named (NamesR (IsAlone c.args.self.now.letters.now.blocks)) c.get-in-Compose.result.now c.in-Compose.a c.get-in-Compose.ensures (((named_forms (IsAlone c.args.self.now.letters.now.blocks)).compose c.in-Compose.a c.in-Compose.b).0 (subst (NamesR (IsAlone c.args.self.now.letters.now.blocks)) c.in-Compose.is c.requires.alone)).0, (part_named (NamesR (IsAlone c.args.self.now.letters.now.blocks)) c.get-in-Compose-2.result.now c.in-Compose.b c.get-in-Compose-2.ensures (((named_forms (IsAlone c.args.self.now.letters.now.blocks)).compose c.in-Compose.a c.in-Compose.b).0 (subst (NamesR (IsAlone c.args.self.now.letters.now.blocks)) c.in-Compose.is c.requires.alone)).1, c.requires.paths)))))),
 )
 
 pub automaton-automaton-requires : goal.automaton-automaton-requires
 automaton-automaton-requires g t c κs within = (
   (let p : path_sizes.the_size (c.get-in-Star.result.now) < path_sizes.the_size c.args.term.now = search (rules, the_lemmas) in omega arith),
-  (within.0, (within.1.0, (within.1.1, (c.requires.limit, (part_named (Names (IsAlone c.args.self.now.letters.now.blocks)) c.get-in-Star.result.now c.in-Star.part c.get-in-Star.ensures (opened (ap (Names (IsAlone c.args.self.now.letters.now.blocks)) c.in-Star.is ∙ names_star (IsAlone c.args.self.now.letters.now.blocks) c.in-Star.part) c.requires.alone), c.requires.paths))))),
+  (within.0, (within.1.0, (within.1.1, (c.requires.limit, (part_named (Names (IsAlone c.args.self.now.letters.now.blocks)) c.get-in-Star.result.now c.in-Star.part c.get-in-Star.ensures (((named_forms (IsAlone c.args.self.now.letters.now.blocks)).star c.in-Star.part).0 (subst (Names (IsAlone c.args.self.now.letters.now.blocks)) c.in-Star.is c.requires.alone)), c.requires.paths))))),
 )
 
 pub automaton-automaton-requires-in-Complement : goal.automaton-automaton-requires-in-Complement
 automaton-automaton-requires-in-Complement g t c κs within = (
   (let p : path_sizes.the_size (c.get-in-Complement.result.now) < path_sizes.the_size c.args.term.now = search (rules, the_lemmas) in omega arith),
-  (within.0, (within.1.0, (within.1.1, (c.requires.limit, (part_named (Names (IsAlone c.args.self.now.letters.now.blocks)) c.get-in-Complement.result.now c.in-Complement.part c.get-in-Complement.ensures (opened (ap (Names (IsAlone c.args.self.now.letters.now.blocks)) c.in-Complement.is ∙ names_complement (IsAlone c.args.self.now.letters.now.blocks) c.in-Complement.part) c.requires.alone), c.requires.paths))))),
+  (within.0, (within.1.0, (within.1.1, (c.requires.limit, (part_named (Names (IsAlone c.args.self.now.letters.now.blocks)) c.get-in-Complement.result.now c.in-Complement.part c.get-in-Complement.ensures (((named_forms (IsAlone c.args.self.now.letters.now.blocks)).complement c.in-Complement.part).0 (subst (Names (IsAlone c.args.self.now.letters.now.blocks)) c.in-Complement.is c.requires.alone)), c.requires.paths))))),
 )
 
 pub automaton-automaton-requires-in-Image : goal.automaton-automaton-requires-in-Image
 automaton-automaton-requires-in-Image g t c κs within = (
   (let p : path_sizes.the_size (c.get-in-Image.result.now) < path_sizes.the_size c.args.term.now = search (rules, the_lemmas) in omega arith),
-  (within.0, (within.1.0, (within.1.1, (c.requires.limit, (part_named (Names (IsAlone c.args.self.now.letters.now.blocks)) c.get-in-Image.result.now c.in-Image.set c.get-in-Image.ensures (opened (ap (Names (IsAlone c.args.self.now.letters.now.blocks)) c.in-Image.is ∙ names_image (IsAlone c.args.self.now.letters.now.blocks) c.in-Image.set c.in-Image.relation) c.requires.alone).0, c.requires.paths))))),
+  (within.0, (within.1.0, (within.1.1, (c.requires.limit, (part_named (Names (IsAlone c.args.self.now.letters.now.blocks)) c.get-in-Image.result.now c.in-Image.set c.get-in-Image.ensures (((named_forms (IsAlone c.args.self.now.letters.now.blocks)).image c.in-Image.set c.in-Image.relation).0 (subst (Names (IsAlone c.args.self.now.letters.now.blocks)) c.in-Image.is c.requires.alone)).0, c.requires.paths))))),
 )
 
 pub automaton-transducer-requires : goal.automaton-transducer-requires
 automaton-transducer-requires g t c κs within = (
   (let p : relation_sizes.the_size (c.get-in-Image-2.result.now) < path_sizes.the_size c.args.term.now = search (rules, the_lemmas) in omega arith),
-  (within.0, (within.1.0, (within.1.1, (c.requires.limit, (part_named (NamesR (IsAlone c.args.self.now.letters.now.blocks)) c.get-in-Image-2.result.now c.in-Image.relation c.get-in-Image-2.ensures (opened (ap (Names (IsAlone c.args.self.now.letters.now.blocks)) c.in-Image.is ∙ names_image (IsAlone c.args.self.now.letters.now.blocks) c.in-Image.set c.in-Image.relation) c.requires.alone).1, c.requires.paths))))),
+  (within.0, (within.1.0, (within.1.1, (c.requires.limit, (part_named (NamesR (IsAlone c.args.self.now.letters.now.blocks)) c.get-in-Image-2.result.now c.in-Image.relation c.get-in-Image-2.ensures (((named_forms (IsAlone c.args.self.now.letters.now.blocks)).image c.in-Image.set c.in-Image.relation).0 (subst (Names (IsAlone c.args.self.now.letters.now.blocks)) c.in-Image.is c.requires.alone)).1, c.requires.paths))))),
 )
 
 pub transducer-automaton-requires : goal.transducer-automaton-requires
 transducer-automaton-requires g t c κs within = (
   (let p : path_sizes.the_size (c.get.result.now) < relation_sizes.the_size c.args.term.now = search (rules, the_lemmas) in omega arith),
-  (within.0, (within.1.0, (within.1.1, (c.requires.limit, (part_named (Names (IsAlone c.args.self.now.letters.now.blocks)) c.get.result.now c.in-Identity.set c.get.ensures (opened (ap (NamesR (IsAlone c.args.self.now.letters.now.blocks)) c.in-Identity.is ∙ names_identity (IsAlone c.args.self.now.letters.now.blocks) c.in-Identity.set) c.requires.alone), c.requires.paths))))),
+  (within.0, (within.1.0, (within.1.1, (c.requires.limit, (part_named (Names (IsAlone c.args.self.now.letters.now.blocks)) c.get.result.now c.in-Identity.set c.get.ensures (((named_forms (IsAlone c.args.self.now.letters.now.blocks)).identity c.in-Identity.set).0 (subst (NamesR (IsAlone c.args.self.now.letters.now.blocks)) c.in-Identity.is c.requires.alone)), c.requires.paths))))),
 )
 
 pub transducer-transducer-requires : goal.transducer-transducer-requires
 transducer-transducer-requires g t c κs within = (
   (let p : relation_sizes.the_size (c.get-in-Star.result.now) < relation_sizes.the_size c.args.term.now = search (rules, the_lemmas) in omega arith),
-  (within.0, (within.1.0, (within.1.1, (c.requires.limit, (part_named (NamesR (IsAlone c.args.self.now.letters.now.blocks)) c.get-in-Star.result.now c.in-Star.part c.get-in-Star.ensures (opened (ap (NamesR (IsAlone c.args.self.now.letters.now.blocks)) c.in-Star.is ∙ names_star_r (IsAlone c.args.self.now.letters.now.blocks) c.in-Star.part) c.requires.alone), c.requires.paths))))),
+  (within.0, (within.1.0, (within.1.1, (c.requires.limit, (part_named (NamesR (IsAlone c.args.self.now.letters.now.blocks)) c.get-in-Star.result.now c.in-Star.part c.get-in-Star.ensures (((named_forms (IsAlone c.args.self.now.letters.now.blocks)).repeated c.in-Star.part).0 (subst (NamesR (IsAlone c.args.self.now.letters.now.blocks)) c.in-Star.is c.requires.alone)), c.requires.paths))))),
 )
 
 pub two-automaton-requires : goal.two-automaton-requires

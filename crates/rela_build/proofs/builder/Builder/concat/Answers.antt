@@ -1,9 +1,7 @@
-use Rattle.std.proofs.Common.{refl}
-use Rattle.rela_rir.specs.declared.term.PathTerm.TheVariants as P
 use Rattle.rela_build.proofs.MadeTerms as terms
 use Rattle.rela_build.proofs.builder.Builder.concat.Goals as goal
 
 pub returns : goal.returns
 returns g c x y one two =
-    terms.concat g.C.Complements.tells_all c.args.self.now.letters.now (g.P.PathSets.paths c.args.self.now.paths.now) (P.Concat x y) x y c.args.parts.first c.args.parts.second c.in_ok-concat.concat c.as_automaton.result
-    refl one two c.as_automaton.ensures.same c.as_automaton.ensures.automaton c.in_ok-concat.ensures.letters c.in_ok-concat.ensures.states c.in_ok-concat.ensures.first c.in_ok-concat.ensures.second c.in_ok-concat.ensures.language
+    terms.concat g.C.Complements.tells_all _ g.P.PathSets.paths c.built_terms_are_placed.ensures c.args.self.now.letters.now c.args.self.now.paths.now x y c.args.parts.first c.args.parts.second c.in_ok-concat.concat c.as_automaton.result
+    one two c.as_automaton.ensures.same c.as_automaton.ensures.automaton c.in_ok-concat.ensures.letters c.in_ok-concat.ensures.states c.in_ok-concat.ensures.first c.in_ok-concat.ensures.second c.in_ok-concat.ensures.language

@@ -1,9 +1,7 @@
-use Rattle.std.proofs.Common.{refl}
-use Rattle.rela_rir.specs.declared.term.RelTerm.TheVariants as R
 use Rattle.rela_build.proofs.MadePairs as pairs
 use Rattle.rela_build.proofs.builder.Builder.relation_union.Goals as goal
 
 pub returns : goal.returns
 returns g c x y one two =
-    pairs.union g.C.Complements.tells_all c.args.self.now.letters.now (g.P.PathSets.paths c.args.self.now.paths.now) (R.Union x y) x y c.args.parts.first c.args.parts.second c.in_ok-union.union c.as_transducer.result
-    refl one two c.as_transducer.ensures.same c.as_transducer.ensures.machine c.in_ok-union.ensures.letters c.in_ok-union.ensures.states c.in_ok-union.ensures.start c.in_ok-union.ensures.first c.in_ok-union.ensures.second c.in_ok-union.ensures.relation
+    pairs.union g.C.Complements.tells_all _ g.P.PathSets.paths c.built_terms_are_placed.ensures c.args.self.now.letters.now c.args.self.now.paths.now x y c.args.parts.first c.args.parts.second c.in_ok-union.union c.as_transducer.result
+    one two c.as_transducer.ensures.same c.as_transducer.ensures.machine c.in_ok-union.ensures.letters c.in_ok-union.ensures.states c.in_ok-union.ensures.start c.in_ok-union.ensures.first c.in_ok-union.ensures.second c.in_ok-union.ensures.relation
