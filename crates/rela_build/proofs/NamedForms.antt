@@ -42,51 +42,6 @@ module _ (Q : ℕ → Type 0) where
   unfolding Names NamesR
   names_roll_r x = rec-roll-RelTerm (Type 0) (Type 0) (λ X Y _ _ part part_r layer. LayerNames Q part part_r layer) (λ X Y _ _ part part_r layer. LayerNamesR Q part part_r layer) natural_r x
 
-  pub names_class : (k : ℕ) → Names Q (P.Class k) ≡ Unit {0}
-  names_class k = ap (Names Q) (sym (P.rolls-Class k)) ∙ names_roll (F.Class k)
-
-  pub names_empty : Names Q P.Empty ≡ Unit {0}
-  names_empty = ap (Names Q) (sym P.rolls-Empty) ∙ names_roll F.Empty
-
-  pub names_one : (s : ℕ) → Names Q (P.One s) ≡ Q s
-  names_one s = ap (Names Q) (sym (P.rolls-One s)) ∙ names_roll (F.One s)
-
-  pub names_union : (x y : PathTerm) → Names Q (P.Union x y) ≡ (Names Q x × Names Q y)
-  names_union x y = ap (Names Q) (sym (P.rolls-Union x y)) ∙ names_roll (F.PathTerm::Union x y)
-
-  pub names_concat : (x y : PathTerm) → Names Q (P.Concat x y) ≡ (Names Q x × Names Q y)
-  names_concat x y = ap (Names Q) (sym (P.rolls-Concat x y)) ∙ names_roll (F.PathTerm::Concat x y)
-
-  pub names_star : (x : PathTerm) → Names Q (P.Star x) ≡ Names Q x
-  names_star x = ap (Names Q) (sym (P.rolls-Star x)) ∙ names_roll (F.PathTerm::Star x)
-
-  pub names_meet : (x y : PathTerm) → Names Q (P.Meet x y) ≡ (Names Q x × Names Q y)
-  names_meet x y = ap (Names Q) (sym (P.rolls-Meet x y)) ∙ names_roll (F.Meet x y)
-
-  pub names_complement : (x : PathTerm) → Names Q (P.Complement x) ≡ Names Q x
-  names_complement x = ap (Names Q) (sym (P.rolls-Complement x)) ∙ names_roll (F.Complement x)
-
-  pub names_image : (x : PathTerm) (r : RelTerm) → Names Q (P.Image x r) ≡ (Names Q x × NamesR Q r)
-  names_image x r = ap (Names Q) (sym (P.rolls-Image x r)) ∙ names_roll (F.Image x r)
-
-  pub names_identity : (x : PathTerm) → NamesR Q (R.Identity x) ≡ Names Q x
-  names_identity x = ap (NamesR Q) (sym (R.rolls-Identity x)) ∙ names_roll_r (F.Identity x)
-
-  pub names_product : (x y : PathTerm) → NamesR Q (R.Product x y) ≡ (Names Q x × Names Q y)
-  names_product x y = ap (NamesR Q) (sym (R.rolls-Product x y)) ∙ names_roll_r (F.Product x y)
-
-  pub names_union_r : (r s : RelTerm) → NamesR Q (R.Union r s) ≡ (NamesR Q r × NamesR Q s)
-  names_union_r r s = ap (NamesR Q) (sym (R.rolls-Union r s)) ∙ names_roll_r (F.RelTerm::Union r s)
-
-  pub names_concat_r : (r s : RelTerm) → NamesR Q (R.Concat r s) ≡ (NamesR Q r × NamesR Q s)
-  names_concat_r r s = ap (NamesR Q) (sym (R.rolls-Concat r s)) ∙ names_roll_r (F.RelTerm::Concat r s)
-
-  pub names_star_r : (r : RelTerm) → NamesR Q (R.Star r) ≡ NamesR Q r
-  names_star_r r = ap (NamesR Q) (sym (R.rolls-Star r)) ∙ names_roll_r (F.RelTerm::Star r)
-
-  pub names_compose : (r s : RelTerm) → NamesR Q (R.Compose r s) ≡ (NamesR Q r × NamesR Q s)
-  names_compose r s = ap (NamesR Q) (sym (R.rolls-Compose r s)) ∙ names_roll_r (F.Compose r s)
-
   -- by what its layer names
   as_layer : (z : F.PathTerm-F PathTerm RelTerm) (t : PathTerm) → roll-PathTerm z ≡ t → Names Q t ↔ LayerNames Q (Names Q) (NamesR Q) z
   as_layer z t rolls =
@@ -119,13 +74,6 @@ module _ (Q : ℕ → Type 0) where
     repeated = λ r. as_layer_r (F.RelTerm::Star r) _ (R.rolls-Star r);
     compose = λ r s. as_layer_r (F.Compose r s) _ (R.rolls-Compose r s);
   }
-
--- by equal types
-pub opened : {A B : Type 0} → A ≡ B → A → B
-opened same a = subst (λ (T : Type 0). T) same a
-
-pub closed : {A B : Type 0} → A ≡ B → B → A
-closed same b = subst (λ (T : Type 0). T) (sym same) b
 
 -- what was lent of a part is the part
 pub part_named : {X : Type 0} (N : X → Type 0) (x a : X) → x ≡ a → N a → N x
