@@ -5,6 +5,7 @@ pub mod ExactFile
 pub mod ExactMembers
 pub mod ExactTrees
 pub mod ExactWords
+pub mod Inside
 pub mod Leading
 pub mod Loops
 pub mod Many
