@@ -1,16 +1,14 @@
 -- Bodies that treat both sides of a change alike have two relations with the same pairs.
-use Rattle.std.proofs.Common.{◌≡◌, ◌∙◌, ℕ, suc, ◌↔◌, Bool, true, false, List, [], ◌∷◌, ◌++◌, sym, ap, subst, arith}
+use Rattle.std.proofs.Common.{◌≡◌, ◌∙◌, ℕ, suc, ◌↔◌, Bool, true, false, List, [], ◌∷◌, ◌++◌, inl, inr, refl, sym, ap, subst, arith}
 use Rattle.std.specs.List.{All}
 use Rattle.std.specs.Prelude.{IsTrue}
 use Rattle.std.proofs.lemmas.Bool.{true≢false}
 use Rattle.std.proofs.lemmas.List.Elements.{All-nil, All-cons, All-head, All-append}
 use Rattle.rela_rir.specs.Words.{WordSet, Relation, ImageOf, PairConcatenation}
-use Rattle.rela_rir.proofs.Inclusions as within
 use Rattle.rela_rir.specs.declared.set.SymbolSet.{SymbolSet}
 use Rattle.rela_translate.specs.Checked.{Checked}
 use Rattle.rela_translate.specs.Verdict.{AreMet, Meets}
-use Rattle.rela_translate.specs.Zones.{Meaning, EitherPair, Outside, Paths, unit_meaning, meaning_of, Before, After}
-use Rattle.rela_translate.proofs.MeaningForms.{meaning_roll}
+use Rattle.rela_translate.specs.Zones.{Meaning, EitherPair, Outside, Paths, unit_meaning, layer_meaning, meaning_of, Before, After}
 use Rattle.rela_translate.specs.declared.body.Expr.{Expr}
 use Rattle.rela_translate.specs.declared.body.Change.{Change}
 use Rattle.rela_translate.specs.declared.body.Change.TheVariants.{Preserve, Add, Remove, Replace, Drop, AnyOf, Ignore}
@@ -18,7 +16,7 @@ use Rattle.rela_translate.specs.declared.body.Core.{Core}
 use Rattle.rela_translate.specs.declared.body.Core.TheOpen as C
 use Rattle.rela_translate.specs.declared.body.Core.TheVariants as B
 use Rattle.rela_translate.specs.declared.body.Core.TheViews.{roll-Core}
-use Rattle.rela_translate.specs.declared.body.Core.TheFolds.{map-Core, fold-roll-Core, ind-Core}
+use Rattle.rela_translate.specs.declared.body.Core.TheFolds.{map-Core, fold-roll-Core, rec-roll-Core, ind-Core}
 use Rattle.rela_engine.specs.Sides.{layer_modifiers, modifiers_of, AsksNoChange, TreatsSidesAlike, SamePairs}
 
 -- ---- which bodies do
@@ -74,19 +72,41 @@ by_first body s t x told both first fails same = (
 
 -- ---- their relations
 
+turned_pairs : (R S : Relation) → SamePairs R S → SamePairs S R
+turned_pairs R S same u v = ((same u v).1, (same u v).0)
+
+joined : (R R' S S' : Relation) → SamePairs R R' → SamePairs S S' → (u v : List ℕ) → PairConcatenation R S u v → PairConcatenation R' S' u v
+joined R R' S S' f g u v c = record {
+  front_in = c.front_in;
+  rest_in = c.rest_in;
+  front_out = c.front_out;
+  rest_out = c.rest_out;
+  split_in = c.split_in;
+  split_out = c.split_out;
+  in_front = (f c.front_in c.front_out).0 c.in_front;
+  in_rest = (g c.rest_in c.rest_out).0 c.in_rest;
+}
+
 joined_pairs : (R R' S S' : Relation) → SamePairs R R' → SamePairs S S' → SamePairs (PairConcatenation R S) (PairConcatenation R' S')
-joined_pairs R R' S S' f g u v = (
-  within.joined_r R R' S S' (λ x y. (f x y).0) (λ x y. (g x y).0) u v,
-  within.joined_r R' R S' S (λ x y. (f x y).1) (λ x y. (g x y).1) u v,
-)
+joined_pairs R R' S S' f g u v = (joined R R' S S' f g u v, joined R' R S' S (turned_pairs R R' f) (turned_pairs S S' g) u v)
+
+either : (X : WordSet) (R R' S S' : Relation) → SamePairs R R' → SamePairs S S' → (u v : List ℕ) → EitherPair R (Outside X S) u v → EitherPair R' (Outside X S') u v
+either X R R' S S' f g u v (inl r) = inl ((f u v).0 r)
+either X R R' S S' f g u v (inr s) = inr ((g u v).0 s.0, s.1)
 
 either_pairs : (X : WordSet) (R R' S S' : Relation) → SamePairs R R' → SamePairs S S' → SamePairs (EitherPair R (Outside X S)) (EitherPair R' (Outside X S'))
-either_pairs X R R' S S' f g u v = (
-  within.union_r R R' (Outside X S) (Outside X S') (λ x y. (f x y).0) (λ x y s. ((g x y).0 s.0, s.1)) u v,
-  within.union_r R' R (Outside X S') (Outside X S) (λ x y. (f x y).1) (λ x y s. ((g x y).1 s.0, s.1)) u v,
-)
+either_pairs X R R' S S' f g u v = (either X R R' S S' f g u v, either X R' R S' S (turned_pairs R R' f) (turned_pairs S S' g) u v)
 
 module _ (classes : List SymbolSet) (n : ℕ) where
+  -- what a body means is what its parts do, put together
+  natural : (X : Type 0) (v : X → Core) (k : Core → Meaning) (x : C.Core-F X) → layer_meaning classes n (λ p. k (v p)) x ≡ layer_meaning classes n k (map-Core X Core v x)
+  natural X v k (C.Unit z c) = refl
+  natural X v k (C.Then s t) = refl
+  natural X v k (C.Else s t) = refl
+
+  meaning_roll : (x : C.Core-F Core) → meaning_of classes n (roll-Core x) ≡ layer_meaning classes n (meaning_of classes n) x
+  meaning_roll x = rec-roll-Core Meaning (λ X _ part layer. layer_meaning classes n part layer) natural x
+
   unit_pairs : (Z : WordSet) (c : Change) → AsksNoChange c → SamePairs (unit_meaning classes n Z c).before (unit_meaning classes n Z c).after
   unit_pairs Z Preserve alike u v = (λ x. x, λ x. x)
   unit_pairs Z (Add p) alike u v = absurd alike
@@ -104,15 +124,15 @@ module _ (classes : List SymbolSet) (n : ℕ) where
 
   layer : (y : C.Core-F ((body : Core) × HasSamePairs body)) → HasSamePairs (roll-Core (map-Core ((body : Core) × HasSamePairs body) Core (λ e. e.0) y))
   layer (C.Unit z c) alike =
-      by_meaning _ _ (meaning_roll classes n (C.Unit z c))
+      by_meaning _ _ (meaning_roll (C.Unit z c))
       (unit_pairs (Paths classes n z) c ((alike_unit _ z c (B.rolls-Unit z c)).0 alike))
   layer (C.Then s t) alike =
       let both = (alike_then _ s.0 t.0 (B.rolls-Then s.0 t.0)).0 alike in
-      by_meaning _ _ (meaning_roll classes n (C.Then s.0 t.0))
+      by_meaning _ _ (meaning_roll (C.Then s.0 t.0))
       (joined_pairs (Before classes n s.0) (After classes n s.0) (Before classes n t.0) (After classes n t.0) (s.1 both.0) (t.1 both.1))
   layer (C.Else s t) alike =
       let both = (alike_else _ s.0 t.0 (B.rolls-Else s.0 t.0)).0 alike in
-      by_meaning _ _ (meaning_roll classes n (C.Else s.0 t.0))
+      by_meaning _ _ (meaning_roll (C.Else s.0 t.0))
       (either_pairs (meaning_of classes n s.0).zone (Before classes n s.0) (After classes n s.0) (Before classes n t.0) (After classes n t.0) (s.1 both.0) (t.1 both.1))
 
   pub same_pairs : (body : Core) → TreatsSidesAlike body → SamePairs (Before classes n body) (After classes n body)
@@ -122,8 +142,8 @@ module _ (classes : List SymbolSet) (n : ℕ) where
 
 image_of_both : (X Y : WordSet) (R S : Relation) → ((w : List ℕ) → X w ↔ Y w) → SamePairs R S → (v : List ℕ) → ImageOf X R v ↔ ImageOf Y S v
 image_of_both X Y R S words pairs v = (
-  within.image X Y R S (λ w. (words w).0) (λ x y. (pairs x y).0) v,
-  within.image Y X S R (λ w. (words w).1) (λ x y. (pairs x y).1) v,
+  λ i. record { source = i.source; in_set = (words i.source).0 i.in_set; related = (pairs i.source v).0 i.related },
+  λ i. record { source = i.source; in_set = (words i.source).1 i.in_set; related = (pairs i.source v).1 i.related },
 )
 
 met_by_same : (at_most : Bool) (X Y : WordSet) → ((w : List ℕ) → X w ↔ Y w) → AreMet at_most X Y

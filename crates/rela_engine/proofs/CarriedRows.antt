@@ -1,5 +1,5 @@
 -- A row of one flow is right for each flow whose paths have the same words and the same arrivals.
-use Rattle.std.proofs.Common.{ℕ, Bool, true, false, List, refl, inl, inr}
+use Rattle.std.proofs.Common.{ℕ, ◌↔◌, Bool, true, false, List, refl, inl, inr}
 use Rattle.std.specs.Prelude.{Option, Some, None}
 use Rattle.rela_build.specs.PathSets.{Paths}
 use Rattle.rela_names.specs.Shortlex.{First}
@@ -7,10 +7,10 @@ use Rattle.rela_report.specs.declared.rows.Row.{Row}
 use Rattle.rela_report.specs.declared.rows.Row.TheVariants.{Compliant, Violated, Undecided}
 use Rattle.rela_report.specs.declared.rows.Side.{Side}
 use Rattle.rela_report.specs.declared.rows.Side.TheVariants as side
-use Rattle.rela_rir.specs.Agreement.{SameWords, SamePaths, SameSymbols}
+use Rattle.rela_rir.specs.Agreement.{AgreeOn, SameWords, SamePaths, SameSymbols}
 use Rattle.rela_rir.specs.Limit.{Licensed}
 use Rattle.rela_rir.specs.Words.{WordSet, Relation, ImageOf}
-use Rattle.rela_rir.proofs.LicencesCarry as carry
+use Rattle.rela_rir.specs.declared.term.PathTerm.{PathTerm}
 use Rattle.rela_translate.specs.Checked.{Checked}
 use Rattle.rela_translate.specs.Verdict.{AreMet, Offends, Meets, Offending}
 use Rattle.rela_engine.specs.RowOf.{RowOf, Says, IsOffence, IsLast, MustBeOpen, words_of, relation_of}
@@ -73,16 +73,16 @@ module _ (check : Checked) (n limit : ℕ) (p q : Paths) (same : SamePathSets p 
   words_alike side.Before = same.pre
   words_alike side.After = same.post
 
-  licensed : (last : Option (List ℕ)) → Licensed (scene check n p) last (before_image check n) (after_image check n) limit
-      → Licensed (scene check n q) last (before_image check n) (after_image check n) limit
-  licensed last = carry.licensed (scene check n p) (scene check n q) one_scene last (before_image check n) (after_image check n) limit (inr one_paths) (inr one_paths)
-
-  pub forced : MustBeOpen check n p limit → MustBeOpen check n q limit
-  forced = carry.forced (scene check n p) (scene check n q) one_scene (before_image check n) (after_image check n) limit (inr one_paths) (inr one_paths)
+  -- the two scenes agree on all that a term names
+  pub agree : (x : PathTerm) → AgreeOn (scene check n p) (scene check n q) x
+  agree x = record { symbols = one_scene; paths = inr one_paths }
 
 -- ---- rows
 
-module _ (check : Checked) (n limit : ℕ) (p q : Paths) (same : SamePathSets p q) where
+module _ (check : Checked) (n limit : ℕ) (p q : Paths) (same : SamePathSets p q)
+    (licensed : (last : Option (List ℕ)) → Licensed (scene check n p) last (before_image check n) (after_image check n) limit
+    ↔ Licensed (scene check n q) last (before_image check n) (after_image check n) limit)
+    (forced : MustBeOpen check n p limit ↔ MustBeOpen check n q limit) where
   offending : SameWords (Offending check n p.pre p.post) (Offending check n q.pre q.post)
   offending w = (carried_offending check n limit p q same w, carried_offending check n limit q p (back check n limit p q same) w)
 
@@ -106,7 +106,7 @@ module _ (check : Checked) (n limit : ℕ) (p q : Paths) (same : SamePathSets p 
   says : (row : Row) → Says check n p limit row → Says check n q limit row
   says Compliant meets = carried_met check n limit p q same meets
   says (Violated word of source) is = offence word of source is
-  says Undecided may = λ last is. licensed check n limit p q same last (may last (last_word last is))
+  says Undecided may = λ last is. (licensed last).0 (may last (last_word last is))
 
   pub carried : (row : Row) → RowOf check n p limit row → RowOf check n q limit row
-  carried row is = record { says = says row is.says; forced = λ must. is.forced (forced check n limit q p (back check n limit p q same) must) }
+  carried row is = record { says = says row is.says; forced = λ must. is.forced (forced.1 must) }

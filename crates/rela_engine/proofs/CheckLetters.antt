@@ -9,9 +9,9 @@ use Rattle.rela_translate.specs.Terms.{zone_of, before_of, after_of}
 use Rattle.rela_translate.specs.Zones.{path_symbols, marker_symbol, drop_symbol}
 use Rattle.rela_build.specs.Lettering.{AreListedAlike, AreLetterBlocks, IsAlone}
 use Rattle.rela_build.specs.Named.{Names, NamesR}
+use Rattle.rela_blocks.specs.Alone.{AreOthersAlone}
 use Rattle.rela_blocks.specs.Blocks.{AreOne, AreBlocks}
 use Rattle.rela_blocks.specs.Scenes.{lettering_of}
-use Rattle.rela_engine.proofs.NamedByChecks.{zone_names, before_names, after_names}
 
 module _ (check : Checked) (n : ℕ) (blocks : List ℕ) (are : AreBlocks check n blocks) where
   path_one : (s t : ℕ) → AreOne check.classes n s t → s < path_symbols n → t < path_symbols n
@@ -48,11 +48,18 @@ module _ (check : Checked) (n : ℕ) (blocks : List ℕ) (are : AreBlocks check 
       sym at ∙ ap (λ (ks : List ℕ). get_or ks i k) is.numbered ∙ get_or-range_with_len 1 (length (markers_of check.body)) i k within in
       alone (marker_symbol n k) (omega (arith, k_is)) (omega (arith, k_is, within, are.symbols))
 
-  pub before_alone : IsCheck check → (r : RelTerm) → r ≡ before_of n check.body → NamesR (IsAlone blocks) r
-  before_alone is r form = subst (NamesR (IsAlone blocks)) (sym form) (before_names (IsAlone blocks) n drop_alone check.body (marker_alone is))
+  others_alone : IsCheck check → AreOthersAlone blocks n check.body
+  others_alone is = record { drop = drop_alone; markers = marker_alone is }
 
-  pub after_alone : IsCheck check → (r : RelTerm) → r ≡ after_of n check.body → NamesR (IsAlone blocks) r
-  after_alone is r form = subst (NamesR (IsAlone blocks)) (sym form) (after_names (IsAlone blocks) n drop_alone check.body (marker_alone is))
+  -- and so are the symbols that the terms name
+  pub before_alone : (AreOthersAlone blocks n check.body → NamesR (IsAlone blocks) (before_of n check.body))
+      → IsCheck check → (r : RelTerm) → r ≡ before_of n check.body → NamesR (IsAlone blocks) r
+  before_alone named is r form = subst (NamesR (IsAlone blocks)) (sym form) (named (others_alone is))
 
-  pub zone_alone : (t : PathTerm) → t ≡ zone_of n check.body → Names (IsAlone blocks) t
-  zone_alone t form = subst (Names (IsAlone blocks)) (sym form) (zone_names (IsAlone blocks) n drop_alone check.body)
+  pub after_alone : (AreOthersAlone blocks n check.body → NamesR (IsAlone blocks) (after_of n check.body))
+      → IsCheck check → (r : RelTerm) → r ≡ after_of n check.body → NamesR (IsAlone blocks) r
+  after_alone named is r form = subst (NamesR (IsAlone blocks)) (sym form) (named (others_alone is))
+
+  pub zone_alone : (AreOthersAlone blocks n check.body → Names (IsAlone blocks) (zone_of n check.body))
+      → IsCheck check → (t : PathTerm) → t ≡ zone_of n check.body → Names (IsAlone blocks) t
+  zone_alone named is t form = subst (Names (IsAlone blocks)) (sym form) (named (others_alone is))

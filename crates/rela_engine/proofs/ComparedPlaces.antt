@@ -14,14 +14,20 @@ use Rattle.rela_nfa.specs.Automaton.{Automaton}
 use Rattle.rela_nfa.specs.Runs.{Reach}
 use Rattle.rela_rir.specs.Limit.{IsCheckWord, ReachedPair}
 use Rattle.rela_rir.specs.Places.{Scene}
-use Rattle.rela_rir.specs.Tables.{IsPlaced, ToldByState}
-use Rattle.rela_rir.proofs.ReachedPlaces as reached
+use Rattle.rela_rir.specs.Tables.{IsPlaced, ManyWords, ToldByState}
 use Rattle.rela_rir.specs.declared.term.PathTerm.{PathTerm}
 use Rattle.rela_subset.specs.Subsets.{AreApart}
 use Rattle.rela_engine.proofs.LeastSymbols.{least_word, least_words}
 use Rattle.rela_engine.proofs.LeastWords.{before_letters}
 use Rattle.rela_engine.proofs.LetterLaws.{Below}
 use Rattle.rela_engine.proofs.PathLetters.{word_of_symbols}
+
+-- terms have so many words that places tell apart as states that stand for their places tell apart
+abbrev pub TellsByStates : Scene → Type 0
+TellsByStates m =
+    (last : Option (List ℕ)) (x y : PathTerm) (a b : List ℕ × Automaton) → IsPlaced m x (Leads a.0 a.1) → IsPlaced m y (Leads b.0 b.1) → (k : ℕ)
+    → ManyWords (λ w. IsCheckWord m w × ForSome last (λ end. ¬ IsBefore end w)) (λ w z. ToldByState (Leads a.0 a.1) w z ⊎ ToldByState (Leads b.0 b.1) w z) k
+    → ReachedPair m last x y k
 
 module _ (m : Scene) (blocks : List ℕ) (is : IsPartition blocks) (symbols : length blocks ≡ m.setting.path_symbols + m.markers) where
   abbrev f : ℕ → ℕ
@@ -31,7 +37,7 @@ module _ (m : Scene) (blocks : List ℕ) (is : IsPartition blocks) (symbols : le
   pub check_word : (v w : List ℕ) → map f v ≡ w → Below (block_count blocks) w → IsCheckWord m v
   check_word v w e below = subst (λ (k : ℕ). Below k v) symbols (word_of_symbols blocks v (subst (Below (block_count blocks)) (sym e) below))
 
-  module _ (x y : PathTerm) (a b : Automaton) (a_letters : a.letters ≡ block_count blocks)
+  module _ (told : TellsByStates m) (x y : PathTerm) (a b : Automaton) (a_letters : a.letters ≡ block_count blocks)
       (placed_a : IsPlaced m x (Leads blocks a)) (placed_b : IsPlaced m y (Leads blocks b))
       (P P' : List ℕ → Type 0) (on : (w : List ℕ) → P w → P' (map f w)) (limit : ℕ) (many : ReachPairsBefore a b P' (limit + 1)) where
     abbrev word : List ℕ → List ℕ
@@ -90,7 +96,7 @@ module _ (m : Scene) (blocks : List ℕ) (is : IsPartition blocks) (symbols : le
       -- a comparison that passes the limit has so many words that places tell apart
       pub comparison_passes : ReachedPair m last x y (limit + 1)
       comparison_passes =
-          reached.comparison m last x y (Leads blocks a) (Leads blocks b) placed_a placed_b (limit + 1) (record {
+          told last x y (blocks, a) (blocks, b) placed_a placed_b (limit + 1) (record {
             words = map word many.words;
             many = length-map many.words word ∙ many.count;
             each = All-map IsEarly word many.words (All-from_get_or (λ w. IsEarly (word w)) many.words [] early_at);

@@ -22,7 +22,7 @@ use Rattle.rela_trans.specs.Runs.{Relates}
 use Rattle.rela_engine.specs.Compilation.{Compilation, Relations, AreRelations, RelateAlike}
 use Rattle.rela_engine.specs.LetterImages.{AreParents, IsFirstOffence, IsImageUnder, IsReadOver, ReadsJust, TellsFirst, TellsOfFlow, TellsOfImages, TellsSource}
 use Rattle.rela_engine.specs.Reading.{Realises}
-use Rattle.rela_engine.specs.RowOf.{RowOf, relation_of, words_of}
+use Rattle.rela_engine.specs.RowOf.{RowOf, MustBeOpen, relation_of, words_of}
 use Rattle.rela_engine.specs.Seen.{AreLeast, AreLeastSymbols}
 use Rattle.rela_engine.specs.declared.told.Told.{Told}
 use Rattle.rela_engine.specs.declared.told.Told.TheVariants.{Met, Differ, Open}
@@ -237,8 +237,8 @@ module _ (c : Compilation) (relations : Relations) (are : AreRelations c relatio
         record { source = found.source; in_set = found.in_set; related = (lent of t t_is found.source word).1 found.related }
 
     -- and the row that tells of the offence is right
-    pub side_row : (row : Row) → TellsFirst blocks (words_of of flow.pre flow.post) (Relates (read_by c.blocks) t) letters of row → RowOf c.check c.locations flow c.states row
-    side_row row tells =
-        right_row c relations are flow row
+    pub side_row : ¬ MustBeOpen c.check c.locations flow c.states → (row : Row) → TellsFirst blocks (words_of of flow.pre flow.post) (Relates (read_by c.blocks) t) letters of row → RowOf c.check c.locations flow c.states row
+    side_row unforced row tells =
+        right_row c.check c.locations flow c.states unforced row
         (offence_row blocks c.check c.locations flow c.states letters of is row
         (first_same blocks (words_of of flow.pre flow.post) (Relates (read_by c.blocks) t) (relation_of of c.check c.locations) (lent of t t_is) letters of row tells))

@@ -1,4 +1,3 @@
-pub mod FixedTerms
 pub mod OpenRows
 pub mod CarriedRows
 pub mod Rereading
@@ -15,7 +14,6 @@ pub mod PlacedImages
 pub mod PlainRows
 pub mod NodesApart
 pub mod Placed
-pub mod NamedByChecks
 pub mod LimitedParts
 pub mod CheckLetters
 pub mod CheckedRelations

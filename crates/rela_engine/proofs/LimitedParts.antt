@@ -1,5 +1,5 @@
 -- The parts that are complemented in a term, where the limit bounds the sets of states that words reach.
-use Rattle.std.proofs.Common.{◌≡◌, ◌∙◌, ℕ, zero, suc, ◌+◌, ◌<◌, Bool, true, List, [], ◌∷◌, ◌++◌, length, get_or, map, inl, inr, refl, sym, ap, subst, arith}
+use Rattle.std.proofs.Common.{◌≡◌, ◌∙◌, ◌↔◌, ℕ, zero, suc, ◌+◌, ◌<◌, Bool, true, List, [], ◌∷◌, ◌++◌, length, get_or, map, inl, inr, refl, sym, ap, subst, arith}
 use Rattle.std.specs.List.{All, AllPairs}
 use Rattle.std.specs.Prelude.{Contains}
 use Rattle.std.proofs.lemmas.List.{get_or-map, map-append, length-map}
@@ -9,14 +9,13 @@ use Rattle.rela_labels.specs.Partition.{block_count}
 use Rattle.rela_nfa.specs.Automaton.{Automaton}
 use Rattle.rela_nfa.specs.Runs.{Accepts}
 use Rattle.rela_rir.specs.Complements.{complemented_parts_r}
-use Rattle.rela_rir.specs.Limit.{ReachedInsideR, ForcedInsideR, AreTold, ToldByContinuing}
+use Rattle.rela_rir.specs.Limit.{Reached, ReachedInsideR, ForcedInsideR, AreTold, ToldByContinuing}
 use Rattle.rela_rir.specs.Meaning.{IsPathWord}
 use Rattle.rela_rir.specs.Places.{Scene}
 use Rattle.rela_rir.specs.Tables.{IsPlaced, ManyWords, ToldByState}
-use Rattle.rela_rir.proofs.InsideForms.{forced_by_parts_r, reached_by_parts_r}
-use Rattle.rela_rir.proofs.ReachedPlaces.{complement}
 use Rattle.rela_rir.specs.declared.term.PathTerm.{PathTerm}
 use Rattle.rela_rir.specs.declared.term.RelTerm.{RelTerm}
+use Rattle.rela_rir.specs.declared.term.PathTerm.TheVariants.{Complement}
 use Rattle.rela_subset.specs.Deterministic.{IsOver}
 use Rattle.rela_subset.specs.Subsets.{AreApart, ReachSets}
 use Rattle.rela_trans.specs.Composition.{Covers}
@@ -48,6 +47,19 @@ pairs_mapped R S f on xs x pairs i j d before inside =
     let i_in : i < length xs = omega (arith, before, j_in) in
     subst (λ y. R y (get_or (map f xs) j d)) (sym (get_or-map f xs i x d i_in))
     (subst (λ y. R (f (get_or xs i x)) y) (sym (get_or-map f xs j x d j_in)) (on (get_or xs i x) (get_or xs j x) (pairs i j x before j_in)))
+
+-- a complement has as many reached places as there are words that states of its part tell apart
+abbrev pub TellsPaths : Scene → Type 0
+TellsPaths m = (x : PathTerm) (a : List ℕ × Automaton) → IsPlaced m x (Leads a.0 a.1) → (k : ℕ)
+    → ManyWords (IsPathWord m.setting.path_symbols) (ToldByState (Leads a.0 a.1)) k → Reached m (Complement x) k
+
+-- a complement of a part with so many reached places is a counted term that is inside
+abbrev ReachedByParts : Scene → Type 0
+ReachedByParts m = (k : ℕ) (r : RelTerm) (part : PathTerm) → Contains (complemented_parts_r r) part → Reached m (Complement part) k → ReachedInsideR m k r
+
+-- an answer is forced where a complemented part tells so many words
+abbrev ForcedByParts : Scene → Type 0
+ForcedByParts m = (k : ℕ) (r : RelTerm) → ForcedInsideR m k r ↔ ((part : PathTerm) × Contains (complemented_parts_r r) part × AreTold m part k)
 
 module _ (l : Lettering) (paths : Paths) where
   abbrev pub m : Scene
@@ -112,21 +124,21 @@ module _ (l : Lettering) (paths : Paths) where
     listed [] = (0, omega arith, refl)
     listed (p ∷ front) = let rest = listed front in (suc rest.0, omega (arith, rest.1), rest.2)
 
-  refused_inside : (covers : Covers f (block_count l.blocks)) (exactly : Type 0) (first k number : ℕ) (r : RelTerm)
+  refused_inside : TellsPaths m → ReachedByParts m → (covers : Covers f (block_count l.blocks)) (exactly : Type 0) (first k number : ℕ) (r : RelTerm)
       → IsRefused (Refuses k) exactly l paths first (complemented_parts_r r) number → ReachedInsideR m k r
-  refused_inside covers exactly first k number r refused =
-      reached_by_parts_r m k r refused.part (has_part (complemented_parts_r r) refused.before refused.later refused.part refused.whole)
-      (complement m refused.part (Leads l.blocks refused.automaton) (placed exactly refused.part refused.automaton refused.is.made) k
+  refused_inside complement by_parts covers exactly first k number r refused =
+      by_parts k r refused.part (has_part (complemented_parts_r r) refused.before refused.later refused.part refused.whole)
+      (complement refused.part (l.blocks, refused.automaton) (placed exactly refused.part refused.automaton refused.is.made) k
       (many_words covers refused.over refused.is.of_path refused.automaton k refused.refused))
 
   -- why a relation wasn't built, if not for want of memory
-  pub stopped_inside : Covers f (block_count l.blocks) → (exactly : Type 0) (states limit first : ℕ) → states ≡ limit → (r : RelTerm) (e : Stop)
+  pub stopped_inside : TellsPaths m → ReachedByParts m → Covers f (block_count l.blocks) → (exactly : Type 0) (states limit first : ℕ) → states ≡ limit → (r : RelTerm) (e : Stop)
       → StoppedR (Refuses (states + 1)) exactly l paths limit first r e → ¬ (e ≡ Memory) → ReachedInsideR m (limit + 1) r
   unfolding StoppedR
-  stopped_inside covers exactly states limit first same r Limit stopped other = stopped
-  stopped_inside covers exactly states limit first same r (Refused number) stopped other =
-      subst (λ (n : ℕ). ReachedInsideR m (n + 1) r) same (refused_inside covers exactly first (states + 1) number r stopped)
-  stopped_inside covers exactly states limit first same r Memory stopped other = absurd (other refl)
+  stopped_inside complement by_parts covers exactly states limit first same r Limit stopped other = stopped
+  stopped_inside complement by_parts covers exactly states limit first same r (Refused number) stopped other =
+      subst (λ (n : ℕ). ReachedInsideR m (n + 1) r) same (refused_inside complement by_parts covers exactly first (states + 1) number r stopped)
+  stopped_inside complement by_parts covers exactly states limit first same r Memory stopped other = absurd (other refl)
 
   -- ---- each complement was made: no more words are told by continuing them than the limit
 
@@ -171,10 +183,10 @@ module _ (l : Lettering) (paths : Paths) where
       none_told exactly k (first + 1) parts notes later part (i, omega (arith, inside), at) told
 
   -- where each complement was made, none has a part that tells more words than the limit
-  pub noted_within : {N : Type 0} (exactly : Type 0) (states limit : ℕ) → states ≡ limit → (r : RelTerm) (old new : List N)
+  pub noted_within : {N : Type 0} → ForcedByParts m → (exactly : Type 0) (states limit : ℕ) → states ≡ limit → (r : RelTerm) (old new : List N)
       → NotedR (Answers (states + 1)) exactly l paths r old new → ¬ ForcedInsideR m (limit + 1) r
   unfolding NotedR
-  noted_within exactly states limit same r old new (more, is, noted) forced =
-      let told = (forced_by_parts_r m (limit + 1) r).0 forced in
+  noted_within by_parts exactly states limit same r old new (more, is, noted) forced =
+      let told = (by_parts (limit + 1) r).0 forced in
       none_told exactly (states + 1) (length old) (complemented_parts_r r) more noted told.0 told.1
       (subst (λ (n : ℕ). AreTold m told.0 (n + 1)) (sym same) told.2)

@@ -36,7 +36,7 @@ use Rattle.rela_engine.specs.Leaves.{LeafOf, MustBeLeftOpen, plain_lettering, te
 use Rattle.rela_engine.specs.Seen.{AreLeast}
 use Rattle.rela_engine.specs.declared.leaf.Leaf.{Leaf}
 use Rattle.rela_engine.specs.declared.leaf.Leaf.TheVariants as leaf
-use Rattle.rela_engine.proofs.ComparedPlaces.{comparison_passes}
+use Rattle.rela_engine.proofs.ComparedPlaces.{TellsByStates, comparison_passes}
 use Rattle.rela_engine.proofs.LeastWords.{first_symbols}
 use Rattle.rela_engine.proofs.PathLetters.{word_of_symbols}
 use Rattle.rela_engine.proofs.Rows.{letters_below}
@@ -143,10 +143,10 @@ module _ (l : Lettering) (none : l.markers ≡ 0) (are : AreLetterBlocks l) (pat
     right assertion made limit (verdict.Differ found of) same first on leaf.Undecided says = absurd says
 
     -- a comparison that passes the limit leaves it open
-    pub open_by_pairs : (assertion : Assertion) → AreMade assertion → (limit : ℕ) → ReachPairsBefore a b (TellsAgainstWords assertion a b) (limit + 1)
+    pub open_by_pairs : TellsByStates m → (assertion : Assertion) → AreMade assertion → (limit : ℕ) → ReachPairsBefore a b (TellsAgainstWords assertion a b) (limit + 1)
         → MayBeLeftOpen m assertion limit
-    open_by_pairs assertion made limit many =
-        inr (inr (comparison_passes m l.blocks are.partition are.symbols (first_term assertion) (second_term assertion) a b
+    open_by_pairs told assertion made limit many =
+        inr (inr (comparison_passes m l.blocks are.partition are.symbols told (first_term assertion) (second_term assertion) a b
         (letters (first_term assertion) a made.0) (placed (first_term assertion) a made.0) (placed (second_term assertion) b made.1)
         (TellsAgainst m.setting assertion) (TellsAgainstWords assertion a b) (λ w. (tells assertion made w).1) limit many
         None (λ end at. absurd (none-some end at))))

@@ -1,5 +1,5 @@
 -- The row of a check, by what automata over blocks of symbols tell.
-use Rattle.std.proofs.Common.{◌≡◌, ℕ, ◌<◌, ◌↔◌, Bool, true, false, List, map, refl, sym, ◌∙◌, subst, inl, inr}
+use Rattle.std.proofs.Common.{◌≡◌, ℕ, ◌<◌, ◌↔◌, Bool, true, false, List, map, sym, ◌∙◌, subst, inl, inr}
 use Rattle.std.specs.List.{All}
 use Rattle.rela_labels.specs.Partition.{block_count, IsPartition}
 use Rattle.rela_names.specs.Shortlex.{IsBefore, First}
@@ -15,25 +15,24 @@ use Rattle.rela_rir.specs.declared.term.RelTerm.{RelTerm}
 use Rattle.rela_trans.specs.Machine.{Machine, IsMachine}
 use Rattle.rela_trans.specs.Runs.{Relates}
 use Rattle.rela_translate.specs.Checked.{Checked}
+use Rattle.rela_translate.specs.Settings.{bare}
 use Rattle.rela_translate.specs.Terms.{before_of, after_of}
 use Rattle.rela_translate.specs.Verdict.{AreMet, Offending, Offends}
-use Rattle.rela_translate.proofs.Meanings.{before_in, after_in}
-use Rattle.rela_build.specs.PathSets.{scene_of}
+use Rattle.rela_build.specs.Lettering.{Lettering}
 use Rattle.rela_build.specs.Reading.{read_by}
 use Rattle.rela_build.specs.Made.{IsMadeR}
 use Rattle.rela_build.specs.PathSets.{Paths, no_paths}
 use Rattle.rela_engine.specs.Compilation.{Compilation, Relations, Twofold, AreRelations}
 use Rattle.rela_engine.specs.Reading.{Recognises, Realises, RealisesFrom}
 use Rattle.rela_engine.specs.LetterImages.{IsFirstOffence, TellsFirst}
-use Rattle.rela_engine.specs.RowOf.{RowOf, Says, IsOffence, relation_of, words_of}
+use Rattle.rela_engine.specs.RowOf.{RowOf, MustBeOpen, Says, IsOffence, relation_of, words_of}
 use Rattle.rela_blocks.specs.Scenes.{lettering_of}
-use Rattle.rela_engine.specs.Seen.{AreSeen, AreLeastSymbols, IsSource, IsFirstSource, TellsOf, machine_of}
+use Rattle.rela_engine.specs.Seen.{AreSeen, AreSides, AreLeastSymbols, IsSource, IsFirstSource, TellsOf, machine_of}
 use Rattle.rela_engine.specs.declared.seen.Form.{Form}
 use Rattle.rela_engine.specs.declared.seen.Form.TheVariants as form
 use Rattle.rela_engine.proofs.LeastWords.{before_letters, first_symbols, same_words}
 use Rattle.rela_engine.proofs.LetterLaws.{accepted_letters, word_for}
 use Rattle.rela_engine.proofs.LiftedWords.{letters_related, symbols_related}
-use Rattle.rela_engine.proofs.OpenRows.{not_forced}
 use Rattle.rela_engine.proofs.Rereading.{related_below}
 
 -- ---- images told by letters
@@ -181,16 +180,9 @@ some_source blocks is words pairs paths relation image seen letters accepted =
 
 -- ---- the row
 
--- what is known of both sides
-pub record AreSides (blocks : List ℕ) (check : Checked) (locations : ℕ) (pre post : List ℕ → Type 0)
-    (pre_paths : Automaton) (pre_relation : Machine) (pre_image : Automaton) (post_paths : Automaton) (post_relation : Machine) (post_image : Automaton) : Type 0 where
-  pub partition : IsPartition blocks
-  pub pre_seen : AreSeen blocks pre (relation_of side.Before check locations) pre_paths pre_relation pre_image
-  pub post_seen : AreSeen blocks post (relation_of side.After check locations) post_paths post_relation post_image
-
 -- a plain transducer of a term has the pairs that the term means
-plain_realises : (check : Checked) (n : ℕ) (blocks : List ℕ) (r : RelTerm) (pairs : Relation) (t : Machine)
-    → ((u v : List ℕ) → InR (scene_of (lettering_of check n blocks) no_paths).setting r u v ↔ pairs u v)
+pub plain_realises : (check : Checked) (n : ℕ) (blocks : List ℕ) (r : RelTerm) (pairs : Relation) (t : Machine)
+    → ((u v : List ℕ) → InR (bare check.classes n) r u v ↔ pairs u v)
     → IsMadeR ⊥ (lettering_of check n blocks) no_paths r t → Realises blocks pairs t
 unfolding IsMadeR
 plain_realises check n blocks r pairs t means made = record {
@@ -198,38 +190,34 @@ plain_realises check n blocks r pairs t means made = record {
   relation = λ u v. (λ related. (means u v).0 ((made.relation u v).0 related), λ pair. (made.relation u v).1 ((means u v).1 pair));
 }
 
+-- the letters of a plain transducer are the blocks
+made_letters : (l : Lettering) (r : RelTerm) (t : Machine) → IsMadeR ⊥ l no_paths r t → t.letters ≡ block_count l.blocks
+unfolding IsMadeR
+made_letters l r t made = made.letters
+
+-- the letters of relations that were lent are the blocks of the check
 module _ (c : Compilation) (relations : Relations) (are : AreRelations c relations) where
-  before_means : (u v : List ℕ) → InR (scene_of (lettering_of c.check c.locations c.blocks) no_paths).setting (before_of c.locations c.check.body) u v
-      ↔ relation_of side.Before c.check c.locations u v
-  before_means = before_in (scene_of (lettering_of c.check c.locations c.blocks) no_paths).setting c.locations c.check.body refl
-
-  after_means : (u v : List ℕ) → InR (scene_of (lettering_of c.check c.locations c.blocks) no_paths).setting (after_of c.locations c.check.body) u v
-      ↔ relation_of side.After c.check c.locations u v
-  after_means = after_in (scene_of (lettering_of c.check c.locations c.blocks) no_paths).setting c.locations c.check.body refl
-
-  -- in either form a transducer realises its relation
-  before_realises : (f : Form) → Realises c.blocks (relation_of side.Before c.check c.locations) (machine_of f relations.before)
-  before_realises form.Plain =
-      plain_realises c.check c.locations c.blocks (before_of c.locations c.check.body) (relation_of side.Before c.check c.locations) relations.before.plain
-      before_means are.before.plain
-  before_realises form.Small = are.before.small
-
-  after_realises : (f : Form) → Realises c.blocks (relation_of side.After c.check c.locations) (machine_of f relations.after)
-  after_realises form.Plain =
-      plain_realises c.check c.locations c.blocks (after_of c.locations c.check.body) (relation_of side.After c.check c.locations) relations.after.plain
-      after_means are.after.plain
-  after_realises form.Small = are.after.small
-
-  -- the letters of relations that were lent are the blocks of the check
   pub before_letters_are : (lent : Twofold) → lent ≡ relations.before → (lent.plain.letters ≡ block_count c.blocks) × (lent.small.letters ≡ block_count c.blocks)
   before_letters_are lent lent_is =
       subst (λ (r : Twofold). (r.plain.letters ≡ block_count c.blocks) × (r.small.letters ≡ block_count c.blocks)) (sym lent_is)
-      ((before_realises form.Plain).letters, are.before.small.letters)
+      (made_letters (lettering_of c.check c.locations c.blocks) (before_of c.locations c.check.body) relations.before.plain are.before.plain, are.before.small.letters)
 
   pub after_letters_are : (lent : Twofold) → lent ≡ relations.after → (lent.plain.letters ≡ block_count c.blocks) × (lent.small.letters ≡ block_count c.blocks)
   after_letters_are lent lent_is =
       subst (λ (r : Twofold). (r.plain.letters ≡ block_count c.blocks) × (r.small.letters ≡ block_count c.blocks)) (sym lent_is)
-      ((after_realises form.Plain).letters, are.after.small.letters)
+      (made_letters (lettering_of c.check c.locations c.blocks) (after_of c.locations c.check.body) relations.after.plain are.after.plain, are.after.small.letters)
+
+module _ (c : Compilation) (relations : Relations) (are : AreRelations c relations)
+    (before_plain : Realises c.blocks (relation_of side.Before c.check c.locations) relations.before.plain)
+    (after_plain : Realises c.blocks (relation_of side.After c.check c.locations) relations.after.plain) where
+  -- in either form a transducer realises its relation
+  before_realises : (f : Form) → Realises c.blocks (relation_of side.Before c.check c.locations) (machine_of f relations.before)
+  before_realises form.Plain = before_plain
+  before_realises form.Small = are.before.small
+
+  after_realises : (f : Form) → Realises c.blocks (relation_of side.After c.check c.locations) (machine_of f relations.after)
+  after_realises form.Plain = after_plain
+  after_realises form.Small = are.after.small
 
   -- what is seen through relations that were lent
   pub sides_of : (blocks : List ℕ) (f : Form) (pre post : WordSet) (before after : Twofold)
@@ -248,9 +236,10 @@ module _ (c : Compilation) (relations : Relations) (are : AreRelations c relatio
         (subst (λ (r : Twofold). AreSeen blocks post (Relates (read_by c.blocks) (machine_of f r)) post_paths post_relation post_image) after_is post_seen);
   }
 
-  -- a row that says what is so is right
-  pub right_row : (paths : Paths) (row : Row) → Says c.check c.locations paths c.states row → RowOf c.check c.locations paths c.states row
-  right_row paths row says = record { says = says; forced = λ must. absurd (not_forced c paths are.within must) }
+-- a row that says what is so is right where it doesn't have to be left open
+pub right_row : (check : Checked) (locations : ℕ) (paths : Paths) (limit : ℕ) → ¬ MustBeOpen check locations paths limit
+    → (row : Row) → Says check locations paths limit row → RowOf check locations paths limit row
+right_row check locations paths limit unforced row says = record { says = says; forced = λ must. absurd (unforced must) }
 
 -- two sets of words of letters, which are those of the two images
 module _ (blocks : List ℕ) (is : IsPartition blocks) (check : Checked) (locations : ℕ) (pre post A B : WordSet)

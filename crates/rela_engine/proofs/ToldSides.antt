@@ -13,9 +13,9 @@ use Rattle.rela_translate.specs.Checked.{Checked}
 use Rattle.rela_translate.specs.Verdict.{Offends}
 use Rattle.rela_build.specs.PathSets.{Paths}
 use Rattle.rela_engine.specs.RowOf.{Says, words_of}
-use Rattle.rela_engine.specs.Seen.{AreSeen}
+use Rattle.rela_engine.specs.Seen.{AreSeen, AreSides}
 use Rattle.rela_engine.specs.ToldSides.{HasSources, TellsOfSides, TellsOnSide}
-use Rattle.rela_engine.proofs.Rows.{AreSides, after_row, before_row, compliant_row, letters_below, some_source}
+use Rattle.rela_engine.proofs.Rows.{after_row, before_row, compliant_row, letters_below, some_source}
 
 -- what is seen of a side has a source for each word of the image
 pub sources_of : (blocks : List ℕ) → IsPartition blocks → (words : WordSet) (pairs : Relation) (paths : Automaton) (relation : Machine) (image : Automaton)

@@ -14,11 +14,12 @@ use Rattle.rela_rir.specs.Meaning.{In}
 use Rattle.rela_rir.specs.declared.term.PathTerm.{PathTerm}
 use Rattle.rela_rir.specs.declared.term.PathTerm.TheVariants.{Complement}
 use Rattle.rela_subset.specs.Deterministic.{Deterministic, IsAccepted, IsByArrival, IsDeterministic, IsOver, IsReachable}
-use Rattle.rela_translate.specs.Checked.{Checked}
+use Rattle.rela_translate.specs.Checked.{Checked, IsCheck}
 use Rattle.rela_translate.specs.Settings.{bare}
 use Rattle.rela_translate.specs.Terms.{zone_of}
 use Rattle.rela_translate.specs.Zones.{Zone}
 use Rattle.rela_engine.specs.AutomatonText.{automaton_text}
+use Rattle.rela_blocks.specs.Alone.{AreOthersAlone}
 use Rattle.rela_blocks.specs.Blocks.{AreBlocks}
 use Rattle.rela_blocks.specs.Scenes.{lettering_of}
 use Rattle.rela_engine.specs.Spelled.{IsLeastBy, spelled}
@@ -55,8 +56,8 @@ path_letters exactly l paths term a made over of_path = of_path.size ∙ sym mad
 
 module _ (check : Checked) (names : List (List ℕ)) (blocks : List ℕ) (are : AreBlocks check (length names) blocks)
     (l : Lettering) (l_is : l ≡ lettering_of check (length names) blocks) (term : PathTerm) (form : term ≡ zone_of (length names) check.body) where
-  pub zone_letters : Names (IsAlone l.blocks) term
-  zone_letters = subst (λ (k : Lettering). Names (IsAlone k.blocks) term) (sym l_is) (zone_alone check (length names) blocks are term form)
+  pub zone_letters : (AreOthersAlone blocks (length names) check.body → Names (IsAlone blocks) (zone_of (length names) check.body)) → IsCheck check → Names (IsAlone l.blocks) term
+  zone_letters named is = subst (λ (k : Lettering). Names (IsAlone k.blocks) term) (sym l_is) (zone_alone check (length names) blocks are named is term form)
 
   pub enough : path_symbols names ≤ length blocks
   enough = omega (arith, are.symbols)

@@ -10,6 +10,7 @@ use Rattle.rela_snapshot.specs.PairsLocated.{IsPairLocated}
 use Rattle.rela_trans.specs.Machine.{Machine}
 use Rattle.rela_trans.specs.Runs.{Relates}
 use Rattle.rela_engine.specs.Compilation.{AreRelations}
+use Rattle.rela_engine.specs.FlowMachines.{Flow}
 use Rattle.rela_engine.specs.LetterImages.{AreParents, IsReadOver}
 use Rattle.rela_engine.specs.RowOf.{MayBeOpen, RowOf}
 use Rattle.rela_blocks.specs.Scenes.{paths_of}
@@ -25,6 +26,15 @@ pub record IsCase (case : Case) : Type 0 where
   pub relations : AreRelations case.compiled.now case.relations.now
   pub blocks : AreFiner case.compiled.now.blocks (length case.alphabet.now)
       case.compiled.now.check.level case.pair.now.before case.pair.now.after case.blocks.now
+
+-- the flow, at the check's level
+abbrev pub flow_of : Case → Flow
+flow_of case = record {
+  level = case.compiled.now.check.level;
+  names = case.alphabet.now;
+  before = case.pair.now.before;
+  after = case.pair.now.after;
+}
 
 -- the paths of a graph at the check's level
 abbrev pub paths_in : Case → Topology → WordSet

@@ -1,5 +1,6 @@
 pub mod Reading
 pub mod Scenes
+pub mod FlowMachines
 pub mod Case
 pub mod Sides
 pub mod Compilation

@@ -16,13 +16,16 @@ use Rattle.rela_pairs.specs.declared.pair.Pair.{Pair}
 use Rattle.rela_report.specs.declared.rows.Row.{Row}
 use Rattle.rela_report.specs.declared.rows.Row.TheVariants.{Compliant, Violated, Undecided}
 use Rattle.rela_report.specs.declared.rows.Side.{Side}
+use Rattle.rela_report.specs.declared.rows.Side.TheVariants as side
 use Rattle.rela_rir.specs.Built.{PathStates}
 use Rattle.rela_rir.specs.Words.{ImageOf}
 use Rattle.rela_trans.specs.Images.{AreReachedFrom, IsImage}
 use Rattle.rela_trans.specs.Machine.{Machine, IsMachine}
 use Rattle.rela_trans.specs.Runs.{Relates}
+use Rattle.rela_translate.specs.Checked.{Checked}
 use Rattle.rela_engine.specs.Compilation.{Twofold}
 use Rattle.rela_engine.specs.Reading.{Recognises, RealisesFrom}
+use Rattle.rela_engine.specs.RowOf.{relation_of}
 use Rattle.rela_blocks.specs.Scenes.{arrivals_of}
 use Rattle.rela_engine.specs.declared.seen.Form.{Form}
 use Rattle.rela_engine.specs.declared.seen.Form.TheVariants as form
@@ -61,6 +64,17 @@ pub record AreSeen (blocks : List ℕ) (words : List ℕ → Type 0) (pairs : Li
   pub relation_ok : IsMachine relation
   pub image_ok : IsAutomaton image
   pub least : (w : List ℕ) → words w → AreLeastSymbols blocks w
+
+-- what is seen of the paths of both sides, through the two relations of a check
+pub record AreSides (blocks : List ℕ) (check : Checked) (locations : ℕ)
+    (pre post : List ℕ → Type 0)
+    (pre_paths : Automaton) (pre_relation : Machine) (pre_image : Automaton)
+    (post_paths : Automaton) (post_relation : Machine) (post_image : Automaton) : Type 0 where
+  pub partition : IsPartition blocks
+  pub pre_seen : AreSeen blocks pre (relation_of side.Before check locations)
+      pre_paths pre_relation pre_image
+  pub post_seen : AreSeen blocks post (relation_of side.After check locations)
+      post_paths post_relation post_image
 
 -- of the two transducers of a relation the one that is used in this form
 abbrev pub machine_of : Form → Twofold → Machine

@@ -17,6 +17,7 @@ ghost use Rattle.rela_rir.specs.NamedSymbols.{symbols_of_terms};
 ghost use Rattle.rela_blocks.specs.Readable.{AreGraphsReadable};
 ghost use Rattle.rela_blocks.specs.Scenes.{paths_of};
 
+use crate::laws::Flows;
 use crate::leaf::Leaf;
 use crate::plain_blocks::plain_blocks;
 use crate::terms::{first_term, second_term};
@@ -28,7 +29,7 @@ use rela_complement::LimitedComplements;
 use rela_labels::{Partition, WideSet};
 use rela_names::{Alphabet, Level};
 use rela_nfa::{BuildError, Nfa};
-use rela_rir::{Assertion, PathTerm, SymbolSet};
+use rela_rir::{Assertion, PathTerm, SymbolSet, complements_inside, reached_states_are_places};
 use rela_snapshot::FlowPair;
 use std::alloc::{AllocError, Global};
 
@@ -123,6 +124,7 @@ fn leaf_over(
         paths.now.alphabet.now paths.now.before.now paths.now.after.now)) assertion.now
         complements.now) }
 {
+    reached_states_are_places::<Flows>();
     let first = words_of(alloc, first_term(assertion), letters, paths, complements)?;
     let second = words_of(alloc, second_term(assertion), letters, paths, complements)?;
     let verdict = compare(alloc, assertion, &first, &second, complements.limit())?;
@@ -156,6 +158,8 @@ fn words_of(
         paths.now.before.now paths.now.after.now)) (complements.now + 1) term.now) }
 {
     letters.are_covered();
+    complements_inside::<Flows>();
+    reached_states_are_places::<Flows>();
     let builder = Builder {
         letters,
         paths,

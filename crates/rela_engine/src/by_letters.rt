@@ -13,6 +13,7 @@ ghost use Rattle.rela_engine.specs.LetterImages.{AreParents, IsFirstOffence, IsI
 use crate::block_paths::{BlockPaths, block_paths};
 use crate::case::Case;
 use crate::flow_letters::FlowLetters;
+use crate::laws::relations_tell_of_open_rows;
 use crate::letter_offence::compare;
 use crate::offence::Offence;
 use crate::relations::Twofold;
@@ -88,6 +89,7 @@ fn row_by_images<L: LabelSet>(
     requires fits { L.fits (block_count case.now.blocks.now) }
     ensures { IfOk result (λ found. ForSome found (IsRight case.now)) }
 {
+    relations_tell_of_open_rows();
     match compare_images(alloc, case, paths)? {
         Told::Met => Ok(Some(Row::Compliant)),
         Told::Open => Ok(None),
@@ -158,6 +160,7 @@ fn row_of_offence<L: LabelSet>(
         case.now.blocks.now offence.now.letters offence.now.side }
     ensures { IfOk result (IsRight case.now) }
 {
+    relations_tell_of_open_rows();
     let parents = paths.parents.as_slice();
     match offence.side {
         Side::Before => {

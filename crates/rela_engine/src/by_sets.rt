@@ -10,6 +10,9 @@ ghost use Rattle.rela_engine.specs.ToldSides.{HasSources, TellsOfSides, TellsOnS
 
 use crate::case::Case;
 use crate::compiled::Compiled;
+use crate::laws::{
+    plain_images_tell_of_open_rows, plain_relations_realise, relations_tell_of_open_rows,
+};
 use crate::offence::{Offence, first_offence};
 use crate::seen::{Form, Seen, see};
 use crate::witnesses::violated_row;
@@ -68,6 +71,9 @@ fn row_by<L: LabelSet>(alloc: Global, case: &Case<'_, '_>, form: Form) -> Result
     ensures limit { IfErr result (λ e. e ≡ BuildError.Limit → form ≡ Form.Plain →
         MayStayOpen case.now) }
 {
+    relations_tell_of_open_rows();
+    plain_relations_realise();
+    plain_images_tell_of_open_rows();
     // By what each compiled check keeps, its blocks are of its symbols.
     let _ = case.compiled.blocks();
     let before = see::<L>(

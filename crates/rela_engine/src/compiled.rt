@@ -15,11 +15,12 @@ ghost use Rattle.rela_blocks.specs.Scenes.{lettering_of, paths_of};
 ghost use Rattle.rela_engine.specs.Sides.{SamePairs, TreatsSidesAlike};
 
 use crate::differing::{Differing, compare_relations};
+use crate::laws::relations_tell_of_open_rows;
 use crate::limits::pass_stop;
 use crate::relation::relation_of;
 use crate::relations::Relations;
 use crate::sides::treats_sides_alike;
-use rela_blocks::{check_blocks, check_letters};
+use rela_blocks::{check_blocks, check_letters, named_symbols_are_alone};
 use rela_build::{Letters, Stop};
 use rela_complement::LimitedComplements;
 use rela_labels::{Partition, WideSet};
@@ -241,6 +242,7 @@ fn built(
       relations = None;
     })) }
 {
+    named_symbols_are_alone();
     // By what each check keeps, its terms name drop and its markers alone, and no location.
     let body = check.body();
     let terms = translate(alloc, check, alphabet)?;
@@ -302,6 +304,7 @@ impl<'a> Compiled<'a> {
             ¬ MustBeOpen self.now.check self.now.locations
             (paths_of self.now.check.level names before after) self.now.states }
     {
+        relations_tell_of_open_rows();
         self.relations.is_some()
     }
 

@@ -16,6 +16,7 @@ ghost use Rattle.rela_blocks.specs.Scenes.{paths_of};
 use crate::by_automata::row_by_automata;
 use crate::compiled::Compiled;
 use crate::flow_letters::FlowLetters;
+use crate::laws::relations_tell_of_open_rows;
 use rela_graph::{Graph, Node, push_locations};
 use rela_labels::Partition;
 use rela_letter_paths::LetterPaths;
@@ -56,6 +57,7 @@ pub fn decide_with_letters(
     ensures letters { AreLettersOf alphabet.now pair.now letters.new }
     ensures there { AreAt compiled.now.check.level letters.old → letters.new ≡ letters.old }
 {
+    relations_tell_of_open_rows();
     // Equal outlines don't decide a row that has to be left open.
     let Some(relations) = compiled.relations() else {
         return Ok(Row::Undecided);

@@ -14,6 +14,7 @@ mod decision;
 mod differing;
 mod finer_blocks;
 mod flow_letters;
+mod laws;
 mod leaf;
 mod letter_offence;
 mod letter_targets;

@@ -12,11 +12,12 @@ ghost use Rattle.rela_rir.specs.Meaning.{InR};
 ghost use Rattle.rela_trans.specs.Runs.{Relates};
 ghost use Rattle.rela_engine.specs.Reading.{Realises};
 
+use crate::laws::Flows;
 use crate::relations::Twofold;
 use rela_build::{Builder, Letters, NoPaths, Stop};
 use rela_complement::LimitedComplements;
 use rela_labels::{Partition, WideSet};
-use rela_rir::RelTerm;
+use rela_rir::{RelTerm, complements_inside, reached_states_are_places};
 use rela_trans::Transducer;
 use std::alloc::{AllocError, Global};
 
@@ -71,6 +72,8 @@ fn plain_relation(
         ReachedInsideR (scene_of letters.now no_paths) (limit + 1) term.now) }
 {
     letters.are_covered();
+    complements_inside::<Flows>();
+    reached_states_are_places::<Flows>();
     let builder = Builder {
         letters,
         paths: &NoPaths,

@@ -12,13 +12,17 @@ ghost use Rattle.rela_engine.specs.Spelled.{IsLeastBy};
 ghost use Rattle.rela_engine.specs.Zone.{IsZoneText, ZoneMustPassLimit, ZonePassesLimit};
 
 use crate::automaton_lines::automaton_text;
-use rela_blocks::{check_blocks, check_letters};
+use crate::laws::Flows;
+use rela_blocks::{check_blocks, check_letters, named_symbols_are_alone};
 use rela_build::{Builder, Letters, NoPaths, Stop};
 use rela_complement::{LimitedComplements, least_over};
 use rela_labels::WideSet;
 use rela_names::Alphabet;
 use rela_nfa::{BuildError, Nfa};
-use rela_rir::PathTerm;
+use rela_rir::{
+    PathTerm, complemented_parts_of_path_terms, complements_inside, reached_inside_path_terms,
+    reached_states_are_places,
+};
 use rela_subset::Dfa;
 use rela_translate::{Check, zone_term};
 use std::alloc::Global;
@@ -51,6 +55,9 @@ pub fn zone_text(
     ensures past { IfErr result (λ e. e ≡ BuildError.Limit →
         ZonePassesLimit check.now (length alphabet.now) states) }
 {
+    named_symbols_are_alone();
+    // By what each check keeps, its markers are numbered from 1 on.
+    let _ = check.body();
     let blocks = check_blocks(alloc, check, alphabet)?;
     let letters = check_letters(alloc, check, alphabet, &blocks)?;
     let zone = zone_term(alloc, check, alphabet)?;
@@ -82,6 +89,10 @@ fn least_automaton(
         ReachedInside (scene_of letters.now no_paths) (limit + 1) (Complement term.now)) }
 {
     letters.are_covered();
+    reached_inside_path_terms::<Flows>();
+    complemented_parts_of_path_terms();
+    complements_inside::<Flows>();
+    reached_states_are_places::<Flows>();
     let words = plain_automaton(alloc, term, letters, limit)?;
     let least = least_over(alloc, &words, letters.path(), limit)?;
     prove!(least.start() < least.states());
@@ -110,6 +121,8 @@ fn plain_automaton(
         ReachedInside (scene_of letters.now no_paths) (limit + 1) term.now) }
 {
     letters.are_covered();
+    complements_inside::<Flows>();
+    reached_states_are_places::<Flows>();
     let complements = LimitedComplements::new(alloc, limit);
     let builder = Builder {
         letters,

@@ -1,4 +1,4 @@
-use Rattle.std.proofs.Common.{◌∙◌, ℕ, List, subst, sym}
+use Rattle.std.proofs.Common.{◌∙◌, ℕ, List, Some, subst, sym}
 use Rattle.rela_build.specs.Lettering.{IsAlone}
 use Rattle.rela_build.specs.Made.{IsMade}
 use Rattle.rela_build.specs.Named.{Names}
@@ -6,6 +6,7 @@ use Rattle.rela_build.specs.PathSets.{scene_of}
 use Rattle.rela_rir.specs.Assertions.{MayBeLeftOpen}
 use Rattle.rela_rir.specs.declared.term.PathTerm.{PathTerm}
 use Rattle.rela_engine.specs.Compared.{TellsVerdict}
+use Rattle.rela_engine.specs.FlowMachines.{Flow, flow_paths}
 use Rattle.rela_blocks.specs.Scenes.{paths_of}
 use Rattle.rela_engine.proofs.RightLeaves.{exit, open_by_first, open_by_pairs, open_by_second, right, same_letters, stopped_by_pairs, untold, verdict_below}
 use Rattle.rela_engine.proofs.assertion.leaf_over.Goals as goal
@@ -70,11 +71,12 @@ returns-in_err-second-clause-open c =
 pub returns-in_err-verdict-clause-open : goal.returns-in_err-verdict-clause-open
 returns-in_err-verdict-clause-open c =
     let l = c.args.letters.now in
-    let flow = paths_of c.args.paths.now.level c.args.paths.now.alphabet.now c.args.paths.now.before.now c.args.paths.now.after.now in
+    let f : Flow = record { level = c.args.paths.now.level; names = c.args.paths.now.alphabet.now; before = c.args.paths.now.before.now; after = c.args.paths.now.after.now } in
+    let flow = flow_paths f in
     let a = c.in_ok-first.first in
     let b = c.in_ok-second.second in
     exit _ _ c.from_residual-in_err-verdict.result c.from_residual-in_err-verdict.ensures.1
     (λ e is. stopped_by_pairs (MayBeLeftOpen (scene_of l flow) c.args.assertion.now c.args.complements.now) _ e is
-    (λ limit. open_by_pairs l c.requires.no_markers c.requires.letters flow a b c.args.assertion.now
+    (λ limit. open_by_pairs l c.requires.no_markers c.requires.letters flow a b (c.reached_states_are_places.ensures (l, Some f)).comparison c.args.assertion.now
     (subst (λ (x : PathTerm). IsMade ⊥ l flow x a) c.first_term.ensures c.in_ok-first.ensures.made, subst (λ (y : PathTerm). IsMade ⊥ l flow y b) c.second_term.ensures c.in_ok-second.ensures.made)
     c.args.complements.now (rw c.limit.ensures.limit at (c.in_err-verdict.ensures.limit limit))))

@@ -4,6 +4,7 @@ use Rattle.rela_build.specs.Reading.{read_by}
 use Rattle.rela_report.specs.declared.rows.Side.{Side}
 use Rattle.rela_report.specs.declared.rows.Side.TheVariants as side
 use Rattle.rela_trans.specs.Runs.{Relates}
+use Rattle.rela_engine.specs.Case.{flow_of}
 use Rattle.rela_engine.specs.Compilation.{Twofold}
 use Rattle.rela_engine.specs.LetterImages.{IsFirstOffence, TellsFirst}
 use Rattle.rela_engine.specs.RowOf.{RowOf}
@@ -72,7 +73,8 @@ returns-in-Before g c =
     subst (λ (n : ℕ). RowOf k.check n flow k.states row) (sym c.requires.case.alphabet)
     (side_row k case.relations.now c.requires.case.relations blocks flow side.Before letters
     (subst (λ (s : Side). IsFirstOffence k.check k.locations flow.pre flow.post blocks letters s) c.in-Before.is c.requires.offends)
-    t (ap (λ (r : Twofold). r.small) c.before-relation.ensures) row
+    t (ap (λ (r : Twofold). r.small) c.before-relation.ensures)
+    (c.relations_tell_of_open_rows.ensures.there k c.requires.case.relations.within (flow_of case)) row
     (subst (λ (s : Side). TellsFirst blocks flow.pre (Relates (read_by k.blocks) t) letters s row) c.in-Before.is tells)))
     c.row_with_source.ensures
 
@@ -90,6 +92,7 @@ returns-in-After g c =
     subst (λ (n : ℕ). RowOf k.check n flow k.states row) (sym c.requires.case.alphabet)
     (side_row k case.relations.now c.requires.case.relations blocks flow side.After letters
     (subst (λ (s : Side). IsFirstOffence k.check k.locations flow.pre flow.post blocks letters s) c.in-After.is c.requires.offends)
-    t (ap (λ (r : Twofold). r.small) c.after-relation.ensures) row
+    t (ap (λ (r : Twofold). r.small) c.after-relation.ensures)
+    (c.relations_tell_of_open_rows.ensures.there k c.requires.case.relations.within (flow_of case)) row
     (subst (λ (s : Side). TellsFirst blocks flow.post (Relates (read_by k.blocks) t) letters s row) c.in-After.is tells)))
     c.row_with_source-in-After.ensures

@@ -8,14 +8,15 @@ use Rattle.rela_pairs.specs.declared.errors.BuildError.TheVariants as built
 use Rattle.rela_trans.specs.Runs.{Relates}
 use Rattle.rela_build.specs.Reading.{read_by}
 use Rattle.rela_translate.specs.Verdict.{Offends}
+use Rattle.rela_engine.specs.Case.{flow_of}
+use Rattle.rela_engine.specs.Compilation.{Twofold}
 use Rattle.rela_engine.specs.RowOf.{RowOf, MayBeOpen}
 use Rattle.rela_blocks.specs.Scenes.{paths_of}
-use Rattle.rela_engine.specs.Seen.{machine_of}
+use Rattle.rela_engine.specs.Seen.{ImagePasses, KeepPlaces, machine_of}
 use Rattle.rela_engine.specs.ToldSides.{TellsOfSides}
 use Rattle.rela_engine.specs.declared.seen.Form.TheVariants as form
 use Rattle.rela_engine.proofs.NodesApart.{finer_before, finer_after}
 use Rattle.rela_engine.proofs.Placed.{placed}
-use Rattle.rela_engine.proofs.PlainRows.{before_passes, after_passes, both_pass}
 use Rattle.rela_engine.proofs.Rows.{before_letters_are, after_letters_are, sides_of, right_row}
 use Rattle.rela_engine.proofs.ToldSides.{sides_told, sources_of}
 use Rattle.rela_engine.proofs.by_sets.row_by.Goals as goal
@@ -54,12 +55,14 @@ returns-in_err-before-clause-limit g c =
     let names = c.args.case.now.alphabet.now in
     let pre = c.args.case.now.pair.now.before in
     let post = c.args.case.now.pair.now.after in
+    let blocks = c.args.case.now.blocks.now in
+    let relations = c.args.case.now.relations.now in
     let p = err_from_is_err_and c.from_residual.result c.from_residual.ensures.1 in
     rw (p.1, p.2)
     (λ is plain. subst (λ (n : ℕ). MayBeOpen k.check n (paths_of k.check.level names pre post) k.states) (sym c.requires.case.alphabet)
-    (before_passes k c.args.case.now.relations.now c.requires.case.relations c.args.case.now.blocks.now c.requires.case.blocks.partition
-    (c.requires.case.blocks.refines.same_symbols ∙ c.blocks-2.ensures.together.symbols) k.check.level names pre post
-    c.before-2.result.now c.before-2.ensures (c.in_err-before.ensures.limit is plain)))
+    (c.plain_images_tell_of_open_rows.ensures.before k relations c.requires.case.relations blocks c.requires.case.blocks.partition
+    (c.requires.case.blocks.refines.same_symbols ∙ c.blocks-2.ensures.together.symbols) (flow_of c.args.case.now)
+    (subst (λ (r : Twofold). ImagePasses k.blocks blocks k.check.level names pre r.plain k.states) c.before-2.ensures (c.in_err-before.ensures.limit is plain))))
 
 pub returns-in_err-after-clause-limit : goal.returns-in_err-after-clause-limit
 returns-in_err-after-clause-limit g c =
@@ -67,12 +70,14 @@ returns-in_err-after-clause-limit g c =
     let names = c.args.case.now.alphabet.now in
     let pre = c.args.case.now.pair.now.before in
     let post = c.args.case.now.pair.now.after in
+    let blocks = c.args.case.now.blocks.now in
+    let relations = c.args.case.now.relations.now in
     let p = err_from_is_err_and c.from_residual-in_err-after.result c.from_residual-in_err-after.ensures.1 in
     rw (p.1, p.2)
     (λ is plain. subst (λ (n : ℕ). MayBeOpen k.check n (paths_of k.check.level names pre post) k.states) (sym c.requires.case.alphabet)
-    (after_passes k c.args.case.now.relations.now c.requires.case.relations c.args.case.now.blocks.now c.requires.case.blocks.partition
-    (c.requires.case.blocks.refines.same_symbols ∙ c.blocks-2.ensures.together.symbols) k.check.level names pre post
-    c.after.result.now c.after.ensures (c.in_err-after.ensures.limit is plain)))
+    (c.plain_images_tell_of_open_rows.ensures.after k relations c.requires.case.relations blocks c.requires.case.blocks.partition
+    (c.requires.case.blocks.refines.same_symbols ∙ c.blocks-2.ensures.together.symbols) (flow_of c.args.case.now)
+    (subst (λ (r : Twofold). ImagePasses k.blocks blocks k.check.level names post r.plain k.states) c.after.ensures (c.in_err-after.ensures.limit is plain))))
 
 pub row_of_sides-requires-clause-before : goal.row_of_sides-requires-clause-before
 row_of_sides-requires-clause-before g c =
@@ -97,14 +102,17 @@ returns-clause-row g c =
     let x = c.in_ok-before.before in
     let y = c.in_ok-after.after in
     let flow = paths_of k.check.level names pre post in
-    let sides = sides_of k c.args.case.now.relations.now c.requires.case.relations c.args.case.now.blocks.now c.args.form (Paths pre k.check.level names) (Paths post k.check.level names)
+    let sides = sides_of k c.args.case.now.relations.now c.requires.case.relations
+    (c.plain_relations_realise.ensures.before k c.args.case.now.relations.now c.requires.case.relations)
+    (c.plain_relations_realise.ensures.after k c.args.case.now.relations.now c.requires.case.relations)
+    c.args.case.now.blocks.now c.args.form (Paths pre k.check.level names) (Paths post k.check.level names)
     c.before-2.result.now c.after.result.now x.paths x.relation x.image y.paths y.relation y.image
     c.requires.case.blocks.partition c.before-2.ensures c.after.ensures c.in_ok-before.ensures.seen c.in_ok-after.ensures.seen in
     IfOk-weaker c.row_of_sides.result (TellsOfSides k.check.at_most c.args.case.now.blocks.now x.paths x.relation x.image y.paths y.relation y.image)
     (RowOf k.check (length names) flow k.states)
     (λ row tells.
     subst (λ (n : ℕ). RowOf k.check n flow k.states row) (sym c.requires.case.alphabet)
-    (right_row k c.args.case.now.relations.now c.requires.case.relations flow row
+    (right_row k.check k.locations flow k.states (c.relations_tell_of_open_rows.ensures.there k c.requires.case.relations.within (flow_of c.args.case.now)) row
     (sides_told c.args.case.now.blocks.now k.check k.locations flow k.states x.paths x.relation x.image y.paths y.relation y.image sides row tells)))
     c.row_of_sides.ensures.row
 
@@ -114,9 +122,14 @@ returns-clause-limit g c =
     let names = c.args.case.now.alphabet.now in
     let pre = c.args.case.now.pair.now.before in
     let post = c.args.case.now.pair.now.after in
+    let blocks = c.args.case.now.blocks.now in
+    let relations = c.args.case.now.relations.now in
     let x = c.in_ok-before.before in
     let y = c.in_ok-after.after in
-    let sides = sides_of k c.args.case.now.relations.now c.requires.case.relations c.args.case.now.blocks.now c.args.form (Paths pre k.check.level names) (Paths post k.check.level names)
+    let sides = sides_of k c.args.case.now.relations.now c.requires.case.relations
+    (c.plain_relations_realise.ensures.before k c.args.case.now.relations.now c.requires.case.relations)
+    (c.plain_relations_realise.ensures.after k c.args.case.now.relations.now c.requires.case.relations)
+    c.args.case.now.blocks.now c.args.form (Paths pre k.check.level names) (Paths post k.check.level names)
     c.before-2.result.now c.after.result.now x.paths x.relation x.image y.paths y.relation y.image
     c.requires.case.blocks.partition c.before-2.ensures c.after.ensures c.in_ok-before.ensures.seen c.in_ok-after.ensures.seen in
     IfErr-weaker c.row_of_sides.result
@@ -124,8 +137,10 @@ returns-clause-limit g c =
     (λ e. e ≡ built.Limit → c.args.form ≡ form.Plain → MayBeOpen k.check (length names) (paths_of k.check.level names pre post) k.states)
     (λ e many is plain.
     subst (λ (n : ℕ). MayBeOpen k.check n (paths_of k.check.level names pre post) k.states) (sym c.requires.case.alphabet)
-    (both_pass k c.args.case.now.relations.now c.requires.case.relations c.args.case.now.blocks.now c.requires.case.blocks.partition
-    (c.requires.case.blocks.refines.same_symbols ∙ c.blocks-2.ensures.together.symbols) k.check.level names pre post
-    x.paths x.relation x.image y.paths y.relation y.image sides c.before-2.result.now c.after.result.now c.before-2.ensures c.after.ensures
-    (c.in_ok-before.ensures.places plain) (c.in_ok-after.ensures.places plain) (many is)))
+    (c.plain_images_tell_of_open_rows.ensures.both k relations c.requires.case.relations blocks
+    (c.requires.case.blocks.refines.same_symbols ∙ c.blocks-2.ensures.together.symbols) (flow_of c.args.case.now)
+    x.paths x.relation x.image y.paths y.relation y.image sides
+    (subst (λ (r : Twofold). KeepPlaces k.blocks blocks k.check.level names pre r.plain x.paths x.relation) c.before-2.ensures (c.in_ok-before.ensures.places plain))
+    (subst (λ (r : Twofold). KeepPlaces k.blocks blocks k.check.level names post r.plain y.paths y.relation) c.after.ensures (c.in_ok-after.ensures.places plain))
+    (many is)))
     c.row_of_sides.ensures.limit

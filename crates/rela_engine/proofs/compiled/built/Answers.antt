@@ -12,12 +12,14 @@ use Rattle.rela_engine.proofs.compiled.built.Goals as goal
 
 pub relation_of-requires-clause-alone : goal.relation_of-requires-clause-alone
 relation_of-requires-clause-alone c =
-    before_alone c.args.check.now (length c.args.alphabet.now) c.args.letters.now.blocks c.requires.blocks c.body-body.ensures.check
+    before_alone c.args.check.now (length c.args.alphabet.now) c.args.letters.now.blocks c.requires.blocks
+    (c.named_symbols_are_alone.ensures.before c.args.letters.now.blocks (length c.args.alphabet.now) c.args.check.now.body) c.body-body.ensures.check
     c.in_ok-terms.terms.before c.in_ok-terms.ensures.before_term
 
 pub relation_of-requires-2-clause-alone : goal.relation_of-requires-2-clause-alone
 relation_of-requires-2-clause-alone c =
-    after_alone c.args.check.now (length c.args.alphabet.now) c.args.letters.now.blocks c.requires.blocks c.body-body.ensures.check
+    after_alone c.args.check.now (length c.args.alphabet.now) c.args.letters.now.blocks c.requires.blocks
+    (c.named_symbols_are_alone.ensures.after c.args.letters.now.blocks (length c.args.alphabet.now) c.args.check.now.body) c.body-body.ensures.check
     c.in_ok-terms.terms.after c.in_ok-terms.ensures.after_term
 
 pub returns-then-treats_sides_alike-clause-made : goal.returns-then-treats_sides_alike-clause-made

@@ -1,4 +1,4 @@
-use Rattle.std.proofs.Common.{◌∙◌, sym}
+use Rattle.std.proofs.Common.{◌∙◌, length, sym}
 use Rattle.rela_engine.proofs.ComplementedParts.{exit}
 use Rattle.rela_engine.proofs.ZoneAutomata.{enough, own_over, zone_letters, zone_passes, zone_text_is, zone_within}
 use Rattle.rela_engine.proofs.zone.zone_text.Goals as goal
@@ -6,7 +6,8 @@ use Rattle.rela_engine.proofs.zone.zone_text.Goals as goal
 pub least_automaton-requires-clause-alone : goal.least_automaton-requires-clause-alone
 least_automaton-requires-clause-alone c =
     zone_letters c.args.check.now c.args.alphabet.now c.in_ok-blocks.blocks c.in_ok-blocks.ensures.together c.in_ok-letters.letters c.in_ok-letters.ensures
-    c.in_ok-zone.zone c.in_ok-zone.ensures.term
+    c.in_ok-zone.zone c.in_ok-zone.ensures.term (c.named_symbols_are_alone.ensures.zone c.in_ok-blocks.blocks (length c.args.alphabet.now) c.args.check.now.body)
+    c.body.ensures.check
 
 pub automaton_text-requires-clause-over : goal.automaton_text-requires-clause-over
 automaton_text-requires-clause-over c =

@@ -1,6 +1,4 @@
-use Rattle.rela_blocks.specs.Scenes.{paths_of}
 use Rattle.rela_engine.proofs.Compilations.{passes_where, within_where}
-use Rattle.rela_engine.proofs.OpenRows.{not_forced}
 use Rattle.rela_engine.proofs.compiled.Compiled.complete.Goals as goal
 
 pub returns-clause-past : goal.returns-clause-past
@@ -11,5 +9,6 @@ returns-clause-within c some = within_where _ c.args.self.now c.self.view_is c.s
 
 pub returns-clause-unforced : goal.returns-clause-unforced
 returns-clause-unforced c some names before after =
-    not_forced c.args.self.now (paths_of c.args.self.now.check.level names before after)
+    c.relations_tell_of_open_rows.ensures.there c.args.self.now
     (within_where _ c.args.self.now c.self.view_is c.self.invariant.0 c.is_some.result c.is_some.ensures some)
+    (record { level = c.args.self.now.check.level; names = names; before = before; after = after })
