@@ -1,11 +1,11 @@
 -- Rows whose check has one relation, and whose paths are the same before and after the change.
-use Rattle.std.proofs.Common.{◌≡◌, ℕ, ◌<◌, ◌↔◌, Bool, true, false, List, [], ◌∷◌, ◌++◌, refl, sym, subst}
+use Rattle.std.proofs.Common.{◌≡◌, ℕ, ◌<◌, ◌↔◌, Bool, true, false, List, [], ◌∷◌, ◌++◌, sym, subst}
 use Rattle.std.proofs.lemmas.List.Elements.{All-cons, All-head, All-nil}
 use Rattle.rela_blocks.specs.RowBlocks.{symbols_of}
 use Rattle.rela_blocks.specs.Scenes.{after_image, before_image, lettering_of, scene}
 use Rattle.rela_build.specs.Lettering.{AreLetterBlocks}
 use Rattle.rela_build.specs.Made.{IsMade}
-use Rattle.rela_build.specs.PathSets.{Paths}
+use Rattle.rela_build.specs.PathSets.{Paths, no_paths}
 use Rattle.rela_build.specs.Reading.{HoldsJust}
 use Rattle.rela_closed.specs.Closed.{IsClosed}
 use Rattle.rela_nfa.specs.Automaton.{Automaton}
@@ -15,26 +15,25 @@ use Rattle.rela_rir.specs.Words.{WordSet}
 use Rattle.rela_rir.specs.declared.term.PathTerm.{PathTerm}
 use Rattle.rela_rir.specs.declared.term.RelTerm.{RelTerm}
 use Rattle.rela_translate.specs.Checked.{Checked}
-use Rattle.rela_translate.specs.Settings.{bare}
 use Rattle.rela_translate.specs.Terms.{after_of, before_of}
 use Rattle.rela_translate.specs.Verdict.{AfterImage, AreMet, BeforeImage, Meets}
 use Rattle.rela_translate.specs.Zones.{After, Before}
-use Rattle.rela_translate.proofs.Meanings.{after_in, before_in}
 use Rattle.rela_cert.specs.Closed.{Closed}
 use Rattle.rela_cert.specs.Letters.{letter_words}
 use Rattle.rela_cert.specs.Rows.{AreImagesClosed, IsImageClosed}
 use Rattle.rela_cert.proofs.ByStates.{closed_back, closed_one}
+use Rattle.rela_cert.proofs.TermsMean.{RelationsMean}
 
 -- ---- their check is met
 
-module _ (check : Checked) (n : ℕ) (one : before_of n check.body ≡ after_of n check.body) where
+module _ (check : Checked) (n : ℕ) (means : RelationsMean check n) (one : before_of n check.body ≡ after_of n check.body) where
   abbrev m : Setting
-  m = bare check.classes n
+  m = (scene check n no_paths).setting
 
   same_pairs : (u v : List ℕ) → Before check.classes n check.body u v ↔ After check.classes n check.body u v
   same_pairs u v =
-      let first = before_in m n check.body refl u v in
-      let second = after_in m n check.body refl u v in (
+      let first = means.before u v in
+      let second = means.after u v in (
         λ is. second.0 (subst (λ (r : RelTerm). InR m r u v) one (first.1 is)),
         λ is. first.0 (subst (λ (r : RelTerm). InR m r u v) (sym one) (second.1 is)),
       )

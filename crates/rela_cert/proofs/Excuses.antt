@@ -21,18 +21,20 @@ use Rattle.rela_names.specs.Shortlex.{IsBefore}
 use Rattle.rela_nfa.specs.Automaton.{Automaton}
 use Rattle.rela_nfa.specs.Runs.{Accepts}
 use Rattle.rela_rir.specs.Complements.{complemented_parts}
-use Rattle.rela_rir.specs.Limit.{IsCheckWord, ReachedInside, ReachedPair}
+use Rattle.rela_rir.specs.Limit.{IsCheckWord, Reached, ReachedInside, ReachedPair}
 use Rattle.rela_rir.specs.Meaning.{IsPathWord}
 use Rattle.rela_rir.specs.Places.{Scene}
+use Rattle.rela_rir.specs.ReachedTerms.{ReachedTerms}
 use Rattle.rela_rir.specs.Tables.{IsPlaced, ManyWords, ToldByState}
-use Rattle.rela_rir.proofs.InsideForms.{reached_by_parts}
-use Rattle.rela_rir.proofs.ReachedPlaces as reached
 use Rattle.rela_rir.specs.declared.term.PathTerm.{PathTerm}
+use Rattle.rela_rir.specs.declared.term.PathTerm.TheVariants as P
 use Rattle.rela_translate.specs.Checked.{Checked}
 use Rattle.rela_translate.specs.Verdict.{Offends}
 use Rattle.rela_cert.specs.Certified.{IsExcused}
+use Rattle.rela_cert.specs.RowNames.{RowName, paths_named, row_machines}
 use Rattle.rela_cert.proofs.ByStates.{symbol_for}
 use Rattle.rela_cert.proofs.RowWords.{offends_by}
+use Rattle.rela_cert.proofs.TermsMean.{ImagesMean}
 
 mapped_pairs : {X Y : Type 0} (R : Y → Y → Type 0) (f : X → Y) (xs : List X) → AllPairs R (map f xs) → AllPairs (λ x y. R (f x) (f y)) xs
 mapped_pairs R f xs pairs i j d before inside =
@@ -42,7 +44,17 @@ mapped_pairs R f xs pairs i j d before inside =
     (subst (λ y. R (get_or (map f xs) i (f d)) y) second
     (pairs i j (f d) before (omega (arith, inside, length-map xs f))))
 
-module _ (l : Lettering) (are : AreLetterBlocks l) (paths : Paths) where
+-- a complement in the term with so many reached places is one that is inside it
+abbrev pub ComplementsInside : Scene → Type 0
+ComplementsInside m = (k : ℕ) (x part : PathTerm) → Contains (complemented_parts x) part → Reached m (P.Complement part) k → ReachedInside m k x
+
+module _ (at : RowName) (reached : ReachedTerms row_machines at) (blocks : List ℕ) (are : AreLetterBlocks (lettering_of at.check at.locations blocks)) where
+  abbrev l : Lettering
+  l = lettering_of at.check at.locations blocks
+
+  abbrev paths : Paths
+  paths = paths_named at.flow
+
   abbrev m : Scene
   m = scene_of l paths
 
@@ -113,24 +125,24 @@ module _ (l : Lettering) (are : AreLetterBlocks l) (paths : Paths) where
   abbrev pub Refuses : ℕ → ℕ → Automaton → List Bool → Type 0
   Refuses k number a over = ReachSets over (a ∷ []) k
 
-  refused_inside : (x y : PathTerm) (first k number : ℕ) → IsRefused (Refuses k) (Unit {0}) l paths first (complemented_parts x ++ complemented_parts y) number
+  refused_inside : ComplementsInside m → (x y : PathTerm) (first k number : ℕ) → IsRefused (Refuses k) (Unit {0}) l paths first (complemented_parts x ++ complemented_parts y) number
       → ReachedInside m k x ⊎ ReachedInside m k y
-  refused_inside x y first k number refused =
-      let reached = reached.complement m refused.part (Leads l.blocks refused.automaton) (placed (Unit {0}) refused.part refused.automaton refused.is.made) k
+  refused_inside inside x y first k number refused =
+      let many = reached.complement refused.part (blocks, refused.automaton) (placed (Unit {0}) refused.part refused.automaton refused.is.made) k
       (many_words l.path_symbols refused.over refused.is.of_path (refused.automaton ∷ []) (ToldByState (Leads l.blocks refused.automaton)) (told_one refused.automaton)
       (IsPathWord l.path_symbols) (λ w path. path) k refused.refused) in
       elim (Contains-append_cases (complemented_parts x) (complemented_parts y) refused.part
       (has_part (complemented_parts x ++ complemented_parts y) refused.before refused.later refused.part refused.whole)) [
-        | inl one ↦ inl (reached_by_parts m k x refused.part one reached)
-        | inr two ↦ inr (reached_by_parts m k y refused.part two reached)
+        | inl one ↦ inl (inside k x refused.part one many)
+        | inr two ↦ inr (inside k y refused.part two many)
       ]
 
-  pub stopped_inside : (x y : PathTerm) (limit first : ℕ) (e : Stop) → StoppedTwo (Refuses (limit + 1)) (Unit {0}) l paths limit first x y e → ¬ (e ≡ Memory)
+  pub stopped_inside : ComplementsInside m → (x y : PathTerm) (limit first : ℕ) (e : Stop) → StoppedTwo (Refuses (limit + 1)) (Unit {0}) l paths limit first x y e → ¬ (e ≡ Memory)
       → ReachedInside m (limit + 1) x ⊎ ReachedInside m (limit + 1) y
   unfolding StoppedTwo
-  stopped_inside x y limit first Limit stopped other = stopped
-  stopped_inside x y limit first (Refused number) stopped other = refused_inside x y first (limit + 1) number stopped
-  stopped_inside x y limit first Memory stopped other = absurd (other refl)
+  stopped_inside inside x y limit first Limit stopped other = stopped
+  stopped_inside inside x y limit first (Refused number) stopped other = refused_inside inside x y first (limit + 1) number stopped
+  stopped_inside inside x y limit first Memory stopped other = absurd (other refl)
 
   -- ---- too many words of the images
 
@@ -138,35 +150,37 @@ module _ (l : Lettering) (are : AreLetterBlocks l) (paths : Paths) where
       → IsMade (Unit {0}) l paths x a → IsMade (Unit {0}) l paths y b → (k : ℕ) → ReachSets over (a ∷ b ∷ []) k → ReachedPair m None x y k
   many_pairs n is over holds x y a b one two k sets =
       let none : Option (List ℕ) = None in
-      reached.comparison m none x y (Leads l.blocks a) (Leads l.blocks b) (placed (Unit {0}) x a one) (placed (Unit {0}) y b two) k
+      reached.comparison none x y (blocks, a) (blocks, b) (placed (Unit {0}) x a one) (placed (Unit {0}) y b two) k
       (many_words n over holds (a ∷ b ∷ []) (λ v w. ToldByState (Leads l.blocks a) v w ⊎ ToldByState (Leads l.blocks b) v w) (told_two a b)
       (λ w. IsCheckWord m w × ForSome none (λ end. ¬ IsBefore end w))
       (λ w path. (subst (λ (c : ℕ). IsPathWord c w) is path, λ end same. let e : none ≡ Some end = same in absurd cc)) k sets)
 
 -- ---- a row
 
-module _ (check : Checked) (n : ℕ) (paths : Paths) (blocks : List ℕ) (are : AreLetterBlocks (lettering_of check n blocks)) (limit : ℕ) where
-  pub stopped_excused : (first : ℕ) (e : Stop)
-      → StoppedTwo (λ number a over. ReachSets over (a ∷ []) (limit + 1)) (Unit {0}) (lettering_of check n blocks) paths limit first (before_image check n) (after_image check n) e
-      → ¬ (e ≡ Memory) → IsExcused n limit check paths
-  stopped_excused first e stopped other =
-      inr (elim (stopped_inside (lettering_of check n blocks) are paths (before_image check n) (after_image check n) limit first e stopped other) [
+module _ (at : RowName) (reached : ReachedTerms row_machines at) (blocks : List ℕ) (are : AreLetterBlocks (lettering_of at.check at.locations blocks)) (limit : ℕ) where
+  pub stopped_excused : ComplementsInside (m at reached blocks are) → (first : ℕ) (e : Stop)
+      → StoppedTwo (λ number a over. ReachSets over (a ∷ []) (limit + 1)) (Unit {0}) (lettering_of at.check at.locations blocks) (paths_named at.flow) limit first
+      (before_image at.check at.locations) (after_image at.check at.locations) e
+      → ¬ (e ≡ Memory) → IsExcused at.locations limit at.check (paths_named at.flow)
+  stopped_excused inside first e stopped other =
+      inr (elim (stopped_inside at reached blocks are inside (before_image at.check at.locations) (after_image at.check at.locations) limit first e stopped other) [
         | inl before ↦ inl before
         | inr after ↦ inr (inl after)
       ])
 
-  module _ (a b : Automaton) (before : IsMade (Unit {0}) (lettering_of check n blocks) paths (before_image check n) a)
-      (after : IsMade (Unit {0}) (lettering_of check n blocks) paths (after_image check n) b)
-      (over : List Bool) (holds : HoldsJust blocks (λ s. s < symbols_of check n) over) where
-    pub many_excused : ReachSets over (a ∷ b ∷ []) (limit + 1) → IsExcused n limit check paths
+  module _ (a b : Automaton) (before : IsMade (Unit {0}) (lettering_of at.check at.locations blocks) (paths_named at.flow) (before_image at.check at.locations) a)
+      (after : IsMade (Unit {0}) (lettering_of at.check at.locations blocks) (paths_named at.flow) (after_image at.check at.locations) b)
+      (over : List Bool) (holds : HoldsJust blocks (λ s. s < symbols_of at.check at.locations) over) where
+    pub many_excused : ReachSets over (a ∷ b ∷ []) (limit + 1) → IsExcused at.locations limit at.check (paths_named at.flow)
     many_excused sets =
-        inr (inr (inr (many_pairs (lettering_of check n blocks) are paths (symbols_of check n) refl over holds (before_image check n) (after_image check n) a b before after (limit + 1) sets)))
+        inr (inr (inr (many_pairs at reached blocks are (symbols_of at.check at.locations) refl over holds (before_image at.check at.locations) (after_image at.check at.locations) a b before after (limit + 1) sets)))
 
-    pub offence_excused : (word : List ℕ) → IsOver over word → Offends check.at_most (Accepts a) (Accepts b) word → IsExcused n limit check paths
-    offence_excused word read offends =
-        let found = word_for (lettering_of check n blocks) are paths (symbols_of check n) over holds word read in
+    pub offence_excused : ImagesMean at.check at.locations (paths_named at.flow) → (word : List ℕ) → IsOver over word → Offends at.check.at_most (Accepts a) (Accepts b) word
+        → IsExcused at.locations limit at.check (paths_named at.flow)
+    offence_excused means word read offends =
+        let found = word_for at reached blocks are (symbols_of at.check at.locations) over holds word read in
         inl (
           found.0,
-          offends_by (Unit {0}) check n paths blocks a b before after check.at_most found.0
-              (subst (Offends check.at_most (Accepts a) (Accepts b)) (sym found.2) offends),
+          offends_by (Unit {0}) at.check at.locations (paths_named at.flow) means blocks a b before after at.check.at_most found.0
+              (subst (Offends at.check.at_most (Accepts a) (Accepts b)) (sym found.2) offends),
         )

@@ -1,15 +1,16 @@
 pub mod Options
 pub mod MappedWords
 pub mod ByStates
+pub mod TermsMean
 pub mod RowWords
 pub mod FlagWords
-pub mod ImageNames
 pub mod RowJudged
 pub mod LetterLaws
 pub mod SameOutlines
 pub mod Refinements
-pub mod FixedTerms
-pub mod FixedParts
+pub mod ComplementCounts
+pub mod NotesOfTwo
+pub mod NoPaths
 pub mod RefinedRelations
 pub mod RelationStops
 pub mod AlikeTerms
@@ -18,7 +19,6 @@ pub mod Halves
 pub mod OneShape
 pub mod FirstPlaces
 pub mod KeptRelations
-pub mod ComplementCounts
 pub mod ListedRows
 pub mod Listings
 pub mod AuditedRows

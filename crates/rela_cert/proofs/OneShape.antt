@@ -1,5 +1,5 @@
 -- A check is met alike by flows of one shape.
-use Rattle.std.proofs.Common.{◌≡◌, ◌∙◌, ℕ, ◌<◌, ◌≤◌, ◌↔◌, cond, Bool, true, false, List, length, inl, inr, refl, sym, subst, ⊎_elim, arith}
+use Rattle.std.proofs.Common.{◌≡◌, ◌∙◌, ℕ, ◌<◌, ◌≤◌, ◌↔◌, cond, Bool, true, false, List, length, inl, inr, sym, subst, ⊎_elim, arith}
 use Rattle.std.specs.Cmp.Lexicographic.{pointwise}
 use Rattle.std.specs.HashSet.{HashSet, contains, hash_set_len}
 use Rattle.std.specs.List.{All}
@@ -29,10 +29,10 @@ use Rattle.rela_translate.specs.Checked.{Checked}
 use Rattle.rela_translate.specs.Terms.{after_of, before_of}
 use Rattle.rela_translate.specs.Verdict.{AreMet}
 use Rattle.rela_translate.specs.Zones.{After, Before}
-use Rattle.rela_translate.proofs.Meanings.{after_in, before_in}
 use Rattle.rela_cert.specs.RowForms.{AreMetForms, IsMetShape, same_form, same_renamed}
 use Rattle.rela_cert.specs.Sharing.{IsMetBy}
 use Rattle.rela_cert.specs.declared.row_forms.RowForm.{RowForm}
+use Rattle.rela_cert.proofs.TermsMean.{RelationsMean}
 
 -- ---- images under relations with the same pairs
 
@@ -67,18 +67,14 @@ unfolding IsMadeR
 made_pairs E check n blocks r pairs t means made u v =
     (λ related. (means u v).0 ((made.relation u v).0 related), λ pair. (made.relation u v).1 ((means u v).1 pair))
 
-module _ (E : Type 0) (check : Checked) (n : ℕ) (blocks : List ℕ) (t : Machine) where
+module _ (E : Type 0) (check : Checked) (n : ℕ) (means : RelationsMean check n) (blocks : List ℕ) (t : Machine) where
   before_pairs : IsMadeR E (lettering_of check n blocks) no_paths (before_of n check.body) t
       → HaveSamePairs (Relates (read_by blocks) t) (Before check.classes n check.body)
-  before_pairs =
-      made_pairs E check n blocks (before_of n check.body) (Before check.classes n check.body) t
-      (before_in (scene_of (lettering_of check n blocks) no_paths).setting n check.body refl)
+  before_pairs = made_pairs E check n blocks (before_of n check.body) (Before check.classes n check.body) t means.before
 
   after_pairs : IsMadeR E (lettering_of check n blocks) no_paths (after_of n check.body) t
       → HaveSamePairs (Relates (read_by blocks) t) (After check.classes n check.body)
-  after_pairs =
-      made_pairs E check n blocks (after_of n check.body) (After check.classes n check.body) t
-      (after_in (scene_of (lettering_of check n blocks) no_paths).setting n check.body refl)
+  after_pairs = made_pairs E check n blocks (after_of n check.body) (After check.classes n check.body) t means.after
 
 -- ---- what the laws of shapes say
 
@@ -100,19 +96,19 @@ RenamedMeetAlike =
 
 -- A check with these relations is met by each flow of a shape that is known.
 pub met_too : (E : Type 0) (check : Checked) (names : List (List ℕ)) (blocks : List ℕ) (before after : Machine) (pair : FlowPair) (shape : Shape)
-    → AreCheckBlocks check (length names) blocks → IsMadeR E (lettering_of check (length names) blocks) no_paths (before_of (length names) check.body) before
+    → RelationsMean check (length names) → AreCheckBlocks check (length names) blocks → IsMadeR E (lettering_of check (length names) blocks) no_paths (before_of (length names) check.body) before
     → IsMadeR E (lettering_of check (length names) blocks) no_paths (after_of (length names) check.body) after → ShapesRename → RenamedMeetAlike
     → IsPairLocated names check.level pair → IsShape blocks check.level pair shape → IsMetShape names check blocks shape
     → IsMetBy (length names) check (paths_of check.level names pair.before pair.after)
-met_too E check names blocks before after pair shape are first second renames alike located shaped known =
+met_too E check names blocks before after pair shape means are first second renames alike located shaped known =
     let n = length names in
     let level = check.level in
     let B : Relation = Before check.classes n check.body in
     let A : Relation = After check.classes n check.body in
     let R : Relation = Relates (read_by blocks) before in
     let S : Relation = Relates (read_by blocks) after in
-    let one : HaveSamePairs R B = before_pairs E check n blocks before first in
-    let two : HaveSamePairs S A = after_pairs E check n blocks after second in
+    let one : HaveSamePairs R B = before_pairs E check n means blocks before first in
+    let two : HaveSamePairs S A = after_pairs E check n means blocks after second in
     let symbols = are.letters.symbols in
     let few : path_symbols names ≤ length blocks = omega (arith, symbols) in
     let renamed : AreRenamed blocks level known.pair pair = renames blocks level known.pair pair known.own shape known.shaped shaped known.same in

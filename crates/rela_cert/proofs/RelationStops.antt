@@ -1,41 +1,35 @@
 -- Why the relations of a check aren't made.
-use Rattle.std.proofs.Common.{◌≡◌, ◌∙◌, ℕ, ◌+◌, Bool, List, [], ◌∷◌, ◌++◌, length, get_or, inl, inr, refl, sym, ap, subst, arith}
+use Rattle.std.proofs.Common.{◌≡◌, ◌∙◌, ℕ, ◌+◌, Bool, List, [], ◌∷◌, ◌++◌, length, get_or, inl, inr, refl, sym, subst, arith}
 use Rattle.std.specs.List.{Contains, slice_get}
 use Rattle.std.specs.Prelude.{Some}
-use Rattle.std.proofs.lemmas.List.Elements.{All-cons, All-head, All-nil, Contains-append_cases, Contains-append_left, Contains-append_right, Contains-push}
-use Rattle.rela_blocks.specs.Scenes.{after_image, lettering_of, scene}
+use Rattle.std.proofs.lemmas.List.Elements.{All-cons, All-head, All-nil, Contains-append_left, Contains-append_right, Contains-push}
+use Rattle.rela_blocks.specs.Scenes.{after_image, before_image, lettering_of, scene}
 use Rattle.rela_build.specs.Lettering.{Lettering, AreLetterBlocks, IsAlone}
 use Rattle.rela_build.specs.Made.{IsMadeR}
 use Rattle.rela_build.specs.Named.{NamesR}
 use Rattle.rela_build.specs.Notes.{IsRefused, StoppedTwoR}
-use Rattle.rela_build.specs.PathSets.{Paths, no_paths}
+use Rattle.rela_build.specs.PathSets.{no_paths}
 use Rattle.rela_build.specs.declared.stop.Stop.{Stop}
 use Rattle.rela_build.specs.declared.stop.Stop.TheVariants.{Limit, Refused}
 use Rattle.rela_certfile.specs.Listed.{words_of}
 use Rattle.rela_certfile.specs.declared.rows.Step.{Step}
 use Rattle.rela_closed.specs.Closed.{IsClosed}
 use Rattle.rela_nfa.specs.Automaton.{Automaton}
-use Rattle.rela_rir.specs.Complements.{complemented_parts, complemented_parts_r}
-use Rattle.rela_rir.specs.Fixed.{IsFixed}
+use Rattle.rela_rir.specs.Complements.{complemented_parts_r}
 use Rattle.rela_rir.specs.Limit.{ReachedInside, ReachedInsideR}
-use Rattle.rela_rir.specs.Places.{Agree, At, Scene}
+use Rattle.rela_rir.specs.Places.{Agree, At}
 use Rattle.rela_rir.specs.declared.term.PathTerm.{PathTerm}
 use Rattle.rela_rir.specs.declared.term.RelTerm.{RelTerm}
-use Rattle.rela_rir.specs.declared.term.PathTerm.TheOpen as F
-use Rattle.rela_rir.specs.declared.term.PathTerm.TheVariants as P
-use Rattle.rela_rir.proofs.ComplementForms.{parts_roll}
-use Rattle.rela_rir.proofs.InsideForms as inside
 use Rattle.rela_trans.specs.Machine.{Machine}
 use Rattle.rela_translate.specs.Checked.{Checked}
 use Rattle.rela_translate.specs.Terms.{after_of, before_of}
 use Rattle.rela_translate.specs.Zones.{path_symbols}
 use Rattle.rela_cert.specs.Closed.{Closed}
 use Rattle.rela_cert.specs.Letters.{letter_words}
+use Rattle.rela_cert.specs.RowNames.{RowName, paths_named, row_scenes}
 use Rattle.rela_cert.specs.Rows.{IsOpenAt, MayPass, parts_of}
 use Rattle.rela_cert.proofs.ByStates.{closed_one}
-use Rattle.rela_cert.proofs.FixedParts.{part_fixed}
-use Rattle.rela_cert.proofs.FixedTerms.{after_fixed, before_fixed}
-use Rattle.rela_cert.proofs.RefinedRelations.{agree_bare, reached_for_flow}
+use Rattle.rela_cert.proofs.ComplementCounts.{parts_are}
 
 -- why a complement is refused, by the listed blocks, whose symbols are read by a partition
 abbrev pub RefusesBy : List ℕ → List (List Step) → ℕ → Automaton → List Bool → Type 0
@@ -45,90 +39,75 @@ at_place : (before : List PathTerm) (part : PathTerm) (later : List PathTerm) �
 at_place [] part later = refl
 at_place (x ∷ before) part later = at_place before part later
 
--- ---- images by their relations
+-- ---- what the laws of terms say of the check's relations, for the paths of a flow
 
-module _ (m : Scene) (k : ℕ) (r : RelTerm) where
-  pub before_inside : ReachedInsideR m k r → ReachedInside m k (P.Image P.Pre r)
-  before_inside reached = (inside.counted m k (F.Image P.Pre r) _ (P.rolls-Image P.Pre r) tt).1 (inr (inr reached))
+-- a relation that passes a limit where there are no paths has an image that does
+abbrev pub PassesOn : RowName → PathTerm → RelTerm → Type 0
+PassesOn at x r = (k : ℕ) → ReachedInsideR (scene at.check at.locations no_paths) k r → ReachedInside (row_scenes.of at) k x
 
-  pub after_inside : ReachedInsideR m k r → ReachedInside m k (P.Image P.Post r)
-  after_inside reached = (inside.counted m k (F.Image P.Post r) _ (P.rolls-Image P.Post r) tt).1 (inr (inr reached))
-
-before_parts : (r : RelTerm) → complemented_parts (P.Image P.Pre r) ≡ complemented_parts_r r
-before_parts r =
-    ap complemented_parts (sym (P.rolls-Image P.Pre r)) ∙ parts_roll (F.Image P.Pre r)
-    ∙ ap (λ (ps : List PathTerm). ps ++ complemented_parts_r r) (ap complemented_parts (sym P.rolls-Pre) ∙ parts_roll F.Pre)
-
-after_parts : (r : RelTerm) → complemented_parts (P.Image P.Post r) ≡ complemented_parts_r r
-after_parts r =
-    ap complemented_parts (sym (P.rolls-Image P.Post r)) ∙ parts_roll (F.Image P.Post r)
-    ∙ ap (λ (ps : List PathTerm). ps ++ complemented_parts_r r) (ap complemented_parts (sym P.rolls-Post) ∙ parts_roll F.Post)
-
--- the parts of the two images are those of the two relations
-pub parts_are : (check : Checked) (n : ℕ) → parts_of check n ≡ complemented_parts_r (before_of n check.body) ++ complemented_parts_r (after_of n check.body)
-parts_are check n =
-    ap (λ (ps : List PathTerm). ps ++ complemented_parts (after_image check n)) (before_parts (before_of n check.body))
-    ∙ ap (λ (ps : List PathTerm). complemented_parts_r (before_of n check.body) ++ ps) (after_parts (after_of n check.body))
+-- words that a complemented part tells apart where there are no paths it tells apart
+abbrev pub PartsAgree : RowName → Type 0
+PartsAgree at =
+    (part : PathTerm) → Contains (parts_of at.check at.locations) part → (v w : List ℕ) → Agree (At (row_scenes.of at) part) v w
+    → Agree (At (scene at.check at.locations no_paths) part) v w
 
 -- ---- stops
 
-module _ (E : Type 0) (check : Checked) (n : ℕ) (paths : Paths) (blocks : List ℕ) (are : AreLetterBlocks (lettering_of check n blocks))
-    (limit : ℕ) (complements : List (List Step)) where
+module _ (E : Type 0) (at : RowName) (blocks : List ℕ) (are : AreLetterBlocks (lettering_of at.check at.locations blocks)) (limit : ℕ) (complements : List (List Step)) where
+  abbrev n : ℕ
+  n = at.locations
+
   abbrev l : Lettering
-  l = lettering_of check n blocks
+  l = lettering_of at.check n blocks
 
   abbrev b : RelTerm
-  b = before_of n check.body
+  b = before_of n at.check.body
 
   abbrev a : RelTerm
-  a = after_of n check.body
+  a = after_of n at.check.body
 
   abbrev Stops : Stop → Type 0
   Stops e = StoppedTwoR (RefusesBy blocks complements) E l no_paths limit 0 b a e
 
-  pub too_large : (e : Stop) → Stops e → e ≡ Limit → MayPass check n paths limit
+  pub too_large : PassesOn at (before_image at.check n) b → PassesOn at (after_image at.check n) a → (e : Stop) → Stops e → e ≡ Limit
+      → MayPass at.check n (paths_named at.flow) limit
   unfolding StoppedTwoR
-  too_large e stops is last = elim (subst Stops is stops) [
-    | inl before ↦ inl (before_inside (scene check n paths) (limit + 1) b (reached_for_flow check n paths (limit + 1) b (before_fixed n check.body) before))
-    | inr after ↦ inr (inl (after_inside (scene check n paths) (limit + 1) a (reached_for_flow check n paths (limit + 1) a (after_fixed n check.body) after)))
+  too_large before_passes after_passes e stops is last = elim (subst Stops is stops) [
+    | inl before ↦ inl (before_passes (limit + 1) before)
+    | inr after ↦ inr (inl (after_passes (limit + 1) after))
   ]
 
-  fixed_among : (part : PathTerm) → Contains (complemented_parts_r b ++ complemented_parts_r a) part → IsFixed part
-  fixed_among part listed = elim (Contains-append_cases (complemented_parts_r b) (complemented_parts_r a) part listed) [
-    | inl of_before ↦ part_fixed part b (before_fixed n check.body) of_before
-    | inr of_after ↦ part_fixed part a (after_fixed n check.body) of_after
-  ]
+  module _ (agree : PartsAgree at) where
+    -- words that are closed for the part are so where there are no paths
+    closed_bare : (part : PathTerm) → Contains (parts_of at.check n) part → (words : List (List ℕ)) → Closed (row_scenes.of at) (path_symbols n) (part ∷ []) words
+        → Closed (scene at.check n no_paths) (path_symbols n) (part ∷ []) words
+    closed_bare part is words closed word s listed below =
+        let found = closed word s listed below in (
+          found.0,
+          found.1,
+          All-cons (λ y. Agree (At (scene at.check n no_paths) y) found.0 (word ++ s ∷ [])) part []
+              (agree part is found.0 (word ++ s ∷ []) (All-head (λ y. Agree (At (row_scenes.of at) y) found.0 (word ++ s ∷ [])) part [] found.2))
+              (All-nil (λ y. Agree (At (scene at.check n no_paths) y) found.0 (word ++ s ∷ []))),
+        )
 
-  -- words that are closed for the part are so where there are no paths
-  closed_bare : (part : PathTerm) → IsFixed part → (words : List (List ℕ)) → Closed (scene check n paths) (path_symbols n) (part ∷ []) words
-      → Closed (scene check n no_paths) (path_symbols n) (part ∷ []) words
-  closed_bare part fixed words closed word s listed below =
-      let found = closed word s listed below in (
-        found.0,
-        found.1,
-        All-cons (λ y. Agree (At (scene check n no_paths) y) found.0 (word ++ s ∷ [])) part []
-            (agree_bare check n paths part fixed found.0 (word ++ s ∷ [])
-            (All-head (λ y. Agree (At (scene check n paths) y) found.0 (word ++ s ∷ [])) part [] found.2))
-            (All-nil (λ y. Agree (At (scene check n no_paths) y) found.0 (word ++ s ∷ []))),
-      )
+    refused_at : (number : ℕ) → IsRefused (RefusesBy blocks complements) E l no_paths 0 (complemented_parts_r b ++ complemented_parts_r a) number
+        → IsOpenAt at.check n (paths_named at.flow) complements number
+    refused_at number is =
+        let words = words_of (get_or complements number []) in
+        let whole : parts_of at.check n ≡ is.before ++ is.part ∷ is.later = parts_are at.check n ∙ is.whole in
+        let listed : Contains (parts_of at.check n) is.part =
+        subst (λ (ps : List PathTerm). Contains ps is.part) (sym whole)
+        (Contains-append_right is.before (is.part ∷ is.later) is.part (Contains-append_left (is.part ∷ []) is.later is.part (Contains-push [] is.part))) in (
+          is.part,
+          subst (λ (k : ℕ). slice_get (parts_of at.check n) k ≡ Some is.part) (omega (arith, is.numbered))
+              (subst (λ (parts : List PathTerm). slice_get parts (length is.before) ≡ Some is.part) (sym whole) (at_place is.before is.part is.later)),
+          λ closed. is.refused (closed_one E l are no_paths (path_symbols n) is.over is.is.of_path is.part is.automaton is.is.made words
+              (closed_bare is.part listed words closed)),
+        )
 
-  refused_at : (number : ℕ) → IsRefused (RefusesBy blocks complements) E l no_paths 0 (complemented_parts_r b ++ complemented_parts_r a) number
-      → IsOpenAt check n paths complements number
-  refused_at number is =
-      let words = words_of (get_or complements number []) in
-      let listed : Contains (complemented_parts_r b ++ complemented_parts_r a) is.part =
-      subst (λ (ps : List PathTerm). Contains ps is.part) (sym is.whole)
-      (Contains-append_right is.before (is.part ∷ is.later) is.part (Contains-append_left (is.part ∷ []) is.later is.part (Contains-push [] is.part))) in (
-        is.part,
-        subst (λ (k : ℕ). slice_get (parts_of check n) k ≡ Some is.part) (omega (arith, is.numbered))
-            (subst (λ (parts : List PathTerm). slice_get parts (length is.before) ≡ Some is.part) (sym (parts_are check n ∙ is.whole)) (at_place is.before is.part is.later)),
-        λ closed. is.refused (closed_one E l are no_paths (path_symbols n) is.over is.is.of_path is.part is.automaton is.is.made words
-            (closed_bare is.part (fixed_among is.part listed) words closed)),
-      )
-
-  pub refused : (e : Stop) → Stops e → (number : ℕ) → e ≡ Refused number → IsOpenAt check n paths complements number
-  unfolding StoppedTwoR
-  refused e stops number is = refused_at number (subst Stops is stops)
+    pub refused : (e : Stop) → Stops e → (number : ℕ) → e ≡ Refused number → IsOpenAt at.check n (paths_named at.flow) complements number
+    unfolding StoppedTwoR
+    refused e stops number is = refused_at number (subst Stops is stops)
 
 -- ---- by the letters and the terms that they were made of
 

@@ -26,6 +26,7 @@ use Rattle.rela_cert.specs.declared.judgement.Judgement.TheVariants.{Met, OpenCo
 use Rattle.rela_cert.proofs.ByStates.{closed_two}
 use Rattle.rela_cert.proofs.LetterLaws.{is_symbol_of, read_below}
 use Rattle.rela_cert.proofs.RowWords.{meets, some_offends}
+use Rattle.rela_cert.proofs.TermsMean.{ImagesMean}
 
 -- the set of all letters has just those of the symbols
 pub all_hold : (blocks : List ℕ) (n : ℕ) → length blocks ≡ n → (set : List Bool) → length set ≡ block_count blocks
@@ -83,14 +84,14 @@ pub stopped_memory : (refuses : ℕ → Automaton → List Bool → Type 0) (E :
 unfolding StoppedTwo
 stopped_memory refuses E l paths limit first x y = tt
 
-module _ (E : Type 0) (check : Checked) (n : ℕ) (paths : Paths) (blocks : List ℕ) (are : AreLetterBlocks (lettering_of check n blocks)) (a b : Automaton)
+module _ (E : Type 0) (check : Checked) (n : ℕ) (paths : Paths) (means : ImagesMean check n paths) (blocks : List ℕ) (are : AreLetterBlocks (lettering_of check n blocks)) (a b : Automaton)
     (before : IsMade E (lettering_of check n blocks) paths (before_image check n) a) (after : IsMade E (lettering_of check n blocks) paths (after_image check n) b)
     (over : List Bool) (holds : HoldsJust blocks (λ s. s < symbols_of check n) over) (limit : ℕ) (complements : List (List Step)) (images : List Step) where
   pub row_judged : (j : Judgement) → JudgesWords check.at_most a b over (letter_words blocks (words_of images)) j → Judges check n paths limit complements images j
-  row_judged Met met = meets E check n paths blocks a b before after met
+  row_judged Met met = meets E check n paths means blocks a b before after met
   row_judged BadImages (inl opened) =
       inl (λ closed. opened (closed_two E (lettering_of check n blocks) are paths (symbols_of check n) over holds (before_image check n) (after_image check n) a b before after (words_of images) closed))
-  row_judged BadImages (inr (word, listed, offends)) = inr (some_offends E check n paths blocks a b before after (words_of images) word listed offends)
+  row_judged BadImages (inr (word, listed, offends)) = inr (some_offends E check n paths means blocks a b before after (words_of images) word listed offends)
   row_judged (OpenComplement number) none = absurd none
   row_judged TooLarge none = absurd none
 

@@ -1,5 +1,5 @@
 -- What the words of a row's two automata tell of its check.
-use Rattle.std.proofs.Common.{ℕ, ◌↔◌, Bool, true, false, List, map, inl, inr, refl, sym, subst}
+use Rattle.std.proofs.Common.{ℕ, ◌↔◌, Bool, true, false, List, map, inl, inr, sym, subst}
 use Rattle.std.specs.Prelude.{Contains}
 use Rattle.rela_blocks.specs.Scenes.{after_image, before_image, lettering_of}
 use Rattle.rela_build.specs.Lettering.{Lettering}
@@ -12,12 +12,12 @@ use Rattle.rela_rir.specs.Meaning.{In}
 use Rattle.rela_rir.specs.declared.term.PathTerm.{PathTerm}
 use Rattle.rela_translate.specs.Checked.{Checked}
 use Rattle.rela_translate.specs.Verdict.{AfterImage, AreMet, BeforeImage, Meets, Offends}
-use Rattle.rela_translate.proofs.Meanings.{after_image_in, before_image_in}
 use Rattle.rela_cert.specs.Letters.{letter_words}
 use Rattle.rela_cert.specs.Rows.{SomeOffends}
 use Rattle.rela_cert.proofs.MappedWords.{mapped_back}
+use Rattle.rela_cert.proofs.TermsMean.{ImagesMean}
 
-module _ (E : Type 0) (check : Checked) (n : ℕ) (paths : Paths) (blocks : List ℕ) where
+module _ (E : Type 0) (check : Checked) (n : ℕ) (paths : Paths) (means : ImagesMean check n paths) (blocks : List ℕ) where
   abbrev l : Lettering
   l = lettering_of check n blocks
 
@@ -32,13 +32,13 @@ module _ (E : Type 0) (check : Checked) (n : ℕ) (paths : Paths) (blocks : List
     of_before : (w : List ℕ) → Accepts a (map f w) ↔ BeforeImage check n paths.pre w
     of_before w =
         let one = words_of_made (before_image check n) a before w in
-        let two = before_image_in (scene_of l paths).setting n check.body refl w in
+        let two = means.before w in
         (λ accepted. two.0 (one.0 accepted), λ is. one.1 (two.1 is))
 
     of_after : (w : List ℕ) → Accepts b (map f w) ↔ AfterImage check n paths.post w
     of_after w =
         let one = words_of_made (after_image check n) b after w in
-        let two = after_image_in (scene_of l paths).setting n check.body refl w in
+        let two = means.after w in
         (λ accepted. two.0 (one.0 accepted), λ is. one.1 (two.1 is))
 
     met_by : (at_most : Bool) → AreMet at_most (Accepts a) (Accepts b) → AreMet at_most (BeforeImage check n paths.pre) (AfterImage check n paths.post)

@@ -3,7 +3,8 @@ use Rattle.std.specs.Prelude.{◌≡◌, ℕ, ◌↔◌, None, List, ◌++◌, m
 use Rattle.std.specs.Option.{unwrap_or}
 use Rattle.rela_blocks.specs.RowBlocks.{AreCheckBlocks}
 use Rattle.rela_blocks.specs.Scenes.{lettering_of}
-use Rattle.rela_build.specs.Made.{IsMadeR, Leads, LeadsR}
+use Rattle.rela_build.specs.Lettering.{AreLetterBlocks}
+use Rattle.rela_build.specs.Made.{IsMade, IsMadeR, Leads, LeadsR}
 use Rattle.rela_build.specs.PathSets.{no_paths}
 use Rattle.rela_build.specs.Reading.{read_by}
 use Rattle.rela_certfile.specs.declared.rows.Step.{Step}
@@ -12,6 +13,9 @@ use Rattle.rela_labels.specs.Partition.{block_count}
 use Rattle.rela_nfa.specs.Automaton.{Automaton, IsAutomaton}
 use Rattle.rela_nfa.specs.Runs.{Accepts}
 use Rattle.rela_pairs.specs.declared.pair.Pair.{Pair}
+use Rattle.rela_rir.specs.Fixed.{IsFixedR}
+use Rattle.rela_rir.specs.declared.term.PathTerm.{PathTerm}
+use Rattle.rela_rir.specs.declared.term.RelTerm.{RelTerm}
 use Rattle.rela_trans.specs.Composition.{Covers}
 use Rattle.rela_trans.specs.Images.{IsImage}
 use Rattle.rela_trans.specs.Machine.{Machine, IsMachine}
@@ -21,6 +25,7 @@ use Rattle.rela_translate.specs.Terms.{after_of, before_of}
 use Rattle.rela_cert.specs.declared.check_parts.CheckParts.{CheckParts}
 use Rattle.rela_cert.specs.declared.check_relations.CheckRelations.{CheckRelations}
 use Rattle.rela_cert.specs.declared.row.Row.{Row}
+use Rattle.rela_cert.specs.RowNames.{RowName, paths_named}
 
 -- the blocks are those of the check's symbols, and the terms are those of its two relations
 pub record AreCheckParts (check : Checked) (locations : ℕ) (parts : CheckParts) : Type 0 where
@@ -60,6 +65,17 @@ pub record IsRefined (coarse fine : List ℕ) (words : Automaton) (t u : Machine
       LeadsR fine u q v w ↔ LeadsR coarse t q v w
   pub relation : (v w : List ℕ) → Accepts words (map (read_by fine) v) →
       Relates (read_by fine) u v w ↔ Relates (read_by coarse) t v w
+
+-- In a named scene, `words` is the automaton of the term x over the fine blocks. The transducer t is that of the term r
+-- over the coarse ones, and u is t over the fine ones, as far as these words go. The term r names no path set.
+pub record IsReadBy (at : RowName) (coarse fine : List ℕ) (x : PathTerm) (r : RelTerm)
+    (words : Automaton) (t u : Machine) : Type 0 where
+  pub letters : AreLetterBlocks (lettering_of at.check at.locations fine)
+  pub made : IsMade (Unit {0}) (lettering_of at.check at.locations fine) (paths_named at.flow) x
+      words
+  pub fixed : IsFixedR r
+  pub relation : IsMadeR (Unit {0}) (lettering_of at.check at.locations coarse) no_paths r t
+  pub refined : IsRefined coarse fine words t u
 
 -- the automaton is that of the words that t writes for those of the other one, by pairs of their states
 pub record IsWrittenBy (t : Machine) (words image : Automaton) : Type 0 where

@@ -7,6 +7,7 @@ pub mod Inputs
 pub mod Planned
 pub mod RowAt
 pub mod RowParts
+pub mod RowNames
 pub mod CheckRelations
 pub mod RenamedBlocks
 pub mod RowForms

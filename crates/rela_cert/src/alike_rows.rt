@@ -18,11 +18,13 @@ use crate::kept_checks::KeptCheck;
 use crate::lettered::lettered;
 use crate::row::Row;
 use crate::row_audit::{MAX_STATES, all_letters};
+use crate::scene_laws::Rows;
 use crate::words::are_closed;
 use rela_certfile::Step;
 use rela_labels::{Partition, WideSet};
 use rela_nfa::Nfa;
 use rela_pairs::pass_limit;
+use rela_translate::terms_mean_the_body;
 use std::alloc::{AllocError, Global};
 
 /// Whether one relation serves both sides of the change, and the flow's graphs look the same on both
@@ -63,6 +65,7 @@ pub(crate) fn judge_alike(
         IsImageClosed row.now.check.now (locations_of row.now) (paths_at row.now)
         (words_of images.now)) }
 {
+    terms_mean_the_body::<Rows>();
     let pair = row.pair;
     pair.before
         .same_outline_same_paths(&pair.after, row.check.level());

@@ -19,6 +19,7 @@ use crate::checking::Checking;
 use crate::repeated::are_repeated;
 use crate::row::Row;
 use crate::row_audit::MAX_STATES;
+use crate::scene_laws::{parts_agree, relations_pass_on};
 use crate::sides::treats_sides_alike;
 use rela_blocks::check_letters;
 use rela_build::{Builder, Complements, NoPaths, Stop};
@@ -82,6 +83,8 @@ pub(crate) fn check_relations(
         IsOpenAt row.now.check.now (locations_of row.now) (paths_at row.now)
         (map (λ block. block.now) complements.now) number) }
 {
+    relations_pass_on();
+    parts_agree();
     let letters = check_letters(alloc, row.check, row.alphabet, &parts.blocks)?;
     let checking = Checking {
         letters: &parts.blocks,

@@ -1,9 +1,9 @@
 //! The automata of a row's two images, by the relations of its check.
 
-ghost use Rattle.std.specs.Prelude.{◌≡◌, IfOk, IfErr};
+ghost use Rattle.std.specs.Prelude.{◌≡◌, ◌≤◌, IfOk, IfErr};
 ghost use Rattle.rela_blocks.specs.RowBlocks.{AreRowBlocks};
 ghost use Rattle.rela_labels.specs.Partition.{block_count};
-ghost use Rattle.rela_nfa.specs.Automaton.{Automaton};
+ghost use Rattle.rela_nfa.specs.Automaton.{Automaton, states};
 ghost use Rattle.rela_nfa.specs.Relabelling.{Refines};
 ghost use Rattle.rela_pairs.specs.Reachable.{MoreThan};
 ghost use Rattle.rela_trans.specs.Images.{AreReachedFrom};
@@ -16,11 +16,13 @@ use crate::check_relations::CheckRelations;
 use crate::images::Images;
 use crate::row::Row;
 use crate::row_audit::MAX_STATES;
+use crate::scene_laws::{Rows, written_images_are_made};
 use rela_blocks::FlowPaths;
-use rela_build::PathSets;
+use rela_build::{PathSets, path_sets_are_made};
 use rela_labels::{Partition, WideSet};
 use rela_nfa::{BuildError, Nfa};
-use rela_trans::{Transducer, image, letters_give_symbols, symbols_give_letters};
+use rela_trans::{Transducer, image};
+use rela_translate::terms_name_no_paths;
 use std::alloc::{AllocError, Global};
 
 /// The automata of the row's two images over its blocks, whose states stand for places of the
@@ -50,6 +52,8 @@ pub(crate) fn flow_images(
         IsBeforeImage (Unit {0}) row.now blocks.now images.before) }
     ensures after { IfOk result (λ images.
         IsAfterImage (Unit {0}) row.now blocks.now images.after) }
+    ensures few_before { IfOk result (λ images. states images.before ≤ MAX_STATES) }
+    ensures few_after { IfOk result (λ images. states images.after ≤ MAX_STATES) }
     ensures limit { IfErr result (λ e. e ≡ BuildError.Limit →
         MayPass row.now.check.now (locations_of row.now) (paths_at row.now) MAX_STATES) }
 {
@@ -72,11 +76,13 @@ pub(crate) fn before_image(
         row.now.pair.now.after blocks.now }
     requires finer { Refines blocks.now coarse.now }
     ensures made { IfOk result (IsBeforeImage (Unit {0}) row.now blocks.now) }
+    ensures few { IfOk result (λ image. states image ≤ MAX_STATES) }
     ensures limit { IfErr result (λ e. e ≡ BuildError.Limit →
         MayPass row.now.check.now (locations_of row.now) (paths_at row.now) MAX_STATES) }
 {
-    symbols_give_letters();
-    letters_give_symbols();
+    path_sets_are_made::<Rows>();
+    terms_name_no_paths();
+    written_images_are_made();
     let flow = FlowPaths {
         before: &row.pair.before,
         after: &row.pair.after,
@@ -101,11 +107,13 @@ fn after_image(
         row.now.pair.now.after blocks.now }
     requires finer { Refines blocks.now coarse.now }
     ensures made { IfOk result (IsAfterImage (Unit {0}) row.now blocks.now) }
+    ensures few { IfOk result (λ image. states image ≤ MAX_STATES) }
     ensures limit { IfErr result (λ e. e ≡ BuildError.Limit →
         MayPass row.now.check.now (locations_of row.now) (paths_at row.now) MAX_STATES) }
 {
-    symbols_give_letters();
-    letters_give_symbols();
+    path_sets_are_made::<Rows>();
+    terms_name_no_paths();
+    written_images_are_made();
     let flow = FlowPaths {
         before: &row.pair.before,
         after: &row.pair.after,
@@ -136,6 +144,7 @@ fn written(
     requires finer { Refines blocks.now coarse.now }
     ensures written { IfOk result (λ image. (t : Machine)
         × IsRefined coarse.now blocks.now words relation.now t × IsWrittenBy t words image) }
+    ensures few { IfOk result (λ image. states image ≤ MAX_STATES) }
     ensures limit { IfErr result (λ e. e ≡ BuildError.Limit → (t : Machine)
         × IsRefined coarse.now blocks.now words relation.now t
         × MoreThan MAX_STATES (AreReachedFrom words t)) }

@@ -9,7 +9,7 @@ ghost use Rattle.rela_build.specs.Notes.{NotedTwo, StoppedTwo};
 ghost use Rattle.rela_cert.specs.RowParts.{HasLetters, IsAfterImage, IsBeforeImage, after_term, before_term, lettering_at, paths_at};
 
 use crate::row::Row;
-use rela_blocks::FlowPaths;
+use rela_blocks::{FlowPaths, named_symbols_are_alone};
 use rela_build::{Builder, Complements, Letters, PathSets, Stop};
 use rela_labels::WideSet;
 use rela_names::Alphabet;
@@ -59,6 +59,7 @@ pub(crate) fn row_images<C: Complements>(
         (lettering_at row.now letters.now.blocks) (paths_at row.now) limit
         (length notes.old.items) (before_term row.now) (after_term row.now)) }
 {
+    named_symbols_are_alone();
     let paths = FlowPaths {
         before: &row.pair.before,
         after: &row.pair.after,

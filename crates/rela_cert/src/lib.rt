@@ -30,6 +30,7 @@ mod row_certificate;
 mod row_forms;
 mod row_words;
 mod same_blocks;
+mod scene_laws;
 mod shared_judgement;
 mod shared_rows;
 mod sides;

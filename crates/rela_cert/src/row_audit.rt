@@ -22,12 +22,14 @@ use crate::kept_checks::{KeptCheck, KeptChecks, relations_of_row};
 use crate::lettered::lettered;
 use crate::row::Row;
 use crate::row_forms::judge_by_form;
+use crate::scene_laws::Rows;
 use crate::words::judge_words;
 use rela_blocks::row_blocks;
 use rela_build::Stop;
 use rela_certfile::{Certificate, Step};
 use rela_labels::{LabelSet, Partition, WideSet};
 use rela_pairs::pass_limit;
+use rela_translate::images_mean_the_body;
 use std::alloc::{AllocError, Global};
 
 /// How many states an automaton may have.
@@ -142,6 +144,7 @@ fn judge_over(
         Judges row.now.check.now (locations_of row.now) (paths_at row.now) MAX_STATES complements
         images.now judgement) }
 {
+    images_mean_the_body::<Rows>();
     let count = blocks.blocks();
     let all = all_letters(alloc, count)?;
     let steps = lettered(alloc, blocks, images)?;

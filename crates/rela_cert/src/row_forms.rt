@@ -20,9 +20,11 @@ use crate::kept_checks::KeptCheck;
 use crate::renamed_blocks::{RenamedStep, renamed_block};
 use crate::row::Row;
 use crate::row_audit::{MAX_STATES, judge_images};
+use crate::scene_laws::Rows;
 use rela_certfile::Step;
 use rela_labels::Partition;
 use rela_shape::{Shape, one_shape_renames, renamed_flows_meet_alike};
+use rela_translate::terms_mean_the_body;
 use std::alloc::{AllocError, Global};
 use std::collections::HashSet;
 
@@ -121,6 +123,7 @@ fn met_forms_are_met(row: &Row<'_>, kept: &KeptCheck, form: &RowForm)
     ensures { IsMetShape row.now.alphabet.now row.now.check.now kept.now.parts.blocks
         form.now.shape → IsMetBy (locations_of row.now) row.now.check.now (paths_at row.now) }
 {
+    terms_mean_the_body::<Rows>();
     one_shape_renames();
     renamed_flows_meet_alike();
 }

@@ -17,12 +17,15 @@ use crate::images::{Images, row_images};
 use crate::judgement::Judgement;
 use crate::row::Row;
 use crate::row_audit::{MAX_STATES, all_letters};
+use crate::scene_laws::Rows;
 use crate::words::judge_words;
 use rela_build::{Letters, Stop};
 use rela_closed::{Step, find};
 use rela_labels::WideSet;
 use rela_names::List;
 use rela_pairs::pass_limit;
+use rela_rir::{complements_inside, reached_states_are_places};
+use rela_translate::images_mean_the_body;
 use std::alloc::{AllocError, Global};
 
 /// The words that are found for a row.
@@ -57,6 +60,8 @@ pub(crate) fn words_of_row(
     ensures excused { IfOk result (λ found. IfNone found
         (IsExcused (locations_of row.now) states row.now.check.now (paths_at row.now))) }
 {
+    reached_states_are_places::<Rows>();
+    complements_inside::<Rows>();
     let finding = Finding { limit: states };
     let mut notes = Vec::new(alloc);
     match row_images(alloc, row, letters, &finding, states, &mut notes) {
@@ -108,6 +113,8 @@ fn image_words(
     ensures excused { IfOk result (λ found. IfNone found
         (IsExcused (locations_of row.now) states row.now.check.now (paths_at row.now))) }
 {
+    images_mean_the_body::<Rows>();
+    reached_states_are_places::<Rows>();
     let all = all_letters(alloc, letters.count())?;
     match find(alloc, &[&both.before, &both.after], &all, states) {
         Ok(steps) => words_if_met(alloc, row.check.at_most(), both, &all, steps),

@@ -1,8 +1,10 @@
-use Rattle.std.proofs.Common.{◌≡◌, ◌↔◌, ℕ, List, length, sym, subst}
+use Rattle.std.proofs.Common.{◌≡◌, ◌↔◌, ℕ, List, length, refl, sym, subst}
 use Rattle.rela_graph.specs.Outline.{outline_of}
 use Rattle.rela_graph.specs.Paths.{Paths}
 use Rattle.rela_names.specs.declared.level.Level.{Level}
+use Rattle.rela_cert.specs.RowNames.{no_flow}
 use Rattle.rela_cert.proofs.AlikeRows.{meets_alike}
+use Rattle.rela_cert.proofs.TermsMean.{RelationsMean}
 use Rattle.rela_cert.proofs.alike_rows.judge_alike.Goals as goal
 
 pub before_image-requires-clause-relations : goal.before_image-requires-clause-relations
@@ -14,7 +16,12 @@ judge_one-requires-clause-met c =
     let names = row.alphabet.now in
     let pre = row.pair.now.before in
     let post = row.pair.now.after in
-    meets_alike row.check.now (length names) (c.requires.kept.1.relations.alone c.requires.alike.0)
+    let n = length names in
+    let means : RelationsMean row.check.now n = record {
+      before = c.terms_mean_the_body.ensures.before (no_flow row.check.now n) n row.check.now.body refl;
+      after = c.terms_mean_the_body.ensures.after (no_flow row.check.now n) n row.check.now.body refl;
+    } in
+    meets_alike row.check.now n means (c.requires.kept.1.relations.alone c.requires.alike.0)
     (Paths pre row.check.now.level names) (Paths post row.check.now.level names)
     (subst (λ (l : Level). (w : List ℕ) → Paths pre l names w ↔ Paths post l names w) c.level.ensures
     (c.same_outline_same_paths.ensures (subst (λ (l : Level). outline_of l pre ≡ outline_of l post) (sym c.level.ensures) c.requires.alike.1) names))

@@ -3,8 +3,8 @@ use Rattle.rela_build.specs.Made.{IsMadeR}
 use Rattle.rela_build.specs.Notes.{StoppedTwoR}
 use Rattle.rela_build.specs.PathSets.{no_paths}
 use Rattle.rela_build.specs.declared.stop.Stop.{Stop}
-use Rattle.rela_build.proofs.NoteForms.{after_term_r, stop_first_r, stop_second_r}
 use Rattle.rela_rir.specs.declared.term.RelTerm.{RelTerm}
+use Rattle.rela_cert.proofs.NotesOfTwo.{after_term_r, stop_first_r, stop_second_r}
 use Rattle.rela_cert.proofs.Options.{err_is}
 use Rattle.rela_cert.proofs.RelationStops.{from_none}
 use Rattle.rela_cert.proofs.check_relations.both_relations.Goals as goal
@@ -37,5 +37,5 @@ returns-in_err-after-clause-stopped g c =
     (λ e is. subst (λ (s : Stop). StoppedTwoR refuses E b.letters.now no_paths b.limit 0 t.before t.after s) (sym is)
     (from_none refuses E b.letters.now b.limit first t.before t.after _ (ap (λ l. length l) c.new-notes.ensures.items)
     (stop_second_r refuses E b.letters.now no_paths b.limit first t.before t.after (length c.transducer.new.notes.items) _
-    (after_term_r (g.C.Complements.answers b.complements.now) E b.letters.now no_paths c.new-notes.result.items c.transducer.new.notes.items t.before c.in_ok-before.ensures.noted)
+    (after_term_r (g.C.Complements.answers b.complements.now) E b.letters.now no_paths t.before c.new-notes.result.items c.transducer.new.notes.items c.in_ok-before.ensures.noted)
     c.in_err-after.ensures.stopped)))

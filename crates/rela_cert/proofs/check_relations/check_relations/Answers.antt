@@ -3,7 +3,8 @@ use Rattle.std.specs.Option.{unwrap_or}
 use Rattle.std.proofs.lemmas.Result.{IfErr-weaker}
 use Rattle.rela_translate.specs.Terms.{after_of, before_of}
 use Rattle.rela_translate.specs.Zones.{path_symbols}
-use Rattle.rela_cert.specs.RowParts.{paths_at, symbols_at}
+use Rattle.rela_cert.specs.RowNames.{name_of}
+use Rattle.rela_cert.specs.RowParts.{symbols_at}
 use Rattle.rela_cert.proofs.MappedWords.{all_in_order}
 use Rattle.rela_cert.proofs.Options.{ok_weaker, three_ok}
 use Rattle.rela_cert.proofs.RelationStops.{RefusesBy, made_of, named_of, refused, stopped_of, too_large}
@@ -63,7 +64,8 @@ returns-clause-limit c =
     let t = c.args.parts.now.terms in
     let listed = map (λ block. block.now) c.args.complements.now in
     IfErr-weaker c.both_relations.result _ _
-    (λ e stopped limit. too_large (Unit {0}) check n (paths_at row) blocks c.requires.parts.blocks.letters 4000000 listed e
+    (λ e stopped limit. too_large (Unit {0}) (name_of row) blocks c.requires.parts.blocks.letters 4000000 listed
+    (c.relations_pass_on.ensures.before (name_of row)) (c.relations_pass_on.ensures.after (name_of row)) e
     (stopped_of (Unit {0}) check n blocks c.in_ok-letters.letters c.in_ok-letters.ensures (RefusesBy blocks listed) 4000000 t.before t.after (before_of n check.body) (after_of n check.body) e
     c.requires.parts.before c.requires.parts.after stopped) limit)
     c.both_relations.ensures.stopped
@@ -77,7 +79,7 @@ returns-clause-refused c =
     let t = c.args.parts.now.terms in
     let listed = map (λ block. block.now) c.args.complements.now in
     IfErr-weaker c.both_relations.result _ _
-    (λ e stopped number is. refused (Unit {0}) check n (paths_at row) blocks c.requires.parts.blocks.letters 4000000 listed e
+    (λ e stopped number is. refused (Unit {0}) (name_of row) blocks c.requires.parts.blocks.letters 4000000 listed (c.parts_agree.ensures (name_of row)) e
     (stopped_of (Unit {0}) check n blocks c.in_ok-letters.letters c.in_ok-letters.ensures (RefusesBy blocks listed) 4000000 t.before t.after (before_of n check.body) (after_of n check.body) e
     c.requires.parts.before c.requires.parts.after stopped) number is)
     c.both_relations.ensures.stopped

@@ -1,12 +1,16 @@
-use Rattle.std.proofs.Common.{length, inl}
+use Rattle.std.proofs.Common.{Some, length, inl, refl}
 use Rattle.std.proofs.lemmas.Result.{IfErr-weaker, IfOk-weaker}
 use Rattle.rela_blocks.specs.Scenes.{lettering_of}
+use Rattle.rela_build.specs.Made.{IsMade}
 use Rattle.rela_build.specs.PathSets.{no_paths}
 use Rattle.rela_rir.specs.declared.term.PathTerm.TheVariants as P
+use Rattle.rela_trans.specs.Machine.{Machine}
 use Rattle.rela_translate.specs.Terms.{before_of}
-use Rattle.rela_cert.specs.RowParts.{paths_at}
-use Rattle.rela_cert.proofs.FixedTerms.{before_fixed}
-use Rattle.rela_cert.proofs.RefinedRelations.{before_words, image_made, image_passes, relation_letters}
+use Rattle.rela_cert.specs.CheckRelations.{IsReadBy, IsRefined}
+use Rattle.rela_cert.specs.RowNames.{name_of}
+use Rattle.rela_cert.specs.RowParts.{lettering_at, paths_at}
+use Rattle.rela_cert.proofs.RefinedRelations.{relation_letters}
+use Rattle.rela_cert.proofs.RowJudged.{made_here}
 use Rattle.rela_cert.proofs.flow_images.before_image.Goals as goal
 
 pub written-requires-clause-words : goal.written-requires-clause-words
@@ -24,10 +28,25 @@ returns-clause-made c =
     let check = row.check.now in
     let names = row.alphabet.now in
     let n = length names in
-    let of = before_words check names row.pair.now.before row.pair.now.after c.args.blocks.now c.level.result c.level.ensures c.in_ok-paths.paths c.in_ok-paths.ensures in
+    let pre = row.pair.now.before in
+    let post = row.pair.now.after in
+    let coarse = c.args.coarse.now in
+    let fine = c.args.blocks.now in
+    let words = c.in_ok-paths.paths in
+    let t = c.args.relations.now.before in
+    let of_flow : IsMade (Unit {0}) (lettering_at row fine) (paths_at row) P.Pre words =
+    made_here (Unit {0}) check names pre post (lettering_at row fine) refl c.level.result c.level.ensures P.Pre P.Pre words refl
+    (c.path_sets_are_made.ensures.before (Some (record { level = c.level.result; names = names; before = pre; after = post })) (lettering_at row fine) words c.in_ok-paths.ensures) in
+    let read : (u : Machine) → IsRefined coarse fine words t u → IsReadBy (name_of row) coarse fine P.Pre (before_of n check.body) words t u =
+    λ u refined. record {
+      letters = c.requires.blocks.letters;
+      made = of_flow;
+      fixed = c.terms_name_no_paths.ensures.before n check.body;
+      relation = c.requires.relations.before;
+      refined = refined;
+    } in
     IfOk-weaker c.written.result _ _
-    (λ image told. image_made (Unit {0}) check n (paths_at row) c.args.coarse.now c.args.blocks.now (before_of n check.body) (before_fixed n check.body) c.args.relations.now.before
-    c.requires.relations.before c.requires.blocks.letters P.Pre c.in_ok-paths.paths of told.0 told.1 c.symbols_give_letters.ensures.reached image told.2)
+    (λ image told. c.written_images_are_made.ensures.made (name_of row) coarse fine P.Pre (before_of n check.body) words t told.0 image (read told.0 told.1) told.2)
     c.written.ensures.written
 
 pub returns-clause-limit : goal.returns-clause-limit
@@ -36,10 +55,25 @@ returns-clause-limit c =
     let check = row.check.now in
     let names = row.alphabet.now in
     let n = length names in
-    let of = before_words check names row.pair.now.before row.pair.now.after c.args.blocks.now c.level.result c.level.ensures c.in_ok-paths.paths c.in_ok-paths.ensures in
+    let pre = row.pair.now.before in
+    let post = row.pair.now.after in
+    let coarse = c.args.coarse.now in
+    let fine = c.args.blocks.now in
+    let words = c.in_ok-paths.paths in
+    let t = c.args.relations.now.before in
+    let of_flow : IsMade (Unit {0}) (lettering_at row fine) (paths_at row) P.Pre words =
+    made_here (Unit {0}) check names pre post (lettering_at row fine) refl c.level.result c.level.ensures P.Pre P.Pre words refl
+    (c.path_sets_are_made.ensures.before (Some (record { level = c.level.result; names = names; before = pre; after = post })) (lettering_at row fine) words c.in_ok-paths.ensures) in
+    let read : (u : Machine) → IsRefined coarse fine words t u → IsReadBy (name_of row) coarse fine P.Pre (before_of n check.body) words t u =
+    λ u refined. record {
+      letters = c.requires.blocks.letters;
+      made = of_flow;
+      fixed = c.terms_name_no_paths.ensures.before n check.body;
+      relation = c.requires.relations.before;
+      refined = refined;
+    } in
     IfErr-weaker c.written.result _ _
     (λ e told is last.
     let passed = told is in
-    inl (image_passes (Unit {0}) check n (paths_at row) c.args.coarse.now c.args.blocks.now (before_of n check.body) (before_fixed n check.body) c.args.relations.now.before
-    c.requires.relations.before c.requires.blocks.letters P.Pre c.in_ok-paths.paths of passed.0 passed.1 c.letters_give_symbols.ensures.reached 4000000 passed.2))
+    inl (c.written_images_are_made.ensures.passes (name_of row) coarse fine P.Pre (before_of n check.body) words t passed.0 4000000 (read passed.0 passed.1) passed.2))
     c.written.ensures.limit

@@ -3,7 +3,6 @@ use Rattle.std.proofs.lemmas.Result.{IfErr-weaker, IfOk-weaker, on_ok_weaker}
 use Rattle.rela_build.specs.Lettering.{IsAlone}
 use Rattle.rela_build.specs.Named.{Names}
 use Rattle.rela_translate.specs.Terms.{after_of, before_of}
-use Rattle.rela_cert.proofs.ImageNames.{after_named, before_named}
 use Rattle.rela_build.specs.Notes.{StoppedTwo}
 use Rattle.rela_build.specs.declared.stop.Stop.{Stop}
 use Rattle.rela_cert.specs.RowParts.{after_term, before_term, lettering_at, paths_at}
@@ -13,15 +12,15 @@ use Rattle.rela_cert.proofs.images.row_images.Goals as goal
 
 pub both_images-requires-clause-before_alone : goal.both_images-requires-clause-before_alone
 both_images-requires-clause-before_alone g c =
-    let Q = IsAlone c.args.letters.now.blocks in
-    subst (Names Q) (sym c.in_ok-terms.ensures.before)
-    (before_named Q (before_of (length c.args.row.now.alphabet.now) c.args.row.now.check.now.body) c.requires.letters.blocks.before)
+    subst (Names (IsAlone c.args.letters.now.blocks)) (sym c.in_ok-terms.ensures.before)
+    (c.named_symbols_are_alone.ensures.before_image c.args.letters.now.blocks (before_of (length c.args.row.now.alphabet.now) c.args.row.now.check.now.body)
+    c.requires.letters.blocks.before)
 
 pub both_images-requires-clause-after_alone : goal.both_images-requires-clause-after_alone
 both_images-requires-clause-after_alone g c =
-    let Q = IsAlone c.args.letters.now.blocks in
-    subst (Names Q) (sym c.in_ok-terms.ensures.after)
-    (after_named Q (after_of (length c.args.row.now.alphabet.now) c.args.row.now.check.now.body) c.requires.letters.blocks.after)
+    subst (Names (IsAlone c.args.letters.now.blocks)) (sym c.in_ok-terms.ensures.after)
+    (c.named_symbols_are_alone.ensures.after_image c.args.letters.now.blocks (after_of (length c.args.row.now.alphabet.now) c.args.row.now.check.now.body)
+    c.requires.letters.blocks.after)
 
 pub returns-in_err-terms-clause-stopped : goal.returns-in_err-terms-clause-stopped
 returns-in_err-terms-clause-stopped g c =

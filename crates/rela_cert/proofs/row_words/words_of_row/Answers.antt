@@ -3,6 +3,7 @@ use Rattle.std.specs.Prelude.{IfNone}
 use Rattle.rela_build.specs.declared.stop.Stop.TheVariants.{Memory}
 use Rattle.rela_cert.specs.Certified.{IsExcused}
 use Rattle.rela_cert.specs.Found.{AreFoundFor}
+use Rattle.rela_cert.specs.RowNames.{name_of}
 use Rattle.rela_cert.specs.RowParts.{after_term, before_term, lettering_at, paths_at}
 use Rattle.rela_cert.specs.declared.row_words.RowWords.{RowWords}
 use Rattle.rela_cert.proofs.Excuses.{stopped_excused}
@@ -32,6 +33,6 @@ returns-in-Err-clause-excused c =
     let excused = IsExcused (length row.alphabet.now) c.args.states row.check.now (paths_at row) in
     both_ok (λ found. found ≡ None) (λ _. ¬ (c.in-Err.stop ≡ Memory)) (λ found. IfNone found excused) c.none_built.result
     (λ found none other. subst (λ (o : Option RowWords). IfNone o excused) (sym none)
-    (stopped_excused row.check.now (length row.alphabet.now) (paths_at row) c.args.letters.now.blocks c.requires.letters.blocks.letters c.args.states
-    (length c.new-notes.result.items) c.in-Err.stop c.in-Err.ensures.stopped other))
+    (stopped_excused (name_of row) (c.reached_states_are_places.ensures (name_of row)) c.args.letters.now.blocks c.requires.letters.blocks.letters c.args.states
+    (c.complements_inside.ensures.reached (name_of row)) (length c.new-notes.result.items) c.in-Err.stop c.in-Err.ensures.stopped other))
     c.none_built.ensures.none c.none_built.ensures.stop
