@@ -28,7 +28,6 @@ use Rattle.rela_rir.specs.ReachedTerms.{ReachedTerms}
 use Rattle.rela_rir.specs.Tables.{IsPlaced, ManyWords, ToldByState}
 use Rattle.rela_rir.specs.declared.term.PathTerm.{PathTerm}
 use Rattle.rela_rir.specs.declared.term.PathTerm.TheVariants as P
-use Rattle.rela_translate.specs.Checked.{Checked}
 use Rattle.rela_translate.specs.Verdict.{Offends}
 use Rattle.rela_cert.specs.Certified.{IsExcused}
 use Rattle.rela_cert.specs.RowNames.{RowName, paths_named, row_machines}
