@@ -4,3 +4,4 @@ pub mod RowBlocks
 pub mod Blocks
 pub mod Alone
 pub mod GraphPaths
+pub mod FlowName

@@ -1,5 +1,5 @@
-//! Which symbols the terms of a body name. The law is a function that does nothing, and its contract
-//! is the law.
+//! Which symbols the terms of a body name. The law is a function that only calls other laws, and its
+//! contract is the law.
 ghost use Rattle.std.specs.Prelude.{ℕ, List};
 ghost use Rattle.rela_build.specs.Lettering.{IsAlone};
 ghost use Rattle.rela_build.specs.Named.{Names, NamesR};

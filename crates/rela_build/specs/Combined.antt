@@ -50,8 +50,9 @@ module _ (exactly : Type 0) (l : Lettering) (paths : Paths) where
 
   abbrev pub PassesBoth : (PathTerm → RelTerm → PathTerm) → ℕ → Automaton → Machine →
       BuildError → Type 0
-  PassesBoth F limit a t e = e ≡ B.Limit → (x : PathTerm) (r : RelTerm) → IsMade exactly l paths x a →
-      IsMadeR exactly l paths r t → ReachedInside (scene_of l paths) (limit + 1) (F x r)
+  PassesBoth F limit a t e = e ≡ B.Limit → (x : PathTerm) (r : RelTerm) →
+      IsMade exactly l paths x a → IsMadeR exactly l paths r t →
+      ReachedInside (scene_of l paths) (limit + 1) (F x r)
 
   abbrev pub PassesTwoR : (RelTerm → RelTerm → RelTerm) → ℕ → Machine → Machine →
       BuildError → Type 0

@@ -7,7 +7,7 @@ ghost use Rattle.rela_pairs.specs.declared.pair.Pair.{Pair};
 ghost use Rattle.rela_rir.specs.BuiltTerms.{Stand, StandR};
 ghost use Rattle.rela_rir.specs.Limit.{Reached};
 ghost use Rattle.rela_rir.specs.Places.{NoParts, PartsApart, PathSetPlaces};
-ghost use Rattle.rela_rir.specs.ReachedTerms.{Places, PlacesR};
+ghost use Rattle.rela_rir.specs.ReachedTerms.{StandFor, StandForR};
 ghost use Rattle.rela_rir.specs.Tables.{IsStateReached, ReachFromSource};
 ghost use Rattle.rela_trans.specs.Images.{AreReachedFrom};
 ghost use Rattle.rela_trans.specs.Machine.{Machine};
@@ -54,7 +54,7 @@ pub fn images_are_placed<M: Machinery>()
     ensures passes { (at : M.machines.scene.Name) (x : PathTerm) (r : RelTerm)
         (a : M.machines.Automaton) (t : M.machines.Transducer)
         (words : Automaton) (relation : Machine) (limit : ℕ) →
-        Places M.machines at x a → PlacesR M.machines at r t →
+        StandFor M.machines at x a → StandForR M.machines at r t →
         ((z : Pair) → AreReachedFrom words relation z → IsStateReached (M.machines.scene.of at)
         (ReachFromSource (M.machines.reach a) (M.machines.reach_pair t)) (two_of z)) →
         MoreThan limit (AreReachedFrom words relation) →

@@ -5,6 +5,7 @@ use Rattle.std.specs.List.{All, AllPairs}
 use Rattle.std.specs.Option.{ForSome}
 use Rattle.std.proofs.lemmas.List.{get_or-map, length-map}
 use Rattle.std.proofs.lemmas.List.Elements.{All-cons, All-head, All-nil, All-tail, Contains-append_cases}
+use Rattle.rela_blocks.specs.FlowName.{paths_at}
 use Rattle.rela_blocks.specs.RowBlocks.{symbols_of}
 use Rattle.rela_blocks.specs.Scenes.{after_image, before_image, lettering_of}
 use Rattle.rela_build.specs.Complement.{IsOver, ReachApart}
@@ -30,7 +31,7 @@ use Rattle.rela_rir.specs.declared.term.PathTerm.{PathTerm}
 use Rattle.rela_rir.specs.declared.term.PathTerm.TheVariants as P
 use Rattle.rela_translate.specs.Verdict.{Offends}
 use Rattle.rela_cert.specs.Certified.{IsExcused}
-use Rattle.rela_cert.specs.RowNames.{RowName, paths_named, row_machines}
+use Rattle.rela_cert.specs.RowNames.{RowName, row_machines}
 use Rattle.rela_cert.proofs.ByStates.{symbol_for}
 use Rattle.rela_cert.proofs.RowWords.{offends_by}
 use Rattle.rela_cert.proofs.TermsMean.{ImagesMean}
@@ -52,7 +53,7 @@ module _ (at : RowName) (reached : ReachedTerms row_machines at) (blocks : List 
   l = lettering_of at.check at.locations blocks
 
   abbrev paths : Paths
-  paths = paths_named at.flow
+  paths = paths_at at.flow
 
   abbrev m : Scene
   m = scene_of l paths
@@ -158,28 +159,28 @@ module _ (at : RowName) (reached : ReachedTerms row_machines at) (blocks : List 
 
 module _ (at : RowName) (reached : ReachedTerms row_machines at) (blocks : List ℕ) (are : AreLetterBlocks (lettering_of at.check at.locations blocks)) (limit : ℕ) where
   pub stopped_excused : ComplementsInside (m at reached blocks are) → (first : ℕ) (e : Stop)
-      → StoppedTwo (λ number a over. ReachSets over (a ∷ []) (limit + 1)) (Unit {0}) (lettering_of at.check at.locations blocks) (paths_named at.flow) limit first
+      → StoppedTwo (λ number a over. ReachSets over (a ∷ []) (limit + 1)) (Unit {0}) (lettering_of at.check at.locations blocks) (paths_at at.flow) limit first
       (before_image at.check at.locations) (after_image at.check at.locations) e
-      → ¬ (e ≡ Memory) → IsExcused at.locations limit at.check (paths_named at.flow)
+      → ¬ (e ≡ Memory) → IsExcused at.locations limit at.check (paths_at at.flow)
   stopped_excused inside first e stopped other =
       inr (elim (stopped_inside at reached blocks are inside (before_image at.check at.locations) (after_image at.check at.locations) limit first e stopped other) [
         | inl before ↦ inl before
         | inr after ↦ inr (inl after)
       ])
 
-  module _ (a b : Automaton) (before : IsMade (Unit {0}) (lettering_of at.check at.locations blocks) (paths_named at.flow) (before_image at.check at.locations) a)
-      (after : IsMade (Unit {0}) (lettering_of at.check at.locations blocks) (paths_named at.flow) (after_image at.check at.locations) b)
+  module _ (a b : Automaton) (before : IsMade (Unit {0}) (lettering_of at.check at.locations blocks) (paths_at at.flow) (before_image at.check at.locations) a)
+      (after : IsMade (Unit {0}) (lettering_of at.check at.locations blocks) (paths_at at.flow) (after_image at.check at.locations) b)
       (over : List Bool) (holds : HoldsJust blocks (λ s. s < symbols_of at.check at.locations) over) where
-    pub many_excused : ReachSets over (a ∷ b ∷ []) (limit + 1) → IsExcused at.locations limit at.check (paths_named at.flow)
+    pub many_excused : ReachSets over (a ∷ b ∷ []) (limit + 1) → IsExcused at.locations limit at.check (paths_at at.flow)
     many_excused sets =
         inr (inr (inr (many_pairs at reached blocks are (symbols_of at.check at.locations) refl over holds (before_image at.check at.locations) (after_image at.check at.locations) a b before after (limit + 1) sets)))
 
-    pub offence_excused : ImagesMean at.check at.locations (paths_named at.flow) → (word : List ℕ) → IsOver over word → Offends at.check.at_most (Accepts a) (Accepts b) word
-        → IsExcused at.locations limit at.check (paths_named at.flow)
+    pub offence_excused : ImagesMean at.check at.locations (paths_at at.flow) → (word : List ℕ) → IsOver over word → Offends at.check.at_most (Accepts a) (Accepts b) word
+        → IsExcused at.locations limit at.check (paths_at at.flow)
     offence_excused means word read offends =
         let found = word_for at reached blocks are (symbols_of at.check at.locations) over holds word read in
         inl (
           found.0,
-          offends_by (Unit {0}) at.check at.locations (paths_named at.flow) means blocks a b before after at.check.at_most found.0
+          offends_by (Unit {0}) at.check at.locations (paths_at at.flow) means blocks a b before after at.check.at_most found.0
               (subst (Offends at.check.at_most (Accepts a) (Accepts b)) (sym found.2) offends),
         )

@@ -1,5 +1,6 @@
 -- The relations of a check over finer blocks, for the paths of a flow, and the images by them.
 use Rattle.std.proofs.Common.{◌≡◌, ◌∙◌, ℕ, ◌+◌, ◌↔◌, List, length, map, sym, subst, arith}
+use Rattle.rela_blocks.specs.FlowName.{paths_at}
 use Rattle.rela_blocks.specs.Scenes.{lettering_of}
 use Rattle.rela_build.specs.Lettering.{Lettering}
 use Rattle.rela_build.specs.Made.{IsMade, IsMadeR, Leads, LeadsR}
@@ -16,7 +17,7 @@ use Rattle.rela_rir.specs.BuiltTerms.{Stand, StandR}
 use Rattle.rela_rir.specs.Limit.{Reached, ReachedInside}
 use Rattle.rela_rir.specs.Meaning.{In, InR}
 use Rattle.rela_rir.specs.Places.{At, Scene}
-use Rattle.rela_rir.specs.ReachedTerms.{CarriedTables, Places, PlacesR}
+use Rattle.rela_rir.specs.ReachedTerms.{CarriedTables, StandFor, StandForR}
 use Rattle.rela_rir.specs.Tables.{IsExact, IsStateReached, ReachFromSource}
 use Rattle.rela_rir.specs.Words.{ImageOf}
 use Rattle.rela_rir.specs.declared.term.PathTerm.{PathTerm}
@@ -27,7 +28,7 @@ use Rattle.rela_trans.specs.Images.{AreReachedFrom}
 use Rattle.rela_trans.specs.Machine.{IsMachine, Machine, machine_states}
 use Rattle.rela_trans.specs.Runs.{ReachR, Relates}
 use Rattle.rela_cert.specs.CheckRelations.{IsReadBy, IsWrittenBy}
-use Rattle.rela_cert.specs.RowNames.{RowName, no_flow, paths_named, row_machines, row_scenes}
+use Rattle.rela_cert.specs.RowNames.{RowName, no_flow, row_machines, row_scenes}
 use Rattle.rela_cert.proofs.LetterLaws.{Below, covered, state_of_reach, word_for, word_of_symbols}
 use Rattle.rela_cert.proofs.NoPaths.{agree_r}
 use Rattle.rela_cert.proofs.Refinements.{reach_below}
@@ -64,7 +65,7 @@ ImagesPlaced =
 abbrev pub ImagesPass : Type 0
 ImagesPass =
     (at : RowName) (x : PathTerm) (r : RelTerm) (a : List ℕ × Automaton) (t : List ℕ × Machine) (words : Automaton) (relation : Machine) (limit : ℕ)
-    → Places row_machines at x a → PlacesR row_machines at r t
+    → StandFor row_machines at x a → StandForR row_machines at r t
     → ((z : Pair) → AreReachedFrom words relation z → IsStateReached (row_scenes.of at) (ReachFromSource (row_machines.reach a) (row_machines.reach_pair t)) (two_of z))
     → MoreThan limit (AreReachedFrom words relation) → Reached (row_scenes.of at) (P.Image x r) (limit + 1)
 
@@ -89,7 +90,7 @@ module _ (tables : CarriedTables row_machines) (at : RowName) (coarse fine : Lis
   placed_here : StandR row_machines at r (machine_states t) (coarse, t)
   unfolding IsMadeR
   placed_here =
-      tables.counted_relations (no_flow at.check at.locations) at r (machine_states t) (coarse, t) (agree_r at r is.fixed)
+      (tables.counted_relations (no_flow at.check at.locations) at r (machine_states t) (coarse, t) (agree_r at r is.fixed)).0
       (record { table = is.relation.table; is_table = is.relation.placed; exact = is.relation.exact })
 
   words_placed : Stand row_machines at x (states words) (fine, words)
@@ -125,7 +126,7 @@ module _ (tables : CarriedTables row_machines) (at : RowName) (coarse fine : Lis
         })
 
     pub image_made : ((w : List ℕ) → In m.setting (P.Image x r) w ↔ ImageOf (In m.setting x) (InR m.setting r) w) → (image : Automaton) → IsWrittenBy u words image
-        → IsMade (Unit {0}) l (paths_named at.flow) (P.Image x r) image
+        → IsMade (Unit {0}) l (paths_at at.flow) (P.Image x r) image
     unfolding IsMade
     image_made means image written =
         let stand = stands image written in

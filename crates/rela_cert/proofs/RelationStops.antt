@@ -3,6 +3,7 @@ use Rattle.std.proofs.Common.{◌≡◌, ◌∙◌, ℕ, ◌+◌, Bool, List, []
 use Rattle.std.specs.List.{Contains, slice_get}
 use Rattle.std.specs.Prelude.{Some}
 use Rattle.std.proofs.lemmas.List.Elements.{All-cons, All-head, All-nil, Contains-append_left, Contains-append_right, Contains-push}
+use Rattle.rela_blocks.specs.FlowName.{paths_at}
 use Rattle.rela_blocks.specs.Scenes.{after_image, before_image, lettering_of, scene}
 use Rattle.rela_build.specs.Lettering.{Lettering, AreLetterBlocks, IsAlone}
 use Rattle.rela_build.specs.Made.{IsMadeR}
@@ -26,7 +27,7 @@ use Rattle.rela_translate.specs.Terms.{after_of, before_of}
 use Rattle.rela_translate.specs.Zones.{path_symbols}
 use Rattle.rela_cert.specs.Closed.{Closed}
 use Rattle.rela_cert.specs.Letters.{letter_words}
-use Rattle.rela_cert.specs.RowNames.{RowName, paths_named, row_scenes}
+use Rattle.rela_cert.specs.RowNames.{RowName, row_scenes}
 use Rattle.rela_cert.specs.Rows.{IsOpenAt, MayPass, parts_of}
 use Rattle.rela_cert.proofs.ByStates.{closed_one}
 use Rattle.rela_cert.proofs.ComplementCounts.{parts_are}
@@ -70,7 +71,7 @@ module _ (E : Type 0) (at : RowName) (blocks : List ℕ) (are : AreLetterBlocks 
   Stops e = StoppedTwoR (RefusesBy blocks complements) E l no_paths limit 0 b a e
 
   pub too_large : PassesOn at (before_image at.check n) b → PassesOn at (after_image at.check n) a → (e : Stop) → Stops e → e ≡ Limit
-      → MayPass at.check n (paths_named at.flow) limit
+      → MayPass at.check n (paths_at at.flow) limit
   unfolding StoppedTwoR
   too_large before_passes after_passes e stops is last = elim (subst Stops is stops) [
     | inl before ↦ inl (before_passes (limit + 1) before)
@@ -91,7 +92,7 @@ module _ (E : Type 0) (at : RowName) (blocks : List ℕ) (are : AreLetterBlocks 
         )
 
     refused_at : (number : ℕ) → IsRefused (RefusesBy blocks complements) E l no_paths 0 (complemented_parts_r b ++ complemented_parts_r a) number
-        → IsOpenAt at.check n (paths_named at.flow) complements number
+        → IsOpenAt at.check n (paths_at at.flow) complements number
     refused_at number is =
         let words = words_of (get_or complements number []) in
         let whole : parts_of at.check n ≡ is.before ++ is.part ∷ is.later = parts_are at.check n ∙ is.whole in
@@ -105,7 +106,7 @@ module _ (E : Type 0) (at : RowName) (blocks : List ℕ) (are : AreLetterBlocks 
               (closed_bare is.part listed words closed)),
         )
 
-    pub refused : (e : Stop) → Stops e → (number : ℕ) → e ≡ Refused number → IsOpenAt at.check n (paths_named at.flow) complements number
+    pub refused : (e : Stop) → Stops e → (number : ℕ) → e ≡ Refused number → IsOpenAt at.check n (paths_at at.flow) complements number
     unfolding StoppedTwoR
     refused e stops number is = refused_at number (subst Stops is stops)
 

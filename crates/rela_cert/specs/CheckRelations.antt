@@ -1,6 +1,7 @@
 -- What is made of a check once for many of its rows, and its relations over the blocks of one row.
 use Rattle.std.specs.Prelude.{◌≡◌, ℕ, ◌↔◌, None, List, ◌++◌, map}
 use Rattle.std.specs.Option.{unwrap_or}
+use Rattle.rela_blocks.specs.FlowName.{paths_at}
 use Rattle.rela_blocks.specs.RowBlocks.{AreCheckBlocks}
 use Rattle.rela_blocks.specs.Scenes.{lettering_of}
 use Rattle.rela_build.specs.Lettering.{AreLetterBlocks}
@@ -25,7 +26,7 @@ use Rattle.rela_translate.specs.Terms.{after_of, before_of}
 use Rattle.rela_cert.specs.declared.check_parts.CheckParts.{CheckParts}
 use Rattle.rela_cert.specs.declared.check_relations.CheckRelations.{CheckRelations}
 use Rattle.rela_cert.specs.declared.row.Row.{Row}
-use Rattle.rela_cert.specs.RowNames.{RowName, paths_named}
+use Rattle.rela_cert.specs.RowNames.{RowName}
 
 -- the blocks are those of the check's symbols, and the terms are those of its two relations
 pub record AreCheckParts (check : Checked) (locations : ℕ) (parts : CheckParts) : Type 0 where
@@ -71,7 +72,7 @@ pub record IsRefined (coarse fine : List ℕ) (words : Automaton) (t u : Machine
 pub record IsReadBy (at : RowName) (coarse fine : List ℕ) (x : PathTerm) (r : RelTerm)
     (words : Automaton) (t u : Machine) : Type 0 where
   pub letters : AreLetterBlocks (lettering_of at.check at.locations fine)
-  pub made : IsMade (Unit {0}) (lettering_of at.check at.locations fine) (paths_named at.flow) x
+  pub made : IsMade (Unit {0}) (lettering_of at.check at.locations fine) (paths_at at.flow) x
       words
   pub fixed : IsFixedR r
   pub relation : IsMadeR (Unit {0}) (lettering_of at.check at.locations coarse) no_paths r t

@@ -1,7 +1,8 @@
-//! What the laws of terms say of the scenes of rows. Each law is a function that does nothing, and its
-//! contract is the law.
+//! What the laws of terms say of the scenes of rows. Each law is a function that only calls other
+//! laws, and its contract is the law.
 
 ghost use Rattle.std.specs.Prelude.{ℕ, ◌+◌, List, Contains};
+ghost use Rattle.rela_blocks.specs.FlowName.{paths_at};
 ghost use Rattle.rela_blocks.specs.Scenes.{after_image, before_image, lettering_of, scene};
 ghost use Rattle.rela_build.specs.Made.{IsMade};
 ghost use Rattle.rela_build.specs.PathSets.{no_paths};
@@ -13,7 +14,7 @@ ghost use Rattle.rela_trans.specs.Images.{AreReachedFrom};
 ghost use Rattle.rela_trans.specs.Machine.{Machine};
 ghost use Rattle.rela_translate.specs.Terms.{after_of, before_of};
 ghost use Rattle.rela_cert.specs.CheckRelations.{IsReadBy, IsWrittenBy};
-ghost use Rattle.rela_cert.specs.RowNames.{RowName, paths_named, row_machines, row_paths, row_scenes, row_settings};
+ghost use Rattle.rela_cert.specs.RowNames.{RowName, row_machines, row_paths, row_scenes, row_settings};
 ghost use Rattle.rela_cert.specs.Rows.{parts_of};
 
 use rela_build::{NamedPaths, images_are_placed};
@@ -44,8 +45,8 @@ impl NamedPaths for Rows {
     ghost paths = { row_paths };
 }
 
-/// Where a relation of a check has a counted term with k reached places, the image by it has one for
-/// the paths of each flow: the relation names no path set.
+/// Where a relation of a check has a counted term with k reached places, the image by it has one
+/// for the paths of each flow: the relation names no path set.
 pub(crate) fn relations_pass_on()
     ensures before { (at : RowName) (k : ℕ) →
         ReachedInsideR (scene at.check at.locations no_paths) k
@@ -61,8 +62,8 @@ pub(crate) fn relations_pass_on()
     reached_inside_path_terms::<Rows>();
 }
 
-/// Words that reach the same places of a complemented part for the paths of some flow do so where there
-/// are no paths.
+/// Words that reach the same places of a complemented part for the paths of some flow do so where
+/// there are no paths.
 pub(crate) fn parts_agree()
     ensures { (at : RowName) (part : PathTerm) → Contains (parts_of at.check at.locations) part →
         (v w : List ℕ) → Agree (At (row_scenes.of at) part) v w →
@@ -79,7 +80,7 @@ pub(crate) fn written_images_are_made()
     ensures made { (at : RowName) (coarse fine : List ℕ) (x : PathTerm) (r : RelTerm)
         (words : Automaton) (t u : Machine) (image : Automaton) →
         IsReadBy at coarse fine x r words t u → IsWrittenBy u words image →
-        IsMade (Unit {0}) (lettering_of at.check at.locations fine) (paths_named at.flow)
+        IsMade (Unit {0}) (lettering_of at.check at.locations fine) (paths_at at.flow)
         (PathTerm.Image x r) image }
     ensures passes { (at : RowName) (coarse fine : List ℕ) (x : PathTerm) (r : RelTerm)
         (words : Automaton) (t u : Machine) (limit : ℕ) →

@@ -14,8 +14,9 @@ use Rattle.rela_translate.specs.Checked.{Checked}
 use Rattle.rela_translate.specs.Terms.{before_of, after_of}
 use Rattle.rela_translate.specs.declared.body.Core.{Core}
 use Rattle.rela_engine.specs.Compilation.{Compilation, PassesLimit, MustPassLimit}
-use Rattle.rela_engine.specs.FlowMachines.{Flow, SceneName, check_name, flow_paths, flow_scenes}
+use Rattle.rela_engine.specs.FlowMachines.{SceneName, check_name, flow_scenes}
 use Rattle.rela_engine.specs.RowOf.{RowOf, MustBeOpen}
+use Rattle.rela_blocks.specs.FlowName.{FlowName, flow_paths}
 use Rattle.rela_blocks.specs.Scenes.{scene}
 use Rattle.rela_engine.specs.Scenes.{bare_scene}
 
@@ -24,7 +25,7 @@ at = flow_scenes.of
 
 -- ---- the scene with no paths, and that of a flow
 
-module _ (check : Checked) (n : ℕ) (f : Flow) where
+module _ (check : Checked) (n : ℕ) (f : FlowName) where
   pub agree : (r : RelTerm) → IsFixedR r → AgreeOnR (bare_scene check n) (scene check n (flow_paths f)) r
   agree r fixed = record { symbols = record { setting = record { classes = refl; path_symbols = refl }; markers = refl }; paths = inl fixed }
 
@@ -35,13 +36,13 @@ module _ (before_fixed : (n : ℕ) (body : Core) → IsFixedR (before_of n body)
   module _ (inside : (m : SceneName) (k : ℕ) (x : PathTerm) (r : RelTerm)
       → ReachedInside (at m) k (P.Image x r) ↔ (Reached (at m) (P.Image x r) k ⊎ (ReachedInside (at m) k x ⊎ ReachedInsideR (at m) k r)))
       (carried : (m o : SceneName) (r : RelTerm) → AgreeOnR (at m) (at o) r → (k : ℕ) → ReachedInsideR (at m) k r ↔ ReachedInsideR (at o) k r) where
-    in_image : (check : Checked) (n : ℕ) (f : Flow) (k : ℕ) (x : PathTerm) (r : RelTerm) → IsFixedR r → ReachedInsideR (bare_scene check n) k r
+    in_image : (check : Checked) (n : ℕ) (f : FlowName) (k : ℕ) (x : PathTerm) (r : RelTerm) → IsFixedR r → ReachedInsideR (bare_scene check n) k r
         → ReachedInside (scene check n (flow_paths f)) k (P.Image x r)
     in_image check n f k x r fixed reached =
         let flow = check_name check n (Some f) in
         (inside flow k x r).1 (inr (inr ((carried (check_name check n None) flow r (agree check n f r fixed) k).0 reached)))
 
-    pub undecided : (c : Compilation) → PassesLimit c → (f : Flow) → RowOf c.check c.locations (flow_paths f) c.states Undecided
+    pub undecided : (c : Compilation) → PassesLimit c → (f : FlowName) → RowOf c.check c.locations (flow_paths f) c.states Undecided
     undecided c passes f = record {
       says = λ last is. elim passes [
         | inl before ↦
@@ -60,7 +61,7 @@ module _ (before_fixed : (n : ℕ) (body : Core) → IsFixedR (before_of n body)
       (forced_r : (m : SceneName) (k : ℕ) (r : RelTerm) → ForcedInsideR (at m) k r ↔ ((part : PathTerm) × Contains (complemented_parts_r r) part × AreTold (at m) part k))
       (carried : (m o : SceneName) (r : RelTerm) → AgreeOnR (at m) (at o) r → (k : ℕ) → ForcedInsideR (at m) k r ↔ ForcedInsideR (at o) k r) where
     -- the paths themselves force nothing
-    of_relation : (check : Checked) (n : ℕ) (f : Flow) (k : ℕ) (x : PathTerm) (r : RelTerm) → complemented_parts x ≡ [] → IsFixedR r
+    of_relation : (check : Checked) (n : ℕ) (f : FlowName) (k : ℕ) (x : PathTerm) (r : RelTerm) → complemented_parts x ≡ [] → IsFixedR r
         → ForcedInside (scene check n (flow_paths f)) k (P.Image x r) → ForcedInsideR (bare_scene check n) k r
     of_relation check n f k x r none fixed has =
         let flow = check_name check n (Some f) in
@@ -69,7 +70,7 @@ module _ (before_fixed : (n : ℕ) (body : Core) → IsFixedR (before_of n body)
         (carried (check_name check n None) flow r (agree check n f r fixed) k).1
         ((forced_r flow k r).1 (told.0, subst (λ (ps : List PathTerm). Contains ps told.0) parts told.1, told.2))
 
-    pub not_forced : (c : Compilation) → ¬ MustPassLimit c → (f : Flow) → ¬ MustBeOpen c.check c.locations (flow_paths f) c.states
+    pub not_forced : (c : Compilation) → ¬ MustPassLimit c → (f : FlowName) → ¬ MustBeOpen c.check c.locations (flow_paths f) c.states
     not_forced c within f must = within (elim must [
       | inl before ↦
           inl (of_relation c.check c.locations f (c.states + 1) P.Pre (before_of c.locations c.check.body) no_pre (before_fixed c.locations c.check.body) before)

@@ -23,9 +23,10 @@ use Rattle.rela_trans.specs.Images.{AreReachedFrom}
 use Rattle.rela_trans.specs.Machine.{Machine, IsMachine}
 use Rattle.rela_trans.specs.Runs.{ReachR}
 use Rattle.rela_translate.specs.Checked.{Checked}
+use Rattle.rela_blocks.specs.FlowName.{FlowName, flow_paths}
 use Rattle.rela_blocks.specs.RowBlocks.{symbols_of}
 use Rattle.rela_blocks.specs.Scenes.{scene, lettering_of}
-use Rattle.rela_engine.specs.FlowMachines.{Flow, SceneName, check_name, flow_machines, flow_paths, flow_scenes}
+use Rattle.rela_engine.specs.FlowMachines.{SceneName, check_name, flow_machines, flow_scenes}
 use Rattle.rela_engine.specs.Seen.{IsImageBy, LeadAlike}
 use Rattle.rela_engine.proofs.ComparedPlaces.{check_word}
 use Rattle.rela_engine.proofs.LetterLaws.{Below, covered, state_of_reach, word_for}
@@ -56,7 +57,7 @@ perhaps_r m r reach placed n = record { table = placed.table; is_table = placed.
 pub plain : (m : Scene) (x : PathTerm) (reach : ℕ → List ℕ → Type 0) (n : ℕ) → IsPlacedWhere ⊥ n m x reach → IsPlaced m x reach
 plain m x reach n placed = record { table = placed.table; is_table = placed.is_table }
 
-module _ (check : Checked) (n : ℕ) (blocks : List ℕ) (is : IsPartition blocks) (symbols : length blocks ≡ symbols_of check n) (flow : Flow) where
+module _ (check : Checked) (n : ℕ) (blocks : List ℕ) (is : IsPartition blocks) (symbols : length blocks ≡ symbols_of check n) (flow : FlowName) where
   abbrev m : Scene
   m = scene check n (flow_paths flow)
 
@@ -72,7 +73,7 @@ module _ (check : Checked) (n : ℕ) (blocks : List ℕ) (is : IsPartition block
   relation_placed carried r coarse plain relation fixed made alike =
       let at = check_name check n (Some flow) in
       carried.relations_alike at r (coarse, plain) (blocks, relation) (λ q u v. ((alike q u v).1, (alike q u v).0))
-      (carried.relations (check_name check n None) at r (coarse, plain) (agree check n flow r fixed) (record { table = made.table; is_table = made.placed }))
+      ((carried.relations (check_name check n None) at r (coarse, plain) (agree check n flow r fixed)).0 (record { table = made.table; is_table = made.placed }))
 
   module _ (x : PathTerm) (r : RelTerm) (a : Automaton) (t : Machine) (ok : IsMachine t) (letters : t.letters ≡ block_count blocks)
       (placed : IsPlaced m x (Leads blocks a)) (placed_r : IsPlacedR m r (LeadsR blocks t)) where

@@ -23,9 +23,10 @@ use Rattle.rela_trans.specs.Machine.{Machine}
 use Rattle.rela_translate.specs.Terms.{before_of, after_of}
 use Rattle.rela_translate.specs.Verdict.{Offends, Offending}
 use Rattle.rela_translate.specs.declared.body.Core.{Core}
+use Rattle.rela_blocks.specs.FlowName.{FlowName, flow_paths}
 use Rattle.rela_blocks.specs.RowBlocks.{symbols_of}
 use Rattle.rela_engine.specs.Compilation.{Compilation, Relations, AreRelations}
-use Rattle.rela_engine.specs.FlowMachines.{Flow, SceneName, check_name, flow_machines, flow_paths, flow_scenes}
+use Rattle.rela_engine.specs.FlowMachines.{SceneName, check_name, flow_machines, flow_scenes}
 use Rattle.rela_engine.specs.RowOf.{IsLast, MayBeOpen, relation_of}
 use Rattle.rela_blocks.specs.Scenes.{scene, arrivals_of, before_image, after_image}
 use Rattle.rela_engine.specs.Seen.{AreSides, ImagePasses, KeepPlaces, LeadAlike}
@@ -45,7 +46,7 @@ InImage = (at : SceneName) (k : ℕ) (x : PathTerm) (r : RelTerm) → ReachedIns
 module _ (before_fixed : (n : ℕ) (body : Core) → IsFixedR (before_of n body)) (after_fixed : (n : ℕ) (body : Core) → IsFixedR (after_of n body))
     (carried : CarriedTables flow_machines) (built : BuiltTerms flow_machines)
     (c : Compilation) (relations : Relations) (are : AreRelations c relations) (blocks : List ℕ) (is : IsPartition blocks)
-    (symbols : length blocks ≡ symbols_of c.check c.locations) (f : Flow) where
+    (symbols : length blocks ≡ symbols_of c.check c.locations) (f : FlowName) where
   abbrev flow : Paths
   flow = flow_paths f
 

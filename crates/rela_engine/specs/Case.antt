@@ -10,9 +10,9 @@ use Rattle.rela_snapshot.specs.PairsLocated.{IsPairLocated}
 use Rattle.rela_trans.specs.Machine.{Machine}
 use Rattle.rela_trans.specs.Runs.{Relates}
 use Rattle.rela_engine.specs.Compilation.{AreRelations}
-use Rattle.rela_engine.specs.FlowMachines.{Flow}
 use Rattle.rela_engine.specs.LetterImages.{AreParents, IsReadOver}
 use Rattle.rela_engine.specs.RowOf.{MayBeOpen, RowOf}
+use Rattle.rela_blocks.specs.FlowName.{FlowName}
 use Rattle.rela_blocks.specs.Scenes.{paths_of}
 use Rattle.rela_engine.specs.Seen.{AreFiner}
 use Rattle.rela_engine.specs.declared.block_paths.BlockPaths.{BlockPaths}
@@ -28,7 +28,7 @@ pub record IsCase (case : Case) : Type 0 where
       case.compiled.now.check.level case.pair.now.before case.pair.now.after case.blocks.now
 
 -- the flow, at the check's level
-abbrev pub flow_of : Case → Flow
+abbrev pub flow_of : Case → FlowName
 flow_of case = record {
   level = case.compiled.now.check.level;
   names = case.alphabet.now;

@@ -1,5 +1,5 @@
-//! What the laws of terms say of the rows of flows. Each law is a function that does nothing, and its
-//! contract is the law.
+//! What the laws of terms say of the rows of flows. Each law is a function that only calls other laws,
+//! and its contract is the law.
 ghost use Rattle.std.specs.Prelude.{◌≡◌, ℕ, ◌+◌, List, length};
 ghost use Rattle.rela_compare.specs.Comparison.{ReachPairsBefore};
 ghost use Rattle.rela_labels.specs.Partition.{IsPartition};
@@ -9,9 +9,10 @@ ghost use Rattle.rela_report.specs.declared.rows.Row.TheVariants.{Undecided};
 ghost use Rattle.rela_report.specs.declared.rows.Side.TheVariants.{Before, After};
 ghost use Rattle.rela_trans.specs.Machine.{Machine};
 ghost use Rattle.rela_translate.specs.Verdict.{Offends};
+ghost use Rattle.rela_blocks.specs.FlowName.{FlowName, flow_paths};
 ghost use Rattle.rela_blocks.specs.RowBlocks.{symbols_of};
 ghost use Rattle.rela_engine.specs.Compilation.{AreRelations, Compilation, MustPassLimit, PassesLimit, Relations};
-ghost use Rattle.rela_engine.specs.FlowMachines.{Flow, flow_machines, flow_paths, flow_scenes, flow_settings};
+ghost use Rattle.rela_engine.specs.FlowMachines.{flow_machines, flow_scenes, flow_settings};
 ghost use Rattle.rela_engine.specs.Reading.{Realises};
 ghost use Rattle.rela_engine.specs.RowOf.{MayBeOpen, MustBeOpen, RowOf, relation_of};
 ghost use Rattle.rela_engine.specs.Seen.{AreSides, ImagePasses, KeepPlaces};
@@ -39,12 +40,12 @@ impl Machinery for Flows {
     ghost machines = { flow_machines };
 }
 
-/// Where the relations of a check pass the limit, each of its rows may be left open; where no complement
-/// in them has to pass it, no row has to be.
+/// Where the relations of a check pass the limit, each of its rows may be left open; where no
+/// complement in them has to pass it, no row has to be.
 pub(crate) fn relations_tell_of_open_rows()
-    ensures missing { (c : Compilation) → PassesLimit c → (f : Flow) →
+    ensures missing { (c : Compilation) → PassesLimit c → (f : FlowName) →
         RowOf c.check c.locations (flow_paths f) c.states Undecided }
-    ensures there { (c : Compilation) → ¬ MustPassLimit c → (f : Flow) →
+    ensures there { (c : Compilation) → ¬ MustPassLimit c → (f : FlowName) →
         ¬ MustBeOpen c.check c.locations (flow_paths f) c.states }
 {
     terms_name_no_paths();
@@ -69,14 +70,14 @@ pub(crate) fn plain_relations_realise()
 pub(crate) fn plain_images_tell_of_open_rows()
     ensures before { (c : Compilation) (relations : Relations) → AreRelations c relations →
         (blocks : List ℕ) → IsPartition blocks → length blocks ≡ symbols_of c.check c.locations →
-        (f : Flow) → ImagePasses c.blocks blocks f.level f.names f.before
+        (f : FlowName) → ImagePasses c.blocks blocks f.level f.names f.before
         relations.before.plain c.states → MayBeOpen c.check c.locations (flow_paths f) c.states }
     ensures after { (c : Compilation) (relations : Relations) → AreRelations c relations →
         (blocks : List ℕ) → IsPartition blocks → length blocks ≡ symbols_of c.check c.locations →
-        (f : Flow) → ImagePasses c.blocks blocks f.level f.names f.after
+        (f : FlowName) → ImagePasses c.blocks blocks f.level f.names f.after
         relations.after.plain c.states → MayBeOpen c.check c.locations (flow_paths f) c.states }
     ensures both { (c : Compilation) (relations : Relations) → AreRelations c relations →
-        (blocks : List ℕ) → length blocks ≡ symbols_of c.check c.locations → (f : Flow)
+        (blocks : List ℕ) → length blocks ≡ symbols_of c.check c.locations → (f : FlowName)
         (pre_paths : Automaton) (pre_relation : Machine) (pre_image : Automaton)
         (post_paths : Automaton) (post_relation : Machine) (post_image : Automaton) →
         AreSides blocks c.check c.locations (flow_paths f).pre (flow_paths f).post

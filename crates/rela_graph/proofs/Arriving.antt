@@ -1,14 +1,11 @@
 -- At which nodes the walks with a base word end.
-use Rattle.std.proofs.Common.{◌≡◌, ◌≢◌, ℕ, suc, zero, ◌↔◌, List, [], ◌∷◌, ◌++◌, length, map, refl, sym, ap, subst, ◌∙◌, inl, inr, arith, length-append}
+use Rattle.std.proofs.Common.{◌≡◌, ◌≢◌, ℕ, ◌↔◌, List, [], ◌∷◌, ◌++◌, map, sym, ap, ◌∙◌}
 use Rattle.std.specs.Prelude.{slice_index}
-use Rattle.std.specs.List.{Contains}
-use Rattle.std.proofs.lemmas.Bool.{cases_eq}
-use Rattle.std.proofs.lemmas.List.{map_push, same_from_push}
+use Rattle.std.proofs.lemmas.List.{map_push}
 use Rattle.rela_graph.specs.Topology.{Topology, HasEdge}
-use Rattle.rela_graph.specs.Walk.{IsWalk}
 use Rattle.rela_graph.specs.Paths.{squeeze, base, Arrives}
 use Rattle.rela_graph.proofs.Squeezing.{squeeze_same, squeeze_other}
-use Rattle.rela_graph.proofs.Walking.{ending, walk_on, walk_back}
+use Rattle.rela_graph.proofs.Walking.{walk_on}
 
 module _ (g : Topology) (places : List ℕ) where
   pub base_same : (xs : List ℕ) (u n : ℕ) → slice_index places u ≡ slice_index places n → base places ((xs ++ u ∷ []) ++ n ∷ []) ≡ base places (xs ++ u ∷ [])

@@ -1,13 +1,10 @@
 -- Edges and walks lead to nodes.
-use Rattle.std.proofs.Common.{◌≡◌, ◌≢◌, ℕ, ◌+◌, ◌<◌, ◌↔◌, ◌⊎◌, List, [], ◌∷◌, ◌++◌, length, refl, sym, ap, subst, ◌∙◌, inl, inr, arith, length-append}
+use Rattle.std.proofs.Common.{ℕ, ◌+◌, ◌<◌, List, [], ◌∷◌, ◌++◌, length, subst, arith}
 use Rattle.std.specs.Prelude.{slice_index}
-use Rattle.std.specs.List.{All, Any, Contains}
-use Rattle.std.proofs.lemmas.List.{append-nil, same_from_push, get_or-map}
+use Rattle.std.specs.List.{All}
 use Rattle.std.proofs.lemmas.List.Elements.{All-contains}
-use Rattle.rela_names.specs.declared.level.Level.{Level}
-use Rattle.rela_graph.specs.Topology.{Topology, IsTopology, JoinsNodes, HasEdge, IsDelivered, symbol_at}
-use Rattle.rela_graph.specs.Walk.{IsWalk, IsCyclic, IsDropNode}
-use Rattle.rela_graph.specs.Paths.{Paths, Arrives, locations}
+use Rattle.rela_graph.specs.Topology.{Topology, IsTopology, JoinsNodes, HasEdge}
+use Rattle.rela_graph.specs.Walk.{IsWalk}
 use Rattle.rela_graph.specs.declared.node.Node.{Node}
 use Rattle.rela_graph.proofs.Flagged.{flag_within}
 use Rattle.rela_graph.proofs.Walking.{ending, walk_back}

@@ -1,5 +1,5 @@
 //! Nodes that are claimed for roots.
-ghost use Rattle.std.specs.Prelude.{◌≡◌, ℕ, ◌<◌, ◌≤◌, ◌↔◌, [], IsTrue, IfOk, OnOk, Contains, length, slice_index};
+ghost use Rattle.std.specs.Prelude.{◌≡◌, ℕ, ◌<◌, ◌≤◌, [], IsTrue, IfOk, OnOk, Contains, length, slice_index};
 ghost use Rattle.std.specs.List.{All};
 ghost use Rattle.rela_graph.specs.Component.{SameFrame, ClaimsNode};
 

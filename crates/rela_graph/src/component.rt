@@ -2,7 +2,7 @@
 ghost use Rattle.std.specs.Prelude.{◌≡◌, ℕ, ◌<◌, ◌≤◌, IsTrue, IfOk, IfSome, OnOk, Contains, length, slice_index};
 ghost use Rattle.std.specs.Bool.{OnTrue};
 ghost use Rattle.std.specs.List.{All};
-ghost use Rattle.rela_graph.specs.Component.{AreComponents, SameFrame, AreBehind, AreAhead, root_of};
+ghost use Rattle.rela_graph.specs.Component.{AreComponents, SameFrame, AreBehind, AreAhead};
 ghost use Rattle.rela_graph.specs.Incoming.{IsChained};
 
 use crate::claimed::Claimed;

@@ -1,5 +1,5 @@
 //! Symbols in ascending order, each once.
-ghost use Rattle.std.specs.Prelude.{◌≡◌, ℕ, ◌^◌, ◌<◌, ◌≤◌, ◌↔◌, ◌⊎◌, All, Contains, IfOk, MatchOption, length, slice_index};
+ghost use Rattle.std.specs.Prelude.{◌≡◌, ℕ, ◌^◌, ◌<◌, ◌↔◌, ◌⊎◌, All, Contains, IfOk, MatchOption, length, slice_index};
 ghost use Rattle.rela_labels.specs.Apart.{IsAscending, ArePlaces};
 
 use rela_names::Symbol;

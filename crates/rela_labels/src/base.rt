@@ -1,7 +1,7 @@
 //! A partition that several others share, with what it takes to find the symbols of a block.
-ghost use Rattle.std.specs.Prelude.{◌≡◌, ℕ, ◌^◌, ◌<◌, ◌≤◌, None, All, IfOk, length, slice_index};
+ghost use Rattle.std.specs.Prelude.{◌≡◌, ℕ, ◌^◌, ◌<◌, None, All, IfOk, length, slice_index};
 ghost use Rattle.std.specs.List.{slice_index_or};
-ghost use Rattle.rela_labels.specs.Apart.{IsAscending, IsNext, IsLinked, IsLeastLeft, IsLead, IsLayered};
+ghost use Rattle.rela_labels.specs.Apart.{IsAscending, IsLinked, IsLeastLeft, IsLead, IsLayered};
 ghost use Rattle.rela_labels.specs.Partition.{IsNumbered};
 
 use crate::ascending::{ascending_union, place_in, places_in};

@@ -1,5 +1,5 @@
 //! The letters of a set of any size: the bits of one word where the size is at most 64.
-ghost use Rattle.std.specs.Prelude.{◌≡◌, ℕ, ◌^◌, ◌<◌, ◌≤◌, ◌↔◌, ◌==◌, ◌&&◌, ◌||◌, true, false, not, IsTrue, IfOk, IfErr, OnOk, IfNone, IfSome};
+ghost use Rattle.std.specs.Prelude.{◌≡◌, ℕ, ◌<◌, ◌↔◌, ◌==◌, ◌&&◌, ◌||◌, true, false, not, IsTrue, IfOk, IfErr, OnOk, IfNone, IfSome};
 ghost use Rattle.rela_labels.specs.WideSets.{has_letter, AreAlike, HaveFewWords, IsSized};
 
 use crate::wide_members::Members;

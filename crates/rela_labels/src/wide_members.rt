@@ -1,5 +1,5 @@
 //! The letters of a set that are no single word, in the form that takes the least memory.
-ghost use Rattle.std.specs.Prelude.{◌≡◌, ◌≢◌, ℕ, ◌^◌, ◌<◌, ◌≤◌, ◌↔◌, ◌==◌, ◌&&◌, ◌||◌, true, false, not, IsTrue, length, IfOk, IfErr, OnOk, IfNone, IfSome};
+ghost use Rattle.std.specs.Prelude.{◌≡◌, ℕ, ◌^◌, ◌<◌, ◌↔◌, ◌==◌, ◌&&◌, ◌||◌, true, false, not, IsTrue, IfOk, IfErr, OnOk, IfNone, IfSome};
 ghost use Rattle.rela_labels.specs.WideSets.{holds, AreFew, HaveOneSize, IsHeld};
 ghost use Rattle.rela_labels.specs.Words.{bit_of, IsWide};
 

@@ -1,5 +1,4 @@
 //! A set of letters of any size.
-ghost use Rattle.std.specs.Prelude.{◌≡◌, IfOk};
 
 use crate::label_set::LabelSet;
 use crate::letters::Letters;

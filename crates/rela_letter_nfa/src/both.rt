@@ -1,5 +1,5 @@
 //! Two automata as one.
-ghost use Rattle.std.specs.Prelude.{◌≡◌, ℕ, ◌+◌, ◌<◌, ◌≤◌, ◌^◌, ◌++◌, ◌↔◌, None, OnOk, Contains, IsTrue, length, map};
+ghost use Rattle.std.specs.Prelude.{◌≡◌, ℕ, ◌+◌, ◌<◌, ◌≤◌, ◌^◌, ◌++◌, ◌↔◌, None, OnOk, Contains, IsTrue, map};
 ghost use Rattle.std.specs.List.{All};
 ghost use Rattle.rela_letter_nfa.specs.Differences.{IsSought};
 ghost use Rattle.rela_letter_nfa.specs.LetterAutomaton.{IsFinal, edges_of, silents_of, states};

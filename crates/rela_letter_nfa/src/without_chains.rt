@@ -1,7 +1,7 @@
 //! Automata without silent chains.
 ghost use Rattle.std.specs.Prelude.{◌≡◌, ℕ, ◌<◌, ◌↔◌, ◌++◌, [], false, List, Option, None, IfOk, OnOk, length, map, slice_index};
 ghost use Rattle.std.specs.List.{All, flat_map, range_with_len};
-ghost use Rattle.rela_letter_nfa.specs.Chains.{IsDirect, IsEnd, direct_edges, direct_silents, is_single, kept_silent, moved, pulled_edges};
+ghost use Rattle.rela_letter_nfa.specs.Chains.{IsDirect, IsEnd, direct_edges, direct_silents, is_single, moved, pulled_edges};
 ghost use Rattle.rela_letter_nfa.specs.LetterAutomaton.{IsLetterAutomaton, silents_of, states};
 ghost use Rattle.rela_letter_nfa.specs.Runs.{Accepts, HasStep};
 

@@ -1,6 +1,6 @@
 //! For two levels, which locations of the one lie in which of the other.
 
-ghost use Rattle.std.specs.Prelude.{◌≡◌, ◌<◌, ◌≤◌, ◌==◌, [], length, map, filter, replicate, slice_index, IfOk};
+ghost use Rattle.std.specs.Prelude.{◌≡◌, ◌<◌, ◌≤◌, [], length, map, replicate, slice_index, IfOk};
 ghost use Rattle.std.specs.List.{All, range_with_len};
 ghost use Rattle.rela_locations.specs.Tables.{with_entries, places_of as places_in};
 

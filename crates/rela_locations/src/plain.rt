@@ -24,7 +24,8 @@ use rela_tokens::{
 };
 use std::alloc::Global;
 
-/// The groups of a plain file, and the names of all that is in them. Time: O(n log n) in the file; space: linear in what it lists.
+/// The groups of a plain file, and the names of all that is in them. Time: O(n log n) in the file;
+/// space: linear in what it lists.
 ///
 /// # Errors
 ///

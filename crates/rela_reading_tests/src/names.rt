@@ -1,7 +1,6 @@
 //! Names, alphabets and words.
 
-ghost use Rattle.std.specs.Prelude.{◌≡◌, ◌++◌, [], ◌∷◌, codes, IfOk, length};
-ghost use Rattle.rela_names.specs.Alphabet.{IsAlphabet};
+ghost use Rattle.std.specs.Prelude.{◌≡◌, [], IfOk, length};
 
 use rela_names::{Alphabet, Boxed, List, Name, NameError, Word};
 use std::alloc::{AllocError, Global};

@@ -1,5 +1,5 @@
 //! The steps that states may take, silently at first.
-ghost use Rattle.std.specs.Prelude.{◌≡◌, ℕ, ◌<◌, ◌⊎◌, false, IsTrue, IfOk, IfSome, Some, None, Contains, length, slice_index_or};
+ghost use Rattle.std.specs.Prelude.{ℕ, ◌<◌, ◌⊎◌, false, IsTrue, IfOk, IfSome, Some, None, Contains, length, slice_index_or};
 ghost use Rattle.std.specs.List.{All};
 ghost use Rattle.rela_reduce.specs.Numbered.{IsPlain};
 ghost use Rattle.rela_reduce.specs.declared.arrow.Step.{Step as StepOf};

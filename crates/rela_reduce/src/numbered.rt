@@ -4,7 +4,7 @@ ghost use Rattle.std.specs.List.{All};
 ghost use Rattle.std.specs.Option.{ForSome};
 ghost use Rattle.rela_nfa.specs.Automaton.{states};
 ghost use Rattle.rela_nfa.specs.Stored.{move_of};
-ghost use Rattle.rela_reduce.specs.Numbered.{IsArrow, IsPlain, automaton_of, edges_by, labelled};
+ghost use Rattle.rela_reduce.specs.Numbered.{IsPlain, automaton_of, edges_by, labelled};
 ghost use Rattle.rela_reduce.specs.Stored.{lists_of, plain};
 
 use crate::arrow::Arrow;

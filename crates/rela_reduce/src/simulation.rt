@@ -1,5 +1,5 @@
 //! Which states simulate which others.
-ghost use Rattle.std.specs.Prelude.{◌≡◌, ℕ, ◌*◌, ◌/◌, ◌<◌, [], false, IsTrue, IfOk, Contains, length, slice_index_or};
+ghost use Rattle.std.specs.Prelude.{◌≡◌, ℕ, ◌*◌, ◌/◌, ◌<◌, [], false, IsTrue, IfOk, length, slice_index_or};
 ghost use Rattle.rela_reduce.specs.Bits.{HasBit};
 ghost use Rattle.rela_reduce.specs.Numbered.{IsPlain};
 ghost use Rattle.rela_reduce.specs.Simulation.{GoesAlong, GoesByRows, IsInRow};

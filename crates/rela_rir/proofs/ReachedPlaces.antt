@@ -7,7 +7,7 @@ use Rattle.rela_names.specs.Shortlex.{IsBefore}
 use Rattle.rela_rir.specs.Meaning.{IsPathWord}
 use Rattle.rela_rir.specs.Places.{Place, Scene, At, AtR, Apart, ApartR}
 use Rattle.rela_rir.specs.Limit.{IsCheckWord, IsReachedR, Reached, ReachedR, ToldByPlace, ReachedPair}
-use Rattle.rela_rir.specs.Tables.{IsTable, OnPairs, IsPlaced, IsPlacedR, IsPlacedWhere, IsPlacedWhereR, IsStateReached, IsStateReachedR, ReachTogether, ReachFromSource, ReachByMiddle, ManyStates, ToldByState, ManyWords}
+use Rattle.rela_rir.specs.Tables.{IsTable, IsExact, OnPairs, IsPlaced, IsPlacedR, IsPlacedWhere, IsPlacedWhereR, IsStateReached, IsStateReachedR, ReachTogether, ReachFromSource, ReachByMiddle, ManyStates, ToldByState, ManyWords}
 use Rattle.rela_rir.specs.Agreement.{AgreeOn, AgreeOnR}
 use Rattle.rela_rir.proofs.PlaceForms as forms
 use Rattle.rela_rir.proofs.ScenesAlike.{carries, carries_r}
@@ -88,32 +88,42 @@ module _ (m : Scene) where
     told w z (inr by) = inr (told_by_place second.is_table by.0 w z by.1)
 
 module _ (m n : Scene) where
-  pub placed : (x : PathTerm) (reach : ℕ → List ℕ → Type 0) → AgreeOn m n x → IsPlaced m x reach → IsPlaced n x reach
-  placed x reach agree is =
+  table_there : (x : PathTerm) (reach : ℕ → List ℕ → Type 0) → AgreeOn m n x → (table : Place → Option ℕ) → IsTable reach (At m x) (Apart m x) table → IsTable reach (At n x) (Apart n x) table
+  table_there x reach agree table is =
       let both = carries m n agree.symbols.setting x agree.paths in
-      record { table = is.table; is_table = table_of_same (λ q w. same) (λ p w. (both.0.places p w, both.1.places p w)) both.0.apart is.is_table }
+      table_of_same (λ q w. same) (λ p w. (both.0.places p w, both.1.places p w)) both.0.apart is
+
+  table_there_r : (r : RelTerm) (reach : ℕ → List ℕ → List ℕ → Type 0) → AgreeOnR m n r → (table : Place → Option ℕ) →
+      IsTable (OnPairs reach) (OnPairs (AtR m r)) (ApartR m r) table → IsTable (OnPairs reach) (OnPairs (AtR n r)) (ApartR n r) table
+  table_there_r r reach agree table is =
+      let both = carries_r m n agree.symbols.setting r agree.paths in
+      table_of_same (λ q x. same) (λ p x. (both.0.places p x.0 x.1, both.1.places p x.0 x.1)) both.0.apart is
+
+  pub placed : (x : PathTerm) (reach : ℕ → List ℕ → Type 0) → AgreeOn m n x → IsPlaced m x reach → IsPlaced n x reach
+  placed x reach agree is = record { table = is.table; is_table = table_there x reach agree is.table is.is_table }
 
   pub placed_r : (r : RelTerm) (reach : ℕ → List ℕ → List ℕ → Type 0) → AgreeOnR m n r → IsPlacedR m r reach → IsPlacedR n r reach
-  placed_r r reach agree is =
+  placed_r r reach agree is = record { table = is.table; is_table = table_there_r r reach agree is.table is.is_table }
+
+  pub exact : (x : PathTerm) (reach : ℕ → List ℕ → Type 0) → AgreeOn m n x → (count : ℕ) (table : Place → Option ℕ) → IsExact count reach (At m x) table → IsExact count reach (At n x) table
+  exact x reach agree count table is =
+      let both = carries m n agree.symbols.setting x agree.paths in
+      exact_of_same (λ q w. same) (λ p w. (both.0.places p w, both.1.places p w)) is
+
+  pub exact_r : (r : RelTerm) (reach : ℕ → List ℕ → List ℕ → Type 0) → AgreeOnR m n r → (count : ℕ) (table : Place → Option ℕ) →
+      IsExact count (OnPairs reach) (OnPairs (AtR m r)) table → IsExact count (OnPairs reach) (OnPairs (AtR n r)) table
+  exact_r r reach agree count table is =
       let both = carries_r m n agree.symbols.setting r agree.paths in
-      record { table = is.table; is_table = table_of_same (λ q x. same) (λ p x. (both.0.places p x.0 x.1, both.1.places p x.0 x.1)) both.0.apart is.is_table }
+      exact_of_same (λ q x. same) (λ p x. (both.0.places p x.0 x.1, both.1.places p x.0 x.1)) is
 
   pub counted : (x : PathTerm) (reach : ℕ → List ℕ → Type 0) (E : Type 0) (count : ℕ) → AgreeOn m n x → IsPlacedWhere E count m x reach → IsPlacedWhere E count n x reach
   counted x reach E count agree is =
-      let both = carries m n agree.symbols.setting x agree.paths in record {
-        table = is.table;
-        is_table = table_of_same (λ q w. same) (λ p w. (both.0.places p w, both.1.places p w)) both.0.apart is.is_table;
-        exact = λ e. exact_of_same (λ q w. same) (λ p w. (both.0.places p w, both.1.places p w)) (is.exact e);
-      }
+      record { table = is.table; is_table = table_there x reach agree is.table is.is_table; exact = λ e. exact x reach agree count is.table (is.exact e) }
 
   pub counted_r : (r : RelTerm) (reach : ℕ → List ℕ → List ℕ → Type 0) (E : Type 0) (count : ℕ) → AgreeOnR m n r →
       IsPlacedWhereR E count m r reach → IsPlacedWhereR E count n r reach
   counted_r r reach E count agree is =
-      let both = carries_r m n agree.symbols.setting r agree.paths in record {
-        table = is.table;
-        is_table = table_of_same (λ q x. same) (λ p x. (both.0.places p x.0 x.1, both.1.places p x.0 x.1)) both.0.apart is.is_table;
-        exact = λ e. exact_of_same (λ q x. same) (λ p x. (both.0.places p x.0 x.1, both.1.places p x.0 x.1)) (is.exact e);
-      }
+      record { table = is.table; is_table = table_there_r r reach agree is.table is.is_table; exact = λ e. exact_r r reach agree count is.table (is.exact e) }
 
 pub placed_alike : (m : Scene) (x : PathTerm) (reach other : ℕ → List ℕ → Type 0) → ((q : ℕ) (w : List ℕ) → reach q w ↔ other q w) → IsPlaced m x reach → IsPlaced m x other
 placed_alike m x reach other alike is = record { table = is.table; is_table = table_of_same alike (λ p w. same) (λ p q told. told) is.is_table }

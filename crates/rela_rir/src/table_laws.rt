@@ -13,9 +13,8 @@ pub trait Machinery {
     ghost machines: { Machines };
 }
 
-/// States that stand for places of a term do so in each scene that agrees on what the term names,
-/// by a table that is exact where it was; and so do states that are reached by the same words, or
-/// pairs of words.
+/// States stand for places of a term in both of two scenes that agree on what the term names, by the
+/// same tables, or in neither; and so do states that are reached by the same words, or pairs of words.
 pub fn tables_carry_over<M: Machinery>()
     ensures { CarriedTables M.machines }
 {}

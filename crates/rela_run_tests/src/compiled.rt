@@ -1,6 +1,6 @@
 //! Checks compiled over the devices of a small network.
 
-ghost use Rattle.std.specs.Prelude.{◌<◌, ◌≤◌};
+ghost use Rattle.std.specs.Prelude.{◌<◌};
 ghost use Rattle.std.specs.Bool.{OnTrue};
 ghost use Rattle.std.specs.List.{All};
 ghost use Rattle.rela_names.specs.Alphabet.{path_symbols};

@@ -1,6 +1,6 @@
 //! Names in the order in which they came, found by a hash.
 
-ghost use Rattle.std.specs.Prelude.{◌≡◌, ◌<◌, ◌≤◌, [], length, not, OnErr, IfOk, OnOk, IfSome};
+ghost use Rattle.std.specs.Prelude.{◌≡◌, ◌<◌, ◌≤◌, [], length, not, IfOk, OnOk, IfSome};
 ghost use Rattle.rela_snapshot.specs.Names.{AreDistinct, has_name, place_of, with_name};
 
 use indexmap::IndexSet;

@@ -1,5 +1,5 @@
 //! The states from which moves lead on to a final one, which the literature calls coaccessible.
-ghost use Rattle.std.specs.Prelude.{◌≡◌, ◌⊎◌, ℕ, ◌<◌, ◌↔◌, List, [], false, IsTrue, IfOk, length, map, slice_index_or};
+ghost use Rattle.std.specs.Prelude.{◌≡◌, ◌⊎◌, ℕ, ◌<◌, ◌↔◌, [], false, IsTrue, IfOk, length, map, slice_index_or};
 ghost use Rattle.std.specs.List.{All, Contains};
 ghost use Rattle.rela_nfa.specs.StateSet.{AreFlagged, Inserts, Adds};
 ghost use Rattle.rela_pairs.specs.Reachable.{Reachable};

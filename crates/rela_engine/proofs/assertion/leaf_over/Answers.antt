@@ -6,7 +6,7 @@ use Rattle.rela_build.specs.PathSets.{scene_of}
 use Rattle.rela_rir.specs.Assertions.{MayBeLeftOpen}
 use Rattle.rela_rir.specs.declared.term.PathTerm.{PathTerm}
 use Rattle.rela_engine.specs.Compared.{TellsVerdict}
-use Rattle.rela_engine.specs.FlowMachines.{Flow, flow_paths}
+use Rattle.rela_blocks.specs.FlowName.{FlowName, flow_paths}
 use Rattle.rela_blocks.specs.Scenes.{paths_of}
 use Rattle.rela_engine.proofs.RightLeaves.{exit, open_by_first, open_by_pairs, open_by_second, right, same_letters, stopped_by_pairs, untold, verdict_below}
 use Rattle.rela_engine.proofs.assertion.leaf_over.Goals as goal
@@ -71,7 +71,7 @@ returns-in_err-second-clause-open c =
 pub returns-in_err-verdict-clause-open : goal.returns-in_err-verdict-clause-open
 returns-in_err-verdict-clause-open c =
     let l = c.args.letters.now in
-    let f : Flow = record { level = c.args.paths.now.level; names = c.args.paths.now.alphabet.now; before = c.args.paths.now.before.now; after = c.args.paths.now.after.now } in
+    let f : FlowName = record { level = c.args.paths.now.level; names = c.args.paths.now.alphabet.now; before = c.args.paths.now.before.now; after = c.args.paths.now.after.now } in
     let flow = flow_paths f in
     let a = c.in_ok-first.first in
     let b = c.in_ok-second.second in

@@ -1,4 +1,4 @@
-use Rattle.std.proofs.Common.{◌∙◌, ℕ, length, refl, ap, sym, subst}
+use Rattle.std.proofs.Common.{ℕ, length, refl, ap, sym, subst}
 use Rattle.std.proofs.lemmas.Result.{IfOk-weaker}
 use Rattle.rela_build.specs.Reading.{read_by}
 use Rattle.rela_report.specs.declared.rows.Side.{Side}
