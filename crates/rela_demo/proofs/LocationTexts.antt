@@ -7,7 +7,7 @@ use Rattle.std.proofs.lemmas.Fmt.{decimal_digit}
 use Rattle.std.proofs.lemmas.List.{length-append}
 use Rattle.std.proofs.lemmas.List.Elements.{All-cons, All-head, All-nil, All-tail, All-weaker}
 use Rattle.json.specs.Print.{escape_byte}
-use Rattle.serde_json.specs.Data.{Data, array, string}
+use Rattle.serde_json.specs.Data.{Data, array, member, no_members, string}
 use Rattle.serde_json.specs.View.{items_of}
 use Rattle.serde_json.specs.Written.{compact_text}
 use Rattle.rela_json.specs.declared.error.LoadError.TheVariants.{NotJson}
@@ -17,14 +17,14 @@ use Rattle.rela_locations.specs.Names.{has_name, with_name}
 use Rattle.rela_demo.specs.Locations.{device, network}
 use Rattle.rela_demo.specs.Names.{Label, label_a, label_b, device_name, interface_name, labels_from}
 use Rattle.rela_demo.specs.Pieces.{array_text, commas, device_text, locations_text}
-use Rattle.rela_demo.specs.Text.{device_data, group_data, list_data, locations_data, node_data, number_data}
+use Rattle.rela_demo.specs.Text.{device_data, group_data, list_data, locations_data, node_data, number_data, written_group, written_locations}
 use Rattle.rela_demo.proofs.Arrays.{array_length, list_is}
 use Rattle.rela_demo.proofs.Below.{length_labels}
 use Rattle.rela_demo.proofs.Entries.{entries_are}
 use Rattle.rela_demo.proofs.LabelNames.{IsLabel, are_labels, names_apart}
 use Rattle.rela_demo.proofs.NameSets.{has_with_name, length_with_name}
 use Rattle.rela_demo.proofs.Plain.{name_escape, name_plain}
-use Rattle.rela_demo.proofs.ReadBack.{IsReadBack, array_back, deeper, list_back, number_back, string_back, text_reading, two_back}
+use Rattle.rela_demo.proofs.ReadBack.{IsReadAs, IsReadBack, array_back, deeper, list_back, number_back, single_as, string_back, text_reading, two_as}
 
 -- ---- names that are new
 
@@ -96,26 +96,32 @@ node_back l is = string_back (interface_name l) (name_plain (interface_name l) i
 device_back : (l : Label) → IsLabel l → IsReadBack 2 (device_data l)
 device_back l is =
     let node : Data = node_data l in
-    two_back 1 (codes "interfaces") (codes "name") (array (items_of (node ∷ []))) (string (device_name l)) refl refl refl
+    let nodes : Data = array (items_of (node ∷ [])) in
+    let name : Data = string (device_name l) in
+    two_as 1 (codes "interfaces") (codes "name") nodes name (member (codes "interfaces") nodes (member (codes "name") name no_members)) refl refl refl
     (array_back 0 (node ∷ []) (All-cons (IsReadBack 0) node [] (node_back l is) (All-nil (IsReadBack 0))))
     (deeper 0 1 (string (device_name l)) (omega arith) (string_back (device_name l) (name_plain (device_name l) is.device)))
 
-group_back : (labels : List Label) → All IsLabel labels → IsReadBack 4 (group_data labels)
+group_back : (labels : List Label) → All IsLabel labels → IsReadAs 4 (written_group labels) (group_data labels)
 group_back labels are =
-    let name : List ℕ = codes "all-devices" in
-    two_back 3 (codes "devices") (codes "name") (list_data device_data labels) (string name) refl refl refl
+    let text : List ℕ = codes "all-devices" in
+    let name : Data = string text in
+    let devices : Data = list_data device_data labels in
+    two_as 3 (codes "name") (codes "devices") name devices (member (codes "devices") devices (member (codes "name") name no_members)) refl refl refl
+    (deeper 0 3 name (omega arith) (string_back text (name_plain text refl)))
     (list_back 2 device_data labels (All-weaker IsLabel (λ l. IsReadBack 2 (device_data l)) device_back labels are))
-    (deeper 0 3 (string name) (omega arith) (string_back name (name_plain name refl)))
 
-locations_back : (n : ℕ) → IsReadBack 6 (locations_data n)
+locations_back : (n : ℕ) → IsReadAs 6 (written_locations n) (locations_data n)
 locations_back n =
-    let group : Data = group_data (labels_from 1 n) in
-    two_back 5 (codes "groups") (codes "version") (array (items_of (group ∷ []))) (number_data 1) refl refl refl
-    (array_back 4 (group ∷ []) (All-cons (IsReadBack 4) group [] (group_back (labels_from 1 n) (are_labels 1 n)) (All-nil (IsReadBack 4))))
+    let labels : List Label = labels_from 1 n in
+    let written : Data = array (items_of (written_group labels ∷ [])) in
+    let groups : Data = array (items_of (group_data labels ∷ [])) in
+    two_as 5 (codes "version") (codes "groups") (number_data 1) written (member (codes "groups") groups (member (codes "version") (number_data 1) no_members)) refl refl refl
     (deeper 0 5 (number_data 1) (omega arith) (number_back 1 (omega arith)))
+    (single_as 4 (written_group labels) (group_data labels) (group_back labels (are_labels 1 n)))
 
-data_loads : (n : ℕ) → n ≤ 200 → Load (compact_text (locations_data n)) ≡ Ok (network n)
-data_loads n few = ap (λ (o : Option Data). ok_or NotJson o >>= load_file) (text_reading 6 (locations_data n) (omega arith) (locations_back n)) ∙ file_loads n few
+data_loads : (n : ℕ) → n ≤ 200 → Load (compact_text (written_locations n)) ≡ Ok (network n)
+data_loads n few = ap (λ (o : Option Data). ok_or NotJson o >>= load_file) (text_reading 6 (written_locations n) (omega arith) (locations_back n)) ∙ file_loads n few
 
 -- ---- the pieces
 
@@ -140,17 +146,18 @@ devices_written (l ∷ labels) are = ap₂ (λ (t : List ℕ) (ts : List (List �
 array_written : (labels : List Label) → All IsLabel labels → array_text device_text labels ≡ compact_text (list_data device_data labels)
 array_written labels are = ap (λ (ts : List (List ℕ)). 91 ∷ (commas false ts ++ 93 ∷ [])) (devices_written labels are) ∙ sym (list_is device_data labels)
 
-locations_written : (n : ℕ) → locations_text (labels_from 1 n) ≡ compact_text (locations_data n)
+-- what stands before the devices, where the version is written as `one`
+abbrev head : List ℕ → List ℕ → List ℕ
+head one s = 123 ∷ 34 ∷ (codes "version" ++ 34 ∷ 58 ∷ (one ++ 44 ∷ 34 ∷ (codes "groups" ++ 34 ∷ 58 ∷ 91 ∷ 123 ∷ 34 ∷ (codes "name" ++ 34 ∷ 58 ∷ 34 ∷ (codes "all-devices" ++ 34 ∷ 44 ∷ 34 ∷ (codes "devices" ++ 34 ∷ 58 ∷ s))))))
+
+locations_written : (n : ℕ) → locations_text (labels_from 1 n) ≡ compact_text (written_locations n)
 unfolding escape_byte
 locations_written n =
     let array : List ℕ = compact_text (list_data device_data (labels_from 1 n)) in
-    let head : List ℕ → List ℕ = λ s. 123 ∷ 34 ∷ (codes "groups" ++ 34 ∷ 58 ∷ 91 ∷ 123 ∷ 34 ∷ (codes "devices" ++ 34 ∷ 58 ∷ s)) in
-    let name : List ℕ = 44 ∷ 34 ∷ (codes "name" ++ 34 ∷ 58 ∷ 34 ∷ (codes "all-devices" ++ 34 ∷ 125 ∷ [])) in
-    let version : List ℕ → List ℕ = λ one. 44 ∷ 34 ∷ (codes "version" ++ 34 ∷ 58 ∷ (one ++ 125 ∷ [])) in
-    ap (λ (s : List ℕ). head (s ++ (name ++ 93 ∷ version (49 ∷ [])))) (array_written (labels_from 1 n) (are_labels 1 n))
-    ∙ ap (λ (s : List ℕ). head (array ++ (name ++ 93 ∷ version s))) (sym (decimal_digit 1 (omega arith)))
-    ∙ ap head (sym (append_assoc array name (93 ∷ version (decimal 1))))
-    ∙ ap head (sym (append_assoc (array ++ name) (93 ∷ []) (version (decimal 1))))
+    ap (λ (s : List ℕ). head (49 ∷ []) (s ++ codes "}]}")) (array_written (labels_from 1 n) (are_labels 1 n))
+    ∙ ap (λ (one : List ℕ). head one (array ++ codes "}]}")) (sym (decimal_digit 1 (omega arith)))
+    ∙ ap (head (decimal 1)) (sym (append_assoc array (125 ∷ []) (93 ∷ 125 ∷ [])))
+    ∙ ap (head (decimal 1)) (sym (append_assoc (array ++ 125 ∷ []) (93 ∷ []) (125 ∷ [])))
 
 pub locations_load : (n : ℕ) (text : List ℕ) → n ≤ 200 → text ≡ locations_text (labels_from 1 n) → Load text ≡ Ok (network n)
 locations_load n text few is = ap Load (is ∙ locations_written n) ∙ data_loads n few
@@ -165,4 +172,4 @@ locations_short n text few is =
     let labels : List Label = labels_from 1 n in
     let array : List ℕ = array_text device_text labels in
     let devices : length array ≤ 42 * length labels + 2 = array_length 41 device_text labels (λ k d within. device_length (get_or labels k d)) in
-    omega (arith, few, devices, length_labels 1 n, ap length is, length-append array (codes ",\"name\":\"all-devices\"}],\"version\":1}"))
+    omega (arith, few, devices, length_labels 1 n, ap length is, length-append array (codes "}]}"))

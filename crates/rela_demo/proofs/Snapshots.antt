@@ -6,7 +6,7 @@ use Rattle.std.proofs.lemmas.Fmt.{decimal_digit, length-decimal-le}
 use Rattle.std.proofs.lemmas.List.{length-append, length-map}
 use Rattle.std.proofs.lemmas.List.Elements.{All-cons, All-head, All-nil, All-tail, All-weaker}
 use Rattle.json.specs.Print.{escape, escape_byte}
-use Rattle.serde_json.specs.Data.{Data, array, string}
+use Rattle.serde_json.specs.Data.{Data, array, member, no_members, string}
 use Rattle.serde_json.specs.View.{items_of}
 use Rattle.serde_json.specs.Written.{comma_if, compact_text, items_text}
 use Rattle.rela_graph.specs.declared.node.Link.{Link}
@@ -22,7 +22,7 @@ use Rattle.rela_demo.specs.Layers.{Graph, cut, layered, lost, node_labels}
 use Rattle.rela_demo.specs.Locations.{network}
 use Rattle.rela_demo.specs.Names.{Label, label_a, interface_name, labels_from}
 use Rattle.rela_demo.specs.Pieces.{Writes, array_text, commas, flow_text, node_text, nodes_text, snapshot_text}
-use Rattle.rela_demo.specs.Text.{destination_text, edge_data, edges_data, flow_data, flow_name, flows_data, node_data, nodes_data, number_data, numbers_data, snapshot_data}
+use Rattle.rela_demo.specs.Text.{destination_text, edge_data, edges_data, flow_data, flow_name, flows_data, node_data, nodes_data, number_data, numbers_data, snapshot_data, written_snapshot}
 use Rattle.rela_demo.specs.declared.snapshot.GraphText.{GraphText}
 use Rattle.rela_demo.proofs.Arrays.{array_length, list_is}
 use Rattle.rela_demo.proofs.Below.{AreBelow, IsBelow, IsSmall, Joins, cut_below, cut_small, layered_below, layered_small, length_labels, lost_below, lost_small}
@@ -31,7 +31,7 @@ use Rattle.rela_demo.proofs.Found.{nodes_found}
 use Rattle.rela_demo.proofs.LabelNames.{IsLabel, are_labels, digit_named, first_label}
 use Rattle.rela_demo.proofs.Plain.{IsPlain, name_escape, name_plain, plain_escape}
 use Rattle.rela_demo.proofs.Prefixes.{destination_is}
-use Rattle.rela_demo.proofs.ReadBack.{IsReadBack, array_back, deeper, flow_back, list_back, number_back, string_back, text_reading, two_back}
+use Rattle.rela_demo.proofs.ReadBack.{IsReadAs, IsReadBack, array_back, deeper, flow_back, list_back, number_back, string_back, text_reading, two_as}
 
 -- ---- the nodes
 
@@ -171,28 +171,29 @@ pub record IsWritten (n : ℕ) (graph : Graph) (text : GraphText) : Type 0 where
   pub writes : Writes graph text
 
 snapshot_written : (n : ℕ) (nodes : List ℕ) (first seventh eighth : GraphText) (s e : Graph) → Writes (layered n) first → Writes s seventh → Writes e eighth → nodes ≡ compact_text (nodes_data (node_labels n))
-    → snapshot_text nodes first seventh eighth ≡ compact_text (snapshot_data n (graphs n s e))
+    → snapshot_text nodes first seventh eighth ≡ compact_text (written_snapshot n (graphs n s e))
 unfolding behind escape_byte
 snapshot_written n nodes first seventh eighth s e is_first is_seventh is_eighth is =
-    let head : List ℕ → List ℕ = λ s. 123 ∷ 34 ∷ (codes "flows" ++ 34 ∷ 58 ∷ 91 ∷ s) in
-    let version : List ℕ → List ℕ = λ one. 44 ∷ 34 ∷ (codes "version" ++ 34 ∷ 58 ∷ (one ++ 125 ∷ [])) in
+    let head : List ℕ → List ℕ → List ℕ = λ one s. 123 ∷ 34 ∷ (codes "version" ++ 34 ∷ 58 ∷ (one ++ 44 ∷ 34 ∷ (codes "flows" ++ 34 ∷ 58 ∷ 91 ∷ s))) in
+    let end : List ℕ = 125 ∷ [] in
     let flow : ℕ → Graph → List ℕ = λ k graph. compact_text (flow_data n k graph) in
     let one : (k : ℕ) → k < 10 → flow_text k nodes first ≡ flow k (layered n) = λ k lt. flow_written n k nodes first (layered n) (digit k lt) is_first is in
-    let last : flow_text 8 nodes eighth ++ 93 ∷ version (49 ∷ []) ≡ flow 8 e ++ 93 ∷ version (49 ∷ []) = ap (λ (t : List ℕ). t ++ 93 ∷ version (49 ∷ [])) (flow_written n 8 nodes eighth e (digit 8 (omega arith)) is_eighth is) in
-    ap head (next _ _ _ _ (one 1 (omega arith)) (next _ _ _ _ (one 2 (omega arith)) (next _ _ _ _ (one 3 (omega arith)) (next _ _ _ _ (one 4 (omega arith)) (next _ _ _ _ (one 5 (omega arith)) (next _ _ _ _ (one 6 (omega arith))
+    let last : flow_text 8 nodes eighth ++ 93 ∷ end ≡ flow 8 e ++ 93 ∷ end = ap (λ (t : List ℕ). t ++ 93 ∷ end) (flow_written n 8 nodes eighth e (digit 8 (omega arith)) is_eighth is) in
+    ap (head (49 ∷ [])) (next _ _ _ _ (one 1 (omega arith)) (next _ _ _ _ (one 2 (omega arith)) (next _ _ _ _ (one 3 (omega arith)) (next _ _ _ _ (one 4 (omega arith)) (next _ _ _ _ (one 5 (omega arith)) (next _ _ _ _ (one 6 (omega arith))
     (next _ _ _ _ (flow_written n 7 nodes seventh s (digit 7 (omega arith)) is_seventh is) last)))))))
-    ∙ ap (λ (one : List ℕ). head (behind false (flows_data n 1 (graphs n s e)) (version one))) (sym (decimal_digit 1 (omega arith)))
-    ∙ ap head (sym (items_then false (flows_data n 1 (graphs n s e)) (version (decimal 1))))
+    ∙ ap (λ (one : List ℕ). head one (behind false (flows_data n 1 (graphs n s e)) end)) (sym (decimal_digit 1 (omega arith)))
+    ∙ ap (head (decimal 1)) (sym (items_then false (flows_data n 1 (graphs n s e)) end))
 
 flows_back : (n k : ℕ) (gs : List Graph) → 1 ≤ n → n ≤ 200 → k + length gs ≤ 10 → All (IsKnown n) gs → All (IsReadBack 3) (flows_data n k gs)
 flows_back n k [] some few short are = All-nil (IsReadBack 3)
 flows_back n k (g ∷ gs) some few short are =
     All-cons (IsReadBack 3) (flow_data n k g) (flows_data n (k + 1) gs) (data_back n k g some few (digit k (omega (arith, short))) (All-head (IsKnown n) g gs are)) (flows_back n (k + 1) gs some few (omega (arith, short)) (All-tail (IsKnown n) g gs are))
 
-snapshot_back : (n : ℕ) (gs : List Graph) → 1 ≤ n → n ≤ 200 → 1 + length gs ≤ 10 → All (IsKnown n) gs → IsReadBack 5 (snapshot_data n gs)
+snapshot_back : (n : ℕ) (gs : List Graph) → 1 ≤ n → n ≤ 200 → 1 + length gs ≤ 10 → All (IsKnown n) gs → IsReadAs 5 (written_snapshot n gs) (snapshot_data n gs)
 snapshot_back n gs some few short are =
-    two_back 4 (codes "flows") (codes "version") (array (items_of (flows_data n 1 gs))) (number_data 1) refl refl refl
-    (array_back 3 (flows_data n 1 gs) (flows_back n 1 gs some few short are)) (deeper 0 4 (number_data 1) (omega arith) (number_back 1 (omega arith)))
+    let flows : Data = array (items_of (flows_data n 1 gs)) in
+    two_as 4 (codes "version") (codes "flows") (number_data 1) flows (member (codes "flows") flows (member (codes "version") (number_data 1) no_members)) refl refl refl
+    (deeper 0 4 (number_data 1) (omega arith) (number_back 1 (omega arith))) (array_back 3 (flows_data n 1 gs) (flows_back n 1 gs some few short are))
 
 -- ---- the walk over the flows
 
@@ -248,7 +249,7 @@ flows_walk n s e first seventh eighth =
 
 -- ---- the snapshot
 
-data_loads : (n : ℕ) (s e : Graph) → 1 ≤ n → n ≤ 200 → IsKnown n (layered n) → IsKnown n s → IsKnown n e → Load (network n) (compact_text (snapshot_data n (graphs n s e))) (Ok (flows_with n classes (graphs n s e)))
+data_loads : (n : ℕ) (s e : Graph) → 1 ≤ n → n ≤ 200 → IsKnown n (layered n) → IsKnown n s → IsKnown n e → Load (network n) (compact_text (written_snapshot n (graphs n s e))) (Ok (flows_with n classes (graphs n s e)))
 unfolding Load IsSnapshot
 data_loads n s e some few first seventh eighth =
     let root : Data = snapshot_data n (graphs n s e) in
@@ -264,7 +265,7 @@ data_loads n s e some few first seventh eighth =
     let two : All K g2 = All-cons K s (e ∷ []) seventh (All-cons K e [] eighth (All-nil K)) in
     let known : All K (graphs n s e) = All-cons K g g7 first (All-cons K g g6 first (All-cons K g g5 first (All-cons K g g4 first (All-cons K g g3 first (All-cons K g g2 first two))))) in (
       Ok root,
-      sym (ap (ok_or NotJson) (text_reading 5 root (omega arith) (snapshot_back n (graphs n s e) some few (omega arith) known))),
+      sym (ap (ok_or NotJson) (text_reading 5 (written_snapshot n (graphs n s e)) (omega arith) (snapshot_back n (graphs n s e) some few (omega arith) known))),
       (Ok ((value_in (version_of 1) tt), entries), sym (contents_read entries), flows_walk n s e (readable n g some few first) (readable n s some few seventh) (readable n e some few eighth)),
     )
 
@@ -355,9 +356,9 @@ pub snapshot_short : (n : ℕ) (nodes text : List ℕ) (first seventh eighth : G
 snapshot_short n nodes text first seventh eighth s e some few nodes_are is_first is_seventh is_eighth is =
     let node : IsShort 4000 nodes = record { few = nodes_length n nodes some few nodes_are } in
     let one : (k : ℕ) → IsShort 20000 (flow_text k nodes first) = λ k. flow_length k nodes first node (graph_short n (layered n) first some few is_first) in
-    let last = both_short (flow_length 8 nodes eighth node (graph_short n e eighth some few is_eighth)) (own_length (codes "],\"version\":1}")) in
+    let last = both_short (flow_length 8 nodes eighth node (graph_short n e eighth some few is_eighth)) (own_length (codes "]}")) in
     let flows = entry_length (one 1) (entry_length (one 2) (entry_length (one 3) (entry_length (one 4) (entry_length (one 5) (entry_length (one 6) (entry_length (flow_length 7 nodes seventh node (graph_short n s seventh some few is_seventh)) last)))))) in
-    let whole : IsShort 200000 (snapshot_text nodes first seventh eighth) = shorter (both_short (own_length (codes "{\"flows\":[")) flows) 200000 (omega arith) in
+    let whole : IsShort 200000 (snapshot_text nodes first seventh eighth) = shorter (both_short (own_length (codes "{\"version\":1,\"flows\":[")) flows) 200000 (omega arith) in
     omega (arith, whole.few, ap length is)
 
 -- ---- the three graphs

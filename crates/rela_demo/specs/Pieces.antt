@@ -25,8 +25,8 @@ device_text label = codes "{\"interfaces\":["
     ++ (node_text label ++ (codes "],\"name\":\"" ++ (device_name label ++ codes "\"}")))
 
 abbrev pub locations_text : List Label → List ℕ
-locations_text labels = codes "{\"groups\":[{\"devices\":"
-    ++ (array_text device_text labels ++ codes ",\"name\":\"all-devices\"}],\"version\":1}")
+locations_text labels = codes "{\"version\":1,\"groups\":[{\"name\":\"all-devices\",\"devices\":"
+    ++ (array_text device_text labels ++ codes "}]}")
 
 abbrev pub nodes_text : List Label → List ℕ
 nodes_text labels = array_text node_text labels
@@ -53,6 +53,6 @@ entries_before text_of [] rest = rest
 entries_before text_of (k ∷ ks) rest = text_of k ++ 44 ∷ entries_before text_of ks rest
 
 abbrev pub snapshot_text : List ℕ → GraphText → GraphText → GraphText → List ℕ
-snapshot_text nodes layered seventh eighth = codes "{\"flows\":["
+snapshot_text nodes layered seventh eighth = codes "{\"version\":1,\"flows\":["
     ++ entries_before (λ k. flow_text k nodes layered) (range_with_len 1 6)
-    (flow_text 7 nodes seventh ++ 44 ∷ (flow_text 8 nodes eighth ++ codes "],\"version\":1}"))
+    (flow_text 7 nodes seventh ++ 44 ∷ (flow_text 8 nodes eighth ++ codes "]}"))

@@ -1,5 +1,6 @@
--- The JSON texts: compact, with the members of each object in the order of their names. Only the
--- crate's private clauses cite it.
+-- What the JSON texts stand for: values whose objects have their members in the order of the names, as
+-- they are read. The texts are compact, and the version is written first, so that a text can be read
+-- token by token. Only the crate's private clauses cite it.
 use Rattle.std.specs.Prelude.{ℕ, ◌+◌, List, [], ◌∷◌, ◌++◌, codes, map}
 use Rattle.serde_json.specs.Data.{Data, unsigned, number, string, array, object, no_members, member}
 use Rattle.serde_json.specs.View.{items_of}
@@ -49,6 +50,19 @@ locations_data n = object
     (member (codes "version") (number_data 1)
     no_members))
 
+-- as they are written
+abbrev pub written_group : List Label → Data
+written_group labels = object
+    (member (codes "name") (string (codes "all-devices"))
+    (member (codes "devices") (list_data device_data labels)
+    no_members))
+
+abbrev pub written_locations : ℕ → Data
+written_locations n = object
+    (member (codes "version") (number_data 1)
+    (member (codes "groups") (array (items_of (written_group (labels_from 1 n) ∷ [])))
+    no_members))
+
 -- ---- the snapshots
 
 abbrev pub flow_name : ℕ → List ℕ
@@ -78,4 +92,11 @@ abbrev pub snapshot_data : ℕ → List Graph → Data
 snapshot_data n gs = object
     (member (codes "flows") (array (items_of (flows_data n 1 gs)))
     (member (codes "version") (number_data 1)
+    no_members))
+
+-- as it is written
+abbrev pub written_snapshot : ℕ → List Graph → Data
+written_snapshot n gs = object
+    (member (codes "version") (number_data 1)
+    (member (codes "flows") (array (items_of (flows_data n 1 gs)))
     no_members))

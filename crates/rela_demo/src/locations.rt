@@ -24,8 +24,8 @@ pub(crate) fn locations_text(alloc: Global, n: u32) -> Result<Vec<u8>, AllocErro
     let mut labels = Vec::with_capacity(alloc, 2 * n as usize)?;
     push_labels(&mut labels, 1, n + 1)?;
     let mut text = Vec::with_capacity(alloc, 64 + DEVICE_BYTES * 2 * n as usize)?;
-    text.extend_from_slice(b"{\"groups\":[{\"devices\":")?;
+    text.extend_from_slice(b"{\"version\":1,\"groups\":[{\"name\":\"all-devices\",\"devices\":")?;
     push_devices(&mut text, labels.as_slice())?;
-    text.extend_from_slice(b",\"name\":\"all-devices\"}],\"version\":1}")?;
+    text.extend_from_slice(b"}]}")?;
     Ok(text)
 }

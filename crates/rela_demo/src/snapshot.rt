@@ -182,7 +182,7 @@ pub(crate) fn snapshot_text(
     let lists = nodes.len().saturating_add(layered.edges.len());
     let bytes = lists.saturating_add(FLOW_BYTES).saturating_mul(8);
     let mut text = Vec::with_capacity(alloc, bytes)?;
-    text.extend_from_slice(b"{\"flows\":[")?;
+    text.extend_from_slice(b"{\"version\":1,\"flows\":[")?;
     for number in 1..7 {
         push_flow(&mut text, number, nodes, layered)?;
         text.push(b',')?;
@@ -190,6 +190,6 @@ pub(crate) fn snapshot_text(
     push_flow(&mut text, 7, nodes, seventh)?;
     text.push(b',')?;
     push_flow(&mut text, 8, nodes, eighth)?;
-    text.extend_from_slice(b"],\"version\":1}")?;
+    text.extend_from_slice(b"]}")?;
     Ok(text)
 }

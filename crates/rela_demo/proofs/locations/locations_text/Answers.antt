@@ -6,8 +6,8 @@ use Rattle.rela_demo.proofs.locations.locations_text.Goals as goal
 pub returns : goal.returns
 returns c =
     let n : ℕ = c.args.n in
-    let start : List ℕ = codes "{\"groups\":[{\"devices\":" in
-    let tail : List ℕ = codes ",\"name\":\"all-devices\"}],\"version\":1}" in
+    let start : List ℕ = codes "{\"version\":1,\"groups\":[{\"name\":\"all-devices\",\"devices\":" in
+    let tail : List ℕ = codes "}]}" in
     let count : n + 1 - 1 ≡ n = omega arith in
     let labels : c.as_slice.result.now ≡ labels_from 1 n = c.as_slice.ensures.value ∙ c.in_ok-push_labels.ensures ∙ ap₂ (λ (ls : List Label) (k : ℕ). ls ++ labels_from 1 k) c.in_ok-labels.ensures.items count in
     let head : c.extend_from_slice.new.self.items ≡ start = c.in_ok-extend_from_slice.ensures.items ∙ ap (λ (s : List ℕ). s ++ start) c.in_ok-text.ensures.items in
