@@ -12,7 +12,7 @@ use Rattle.rela_branches.specs.declared.claiming.Branches.{Branches}
 use Rattle.rela_lex.specs.declared.token.Token.{Token}
 use Rattle.rela_report.specs.Status.{is_violated}
 use Rattle.rela_report.specs.declared.rows.ReportRow.{ReportRow}
-use Rattle.rela_report.specs.declared.rows.ReportRow.TheVariants.{Checked, Unselected}
+use Rattle.rela_report.specs.declared.rows.ReportRow.TheVariants.{Selected, Unselected}
 use Rattle.rela_report.specs.declared.rows.Row.TheVariants.{Compliant, Undecided, Violated}
 use Rattle.rela_report.specs.declared.zones.Zone.{Zone}
 use Rattle.rela_rir.specs.declared.set.SymbolSet.{SymbolSet}
@@ -166,34 +166,34 @@ module _ (all : List Branches) (checks : List Check) (locations : ℕ) (same : c
   -- a row of which this is the name of the check and the source
   pub asks : (row : ReportRow) (name source : List ℕ) → claim_of row ≡ Some (name, source) → HasClaim locations checks row
       → SomeBranches (λ b. translate.Zone b.check.now.classes b.locations b.check.now.body source) name all
-  asks (Checked flow check (Violated word side from)) name source is claim =
+  asks (Selected flow check (Violated word side from)) name source is claim =
       let pair : (check, from) ≡ (name, source) = cc in
       subst (λ (p : List ℕ × List ℕ). SomeBranches (λ b. translate.Zone b.check.now.classes b.locations b.check.now.body p.1) p.0 all) pair
       (with_branches (λ n c. translate.Zone c.classes n c.body from) check claim)
-  asks (Checked flow check Compliant) name source is claim = absurd (cc)
-  asks (Checked flow check Undecided) name source is claim = absurd (cc)
+  asks (Selected flow check Compliant) name source is claim = absurd (cc)
+  asks (Selected flow check Undecided) name source is claim = absurd (cc)
   asks (Unselected flow) name source is claim = absurd (cc)
 
   pub is_zone_of : (file : SpecFile) (tokens : List Token) (row : ReportRow) (name source : List ℕ) (zone : Zone) → claim_of row ≡ Some (name, source)
       → SomeBranches (λ b. IsBlamed file tokens b.locations source zone b.check.now) name all → IsZoneOf file tokens locations checks row zone
-  is_zone_of file tokens (Checked flow check (Violated word side from)) name source zone is blame =
+  is_zone_of file tokens (Selected flow check (Violated word side from)) name source zone is blame =
       let pair : (name, source) ≡ (check, from) = cc in
       subst (λ (p : List ℕ × List ℕ). SomeNamed (IsBlamed file tokens locations p.1 zone) p.0 checks) pair
       (without_branches (λ n c. IsBlamed file tokens n source zone c) name blame)
-  is_zone_of file tokens (Checked flow check Compliant) name source zone is blame = absurd (cc)
-  is_zone_of file tokens (Checked flow check Undecided) name source zone is blame = absurd (cc)
+  is_zone_of file tokens (Selected flow check Compliant) name source zone is blame = absurd (cc)
+  is_zone_of file tokens (Selected flow check Undecided) name source zone is blame = absurd (cc)
   is_zone_of file tokens (Unselected flow) name source zone is blame = absurd (cc)
 
 violated : (row : ReportRow) (name source : List ℕ) → claim_of row ≡ Some (name, source) → is_violated row ≡ true
-violated (Checked flow check (Violated word side from)) name source is = refl
-violated (Checked flow check Compliant) name source is = absurd (cc)
-violated (Checked flow check Undecided) name source is = absurd (cc)
+violated (Selected flow check (Violated word side from)) name source is = refl
+violated (Selected flow check Compliant) name source is = absurd (cc)
+violated (Selected flow check Undecided) name source is = absurd (cc)
 violated (Unselected flow) name source is = absurd (cc)
 
 not_violated : (row : ReportRow) → claim_of row ≡ None → is_violated row ≡ false
-not_violated (Checked flow check (Violated word side from)) is = absurd (cc)
-not_violated (Checked flow check Compliant) is = refl
-not_violated (Checked flow check Undecided) is = refl
+not_violated (Selected flow check (Violated word side from)) is = absurd (cc)
+not_violated (Selected flow check Compliant) is = refl
+not_violated (Selected flow check Undecided) is = refl
 not_violated (Unselected flow) is = refl
 
 zip_push : {A B : Type 0} (R : A → B → Type 0) (xs : List A) (ys : List B) (x : A) (y : B)

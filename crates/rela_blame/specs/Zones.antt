@@ -6,7 +6,7 @@ use Rattle.rela_branches.specs.Alternatives.{IsBlame}
 use Rattle.rela_branches.specs.declared.claiming.Branches.{Branches}
 use Rattle.rela_lex.specs.declared.token.Token.{Token}
 use Rattle.rela_report.specs.declared.rows.ReportRow.{ReportRow}
-use Rattle.rela_report.specs.declared.rows.ReportRow.TheVariants.{Checked, Unselected}
+use Rattle.rela_report.specs.declared.rows.ReportRow.TheVariants.{Selected, Unselected}
 use Rattle.rela_report.specs.declared.rows.Row.TheVariants.{Compliant, Undecided, Violated}
 use Rattle.rela_report.specs.declared.zones.Zone.{Zone}
 use Rattle.rela_spec.specs.declared.tree.SpecFile.{SpecFile}
@@ -27,25 +27,25 @@ pub record IsBlamed (file : SpecFile) (tokens : List Token) (locations : ℕ) (s
 
 -- the zone is that of a violated row, by the check that has the row's name
 abbrev pub IsZoneOf : SpecFile → List Token → ℕ → List Check → ReportRow → Zone → Type 0
-IsZoneOf file tokens locations checks (Checked flow name (Violated word side source)) zone =
+IsZoneOf file tokens locations checks (Selected flow name (Violated word side source)) zone =
     SomeNamed (IsBlamed file tokens locations source zone) name checks
-IsZoneOf file tokens locations checks (Checked flow name Compliant) zone = ⊥
-IsZoneOf file tokens locations checks (Checked flow name Undecided) zone = ⊥
+IsZoneOf file tokens locations checks (Selected flow name Compliant) zone = ⊥
+IsZoneOf file tokens locations checks (Selected flow name Undecided) zone = ⊥
 IsZoneOf file tokens locations checks (Unselected flow) zone = ⊥
 
 -- where the row is violated, its source is in the zone of the body of the check that has its name
 abbrev pub HasClaim : ℕ → List Check → ReportRow → Type 0
-HasClaim locations checks (Checked flow name (Violated word side source)) =
+HasClaim locations checks (Selected flow name (Violated word side source)) =
     SomeNamed (λ check. translate.Zone check.classes locations check.body source) name checks
-HasClaim locations checks (Checked flow name Compliant) = ⊤
-HasClaim locations checks (Checked flow name Undecided) = ⊤
+HasClaim locations checks (Selected flow name Compliant) = ⊤
+HasClaim locations checks (Selected flow name Undecided) = ⊤
 HasClaim locations checks (Unselected flow) = ⊤
 
 -- where the row is violated, the name of its check and the source
 abbrev pub claim_of : ReportRow → Option (List ℕ × List ℕ)
-claim_of (Checked flow name (Violated word side source)) = Some (name, source)
-claim_of (Checked flow name Compliant) = None
-claim_of (Checked flow name Undecided) = None
+claim_of (Selected flow name (Violated word side source)) = Some (name, source)
+claim_of (Selected flow name Compliant) = None
+claim_of (Selected flow name Undecided) = None
 claim_of (Unselected flow) = None
 
 -- the checks, without the alternatives of their bodies

@@ -97,7 +97,7 @@ fn source_of(row: &ReportRow) -> Option<(&Name, &[Symbol])>
     ensures { option_map (λ pair. (pair.0.now, pair.1.now)) result ≡ claim_of row.now }
 {
     match row {
-        ReportRow::Checked {
+        ReportRow::Selected {
             check,
             row: Row::Violated { source, .. },
             ..

@@ -12,7 +12,7 @@ use Rattle.rela_certfile.specs.Listed.{IsBlock}
 use Rattle.rela_certfile.specs.declared.rows.ListedRow.{ListedRow}
 use Rattle.rela_certfile.specs.declared.rows.Step.{Step}
 use Rattle.rela_flows.specs.declared.planning.PlannedRow.{PlannedRow}
-use Rattle.rela_flows.specs.declared.planning.PlannedRow.TheVariants.{Checked as CheckedRow}
+use Rattle.rela_flows.specs.declared.planning.PlannedRow.TheVariants.{Selected}
 use Rattle.rela_snapshot.specs.PairsLocated.{ArePairsLocated, IsPairLocated}
 use Rattle.rela_snapshot.specs.declared.pairing.FlowPair.{FlowPair}
 use Rattle.rela_translate.specs.Checked.{Checked}
@@ -53,9 +53,9 @@ module _ (s : Subject) (planned : List PlannedRow) (rows : List ListedRow) (numb
   -- ---- what the judgement asks
 
   -- the check is that of the number that is planned
-  pub check_there : (flow k : ℕ) → slice_get planned row.place ≡ Some (CheckedRow flow k) → slice_get s.checks k ≡ Some check
+  pub check_there : (flow k : ℕ) → slice_get planned row.place ≡ Some (Selected flow k) → slice_get s.checks k ≡ Some check
   check_there flow k planned_as =
-      let e : CheckedRow is.of.flow is.of.number ≡ CheckedRow flow k = same_some (slice_get planned row.place) _ _ is.of.planned_as planned_as in
+      let e : Selected is.of.flow is.of.number ≡ Selected flow k = same_some (slice_get planned row.place) _ _ is.of.planned_as planned_as in
       let same : is.of.number ≡ k = cc in
       subst (λ (j : ℕ). slice_get s.checks j ≡ Some check) same is.of.of_check
 

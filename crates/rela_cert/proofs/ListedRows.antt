@@ -10,7 +10,7 @@ use Rattle.rela_certfile.specs.Listed.{HasShape, IsListedAs}
 use Rattle.rela_certfile.specs.Text.{ended, last_line, lines_of, row_lines, text_of}
 use Rattle.rela_certfile.specs.declared.rows.ListedRow.{ListedRow}
 use Rattle.rela_flows.specs.declared.planning.PlannedRow.{PlannedRow}
-use Rattle.rela_flows.specs.declared.planning.PlannedRow.TheVariants.{Checked, Unselected}
+use Rattle.rela_flows.specs.declared.planning.PlannedRow.TheVariants.{Selected, Unselected}
 
 -- ---- the row at a place
 
@@ -19,11 +19,11 @@ pub record IsListedUnder (l : Layout) (place : ℕ) (row : ListedRow) : Type 0 w
   pub flow : ℕ
   pub check : ℕ
   pub shape : Shape
-  pub planned_as : slice_get l.planned place ≡ Some (Checked flow check)
+  pub planned_as : slice_get l.planned place ≡ Some (Selected flow check)
   pub of_check : slice_get l.checks check ≡ Some shape
   pub has : HasShape shape row
 
-under_shape : (l : Layout) (place flow check : ℕ) (row : ListedRow) → slice_get l.planned place ≡ Some (Checked flow check)
+under_shape : (l : Layout) (place flow check : ℕ) (row : ListedRow) → slice_get l.planned place ≡ Some (Selected flow check)
     → (found : Option Shape) → slice_get l.checks check ≡ found → IsListedAs found row → IsListedUnder l place row
 under_shape l place flow check row planned None of is = absurd is
 under_shape l place flow check row planned (Some shape) of is =
@@ -33,7 +33,7 @@ under_row : (l : Layout) (place : ℕ) (row : ListedRow) (found : Option Planned
     → IsListedUnder l place row
 under_row l place row None at is = absurd is
 under_row l place row (Some (Unselected flow)) at is = absurd is
-under_row l place row (Some (Checked flow check)) at is = under_shape l place flow check row at (slice_get l.checks check) refl is
+under_row l place row (Some (Selected flow check)) at is = under_shape l place flow check row at (slice_get l.checks check) refl is
 
 pub listed_under : (l : Layout) (place : ℕ) (row : ListedRow) → IsListedAs (shape_at l place) row → IsListedUnder l place row
 unfolding shape_at

@@ -7,7 +7,7 @@ use Rattle.rela_certfile.specs.Layout.{Shape, check_names, shape_at}
 use Rattle.rela_certfile.specs.Listed.{HasShape, IsListedAs}
 use Rattle.rela_certfile.specs.declared.rows.ListedRow.{ListedRow}
 use Rattle.rela_flows.specs.declared.planning.PlannedRow.{PlannedRow}
-use Rattle.rela_flows.specs.declared.planning.PlannedRow.TheVariants.{Checked}
+use Rattle.rela_flows.specs.declared.planning.PlannedRow.TheVariants.{Selected}
 use Rattle.rela_plan.specs.Within.{IsWithin}
 use Rattle.rela_translate.specs.Checked.{Checked as Check}
 use Rattle.rela_cert.specs.Subject.{Subject, layout_of, shape_of}
@@ -43,12 +43,12 @@ module _ (s : Subject) (planned : List PlannedRow) (row : ListedRow) (listed : I
   under = listed_under (layout_of s planned) row.place row listed
 
   -- the row that is planned at its place is of a flow and a check
-  pub planned_there : (flow : ℕ) × (check : ℕ) × (slice_get planned row.place ≡ Some (Checked flow check))
+  pub planned_there : (flow : ℕ) × (check : ℕ) × (slice_get planned row.place ≡ Some (Selected flow check))
   planned_there = (under.flow, under.check, under.planned_as)
 
-  module _ (flow number : ℕ) (is : slice_get planned row.place ≡ Some (Checked flow number)) where
+  module _ (flow number : ℕ) (is : slice_get planned row.place ≡ Some (Selected flow number)) where
     same_number : under.check ≡ number
-    same_number = let e : Checked under.flow under.check ≡ Checked flow number = same_some (slice_get planned row.place) _ _ under.planned_as is in cc
+    same_number = let e : Selected under.flow under.check ≡ Selected flow number = same_some (slice_get planned row.place) _ _ under.planned_as is in cc
 
     pub has_shape : (check : Check) → slice_get s.checks number ≡ Some check → HasShape (shape_of (length s.names) check) row
     has_shape check of =
@@ -58,9 +58,9 @@ module _ (s : Subject) (planned : List PlannedRow) (row : ListedRow) (listed : I
 
 -- the flow and the check of a planned row are among those that there are
 pub within_there : (s : Subject) (planned : List PlannedRow) → All (IsWithin (length s.pairs) (length s.checks)) planned → (place flow number : ℕ)
-    → slice_get planned place ≡ Some (Checked flow number) → (flow < length s.pairs) × (number < length s.checks)
+    → slice_get planned place ≡ Some (Selected flow number) → (flow < length s.pairs) × (number < length s.checks)
 within_there s planned within place flow number is =
-    let row : PlannedRow = Checked flow number in
+    let row : PlannedRow = Selected flow number in
     let read : get_or planned place row ≡ row = let e : Some (get_or planned place row) ≡ Some row = sym (slice_get-get_or planned place row (slice_get_within planned place row is)) ∙ is in cc in
     subst (IsWithin (length s.pairs) (length s.checks)) read (within place row (slice_get_within planned place row is))
 

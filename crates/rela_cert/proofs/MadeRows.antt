@@ -6,7 +6,7 @@ use Rattle.rela_certfile.specs.Layout.{Layout, Shape, shape_at, shape_of as aske
 use Rattle.rela_certfile.specs.Listed.{HasShape, IsListedAs}
 use Rattle.rela_certfile.specs.declared.rows.ListedRow.{ListedRow}
 use Rattle.rela_flows.specs.declared.planning.PlannedRow.{PlannedRow}
-use Rattle.rela_flows.specs.declared.planning.PlannedRow.TheVariants.{Checked as CheckedRow, Unselected}
+use Rattle.rela_flows.specs.declared.planning.PlannedRow.TheVariants.{Selected, Unselected}
 use Rattle.rela_snapshot.specs.declared.pairing.FlowPair.{FlowPair}
 use Rattle.rela_translate.specs.Checked.{Checked}
 use Rattle.rela_translate.specs.Verdict.{Meets}
@@ -20,7 +20,7 @@ mapped_there f (y ∷ xs) zero x at = let e : Some y ≡ Some x = at in ap (λ (
 mapped_there f (y ∷ xs) (suc k) x at = mapped_there f xs k x at
 
 -- a planned row with a check lists as that check asks
-listed_as : (l : Layout) (place flow number : ℕ) (shape : Shape) (row : ListedRow) → slice_get l.planned place ≡ Some (CheckedRow flow number)
+listed_as : (l : Layout) (place flow number : ℕ) (shape : Shape) (row : ListedRow) → slice_get l.planned place ≡ Some (Selected flow number)
     → slice_get l.checks number ≡ Some shape → HasShape shape row → IsListedAs (shape_at l place) row
 unfolding shape_at
 listed_as l place flow number shape row planned of has =
@@ -28,7 +28,7 @@ listed_as l place flow number shape row planned of has =
     (subst (λ (found : Option Shape). IsListedAs found row) (sym of) has)
 
 module _ (s : Subject) (planned : List PlannedRow) (place flow number : ℕ) (pair : FlowPair) (check : Checked)
-    (planned_as : slice_get planned place ≡ Some (CheckedRow flow number)) (of_flow : slice_get s.pairs flow ≡ Some pair) (of_check : slice_get s.checks number ≡ Some check) where
+    (planned_as : slice_get planned place ≡ Some (Selected flow number)) (of_flow : slice_get s.pairs flow ≡ Some pair) (of_check : slice_get s.checks number ≡ Some check) where
   is_row : IsRowOf s planned place pair check
   is_row = record { flow = flow; number = number; planned_as = planned_as; of_flow = of_flow; of_check = of_check }
 
@@ -45,7 +45,7 @@ module _ (s : Subject) (planned : List PlannedRow) (place flow number : ℕ) (pa
 
   pub left_out : (limit : ℕ) → IsExcused (length s.names) limit check (flow_of s pair check) → MayBeLeftOut s planned limit place
   left_out limit excused other_pair other_check is =
-      let same_row : CheckedRow flow number ≡ CheckedRow is.flow is.number = same_some (slice_get planned place) (CheckedRow flow number) (CheckedRow is.flow is.number) planned_as is.planned_as in
+      let same_row : Selected flow number ≡ Selected is.flow is.number = same_some (slice_get planned place) (Selected flow number) (Selected is.flow is.number) planned_as is.planned_as in
       let same_flow : flow ≡ is.flow = cc in
       let same_number : number ≡ is.number = cc in
       let one : pair ≡ other_pair = same_some (slice_get s.pairs flow) pair other_pair of_flow (subst (λ (k : ℕ). slice_get s.pairs k ≡ Some other_pair) (sym same_flow) is.of_flow) in
@@ -56,13 +56,13 @@ module _ (s : Subject) (planned : List PlannedRow) (place flow number : ℕ) (pa
 -- a planned row without a check is left out
 pub no_check : (s : Subject) (planned : List PlannedRow) (place flow limit : ℕ) → slice_get planned place ≡ Some (Unselected flow) → MayBeLeftOut s planned limit place
 no_check s planned place flow limit at pair check is =
-    let e : Some (Unselected flow) ≡ Some (CheckedRow is.flow is.number) = sym at ∙ is.planned_as in absurd (cc)
+    let e : Some (Unselected flow) ≡ Some (Selected is.flow is.number) = sym at ∙ is.planned_as in absurd (cc)
 
 -- what holds of the planned row at a place, by its flow and its check
 pub at_row : (s : Subject) (planned : List PlannedRow) (place : ℕ) (P : Checked → Paths → Type 0) (pair : FlowPair) (check : Checked)
     → IsRowOf s planned place pair check → HoldsAt s planned place P → P check (flow_of s pair check)
 at_row s planned place P pair check is (other, also, row, holds) =
-    let same_row : CheckedRow row.flow row.number ≡ CheckedRow is.flow is.number = same_some (slice_get planned place) (CheckedRow row.flow row.number) (CheckedRow is.flow is.number) row.planned_as is.planned_as in
+    let same_row : Selected row.flow row.number ≡ Selected is.flow is.number = same_some (slice_get planned place) (Selected row.flow row.number) (Selected is.flow is.number) row.planned_as is.planned_as in
     let same_flow : row.flow ≡ is.flow = cc in
     let same_number : row.number ≡ is.number = cc in
     let one : other ≡ pair = same_some (slice_get s.pairs is.flow) other pair (subst (λ (k : ℕ). slice_get s.pairs k ≡ Some other) same_flow row.of_flow) is.of_flow in

@@ -12,7 +12,7 @@ use Rattle.rela_certfile.specs.Layout.{shape_at}
 use Rattle.rela_certfile.specs.Listed.{HasShape, IsListedAs}
 use Rattle.rela_certfile.specs.declared.rows.ListedRow.{ListedRow}
 use Rattle.rela_flows.specs.declared.planning.PlannedRow.{PlannedRow}
-use Rattle.rela_flows.specs.declared.planning.PlannedRow.TheVariants.{Checked as CheckedRow}
+use Rattle.rela_flows.specs.declared.planning.PlannedRow.TheVariants.{Selected}
 use Rattle.rela_plan.specs.Alike.{AreAlike, LooksAs, look_of}
 use Rattle.rela_snapshot.specs.PairsLocated.{ArePairsLocated, IsPairLocated}
 use Rattle.rela_snapshot.specs.declared.pairing.FlowPair.{FlowPair}
@@ -154,7 +154,7 @@ pub holds_placed : (s : Subject) (limit place flow number : ℕ) (found : Option
 holds_placed s limit place flow number found (pair, check, at, of, is) = (pair, check, at, of, found_placed (length s.names) limit place found check (flow_of s pair check) is)
 
 -- what is found for the flow and the check of a planned row is found for the row
-pub found_there : (s : Subject) (planned : List PlannedRow) (limit place flow number : ℕ) (pair : FlowPair) (check : Checked) → slice_get planned place ≡ Some (CheckedRow flow number)
+pub found_there : (s : Subject) (planned : List PlannedRow) (limit place flow number : ℕ) (pair : FlowPair) (check : Checked) → slice_get planned place ≡ Some (Selected flow number)
     → slice_get s.pairs flow ≡ Some pair → slice_get s.checks number ≡ Some check → (found : Option ListedRow)
     → IsFoundFor (length s.names) limit found check (flow_of s pair check) → IsFoundAt s planned limit place (option_map (row_at_place place) found)
 found_there s planned limit place flow number pair check planned_as of_flow of_check None is = left_out s planned place flow number pair check planned_as of_flow of_check limit is
@@ -179,7 +179,7 @@ found_listed s planned limit place (Some row) is = is.listed
 
 -- what is found for the flow that looks the same is found for the planned row
 pub found_here : (s : Subject) (planned : List PlannedRow) (alike : List ℕ) → All (λ check. AreAlike check.level s.pairs alike) s.checks → (limit place flow number other : ℕ)
-    (pair another : FlowPair) (check : Checked) → slice_get planned place ≡ Some (CheckedRow flow number) → slice_get s.pairs flow ≡ Some pair
+    (pair another : FlowPair) (check : Checked) → slice_get planned place ≡ Some (Selected flow number) → slice_get s.pairs flow ≡ Some pair
     → slice_get s.pairs other ≡ Some another → slice_get s.checks number ≡ Some check → other ≡ get_or alike flow other
     → CarriesOver check pair another s.names (IsMetBy (length s.names) check)
     → ((row : ListedRow) → CarriesOver check pair another s.names (AreBlocksMade (length s.names) row check))

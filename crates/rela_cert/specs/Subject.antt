@@ -9,7 +9,7 @@ use Rattle.rela_certfile.specs.Text.{text_of}
 use Rattle.rela_certfile.specs.declared.rows.ListedRow.{ListedRow}
 use Rattle.rela_flows.specs.Plan.{Plan}
 use Rattle.rela_flows.specs.declared.planning.PlannedRow.{PlannedRow}
-use Rattle.rela_flows.specs.declared.planning.PlannedRow.TheVariants.{Checked as CheckedRow}
+use Rattle.rela_flows.specs.declared.planning.PlannedRow.TheVariants.{Selected}
 use Rattle.rela_snapshot.specs.PairsLocated.{ArePairsLocated}
 use Rattle.rela_snapshot.specs.declared.pairing.FlowPair.{FlowPair}
 use Rattle.rela_translate.specs.Checked.{Checked}
@@ -73,7 +73,7 @@ pub record IsRowOf (s : Subject) (planned : List PlannedRow) (place : ℕ) (pair
     (check : Checked) : Type 0 where
   pub flow : ℕ
   pub number : ℕ
-  pub planned_as : slice_get planned place ≡ Some (CheckedRow flow number)
+  pub planned_as : slice_get planned place ≡ Some (Selected flow number)
   pub of_flow : slice_get s.pairs flow ≡ Some pair
   pub of_check : slice_get s.checks number ≡ Some check
 

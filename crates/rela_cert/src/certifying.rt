@@ -96,7 +96,7 @@ fn write_row(
         (place + 1) writer.new) }
 {
     match planning.rows[place] {
-        PlannedRow::Checked { flow, check } => {
+        PlannedRow::Selected { flow, check } => {
             let other = planning.alike[flow];
             let found = take_or_find(alloc, inputs, other, check, states, kept)?;
             let (pair, another) = (&inputs.pairs[flow], &inputs.pairs[other]);

@@ -4,7 +4,7 @@ ghost use Rattle.std.specs.Prelude.{◌≡◌, ℕ, ◌<◌, Some, length};
 ghost use Rattle.std.specs.List.{slice_get};
 ghost use Rattle.rela_certfile.specs.Listed.{AreListed};
 ghost use Rattle.rela_certfile.specs.declared.rows.ListedRow.{ListedRow};
-ghost use Rattle.rela_flows.specs.declared.planning.PlannedRow.TheVariants.{Checked};
+ghost use Rattle.rela_flows.specs.declared.planning.PlannedRow.TheVariants.{Selected};
 ghost use Rattle.rela_cert.specs.Inputs.{subject_of};
 ghost use Rattle.rela_cert.specs.RowAt.{IsRowAt};
 ghost use Rattle.rela_cert.specs.Planned.{IsPlanned};
@@ -41,7 +41,7 @@ pub(crate) fn flow_and_check(
         certificate.now }
     requires number { number < length certificate.now }
     ensures planned { (listed : ListedRow) → slice_get certificate.now number ≡ Some listed →
-        slice_get planning.now.rows.items listed.place ≡ Some (Checked result.0 result.1) }
+        slice_get planning.now.rows.items listed.place ≡ Some (Selected result.0 result.1) }
     ensures flow { result.0 < length inputs.now.pairs.now }
     ensures check { result.1 < length inputs.now.checks.now }
 {
@@ -74,11 +74,11 @@ pub(crate) fn row_at<'a>(
 
 /// The flow and the check of the planned row at this place, which has a check.
 fn planned_at(rows: &[PlannedRow], place: usize) -> (usize, usize)
-    requires { (flow : ℕ) × (check : ℕ) × (slice_get rows.now place ≡ Some (Checked flow check)) }
-    ensures { slice_get rows.now place ≡ Some (Checked result.0 result.1) }
+    requires { (flow : ℕ) × (check : ℕ) × (slice_get rows.now place ≡ Some (Selected flow check)) }
+    ensures { slice_get rows.now place ≡ Some (Selected result.0 result.1) }
 {
     match rows[place] {
-        PlannedRow::Checked { flow, check } => (flow, check),
+        PlannedRow::Selected { flow, check } => (flow, check),
         PlannedRow::Unselected { .. } => unreachable!(),
     }
 }

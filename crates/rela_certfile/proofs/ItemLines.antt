@@ -9,7 +9,7 @@ use Rattle.std.proofs.lemmas.Option.{slice_get_cases, get_or_from_slice_get}
 use Rattle.std.proofs.lemmas.Str.Parse.{digit_from_value}
 use Rattle.rela_names.specs.Name.{IsName, is_name_byte}
 use Rattle.rela_flows.specs.declared.planning.PlannedRow.{PlannedRow}
-use Rattle.rela_flows.specs.declared.planning.PlannedRow.TheVariants.{Checked, Unselected}
+use Rattle.rela_flows.specs.declared.planning.PlannedRow.TheVariants.{Selected, Unselected}
 use Rattle.rela_certfile.specs.declared.rows.Step.{Step}
 use Rattle.rela_certfile.specs.declared.item.Item.{Item}
 use Rattle.rela_certfile.specs.declared.item.Item.TheVariants.{Word, Complement, Images, Row}
@@ -49,23 +49,23 @@ placed_once xs i j d differ inside within same = ⊎_elim
 pub record Titled (l : Layout) (place : ℕ) : Type 0 where
   pub flow : ℕ
   pub check : ℕ
-  pub there : slice_get l.planned place ≡ Some (Checked flow check)
+  pub there : slice_get l.planned place ≡ Some (Selected flow check)
   pub inside : place < length l.planned
 
-titled_as : (l : Layout) (place : ℕ) (o : Option PlannedRow) → slice_get l.planned place ≡ o → IsSome (shape_of l.checks o) → (flow : ℕ) × (check : ℕ) × (slice_get l.planned place ≡ Some (Checked flow check))
+titled_as : (l : Layout) (place : ℕ) (o : Option PlannedRow) → slice_get l.planned place ≡ o → IsSome (shape_of l.checks o) → (flow : ℕ) × (check : ℕ) × (slice_get l.planned place ≡ Some (Selected flow check))
 titled_as l place None is some = cc
-titled_as l place (Some (Checked flow check)) is some = (flow, check, is)
+titled_as l place (Some (Selected flow check)) is some = (flow, check, is)
 titled_as l place (Some (Unselected flow)) is some = cc
 
 pub titled : (l : Layout) (place : ℕ) → IsSome (shape_at l place) → Titled l place
 unfolding shape_at
 titled l place some =
-    let found : (flow : ℕ) × (check : ℕ) × (slice_get l.planned place ≡ Some (Checked flow check)) = titled_as l place (slice_get l.planned place) refl some in
+    let found : (flow : ℕ) × (check : ℕ) × (slice_get l.planned place ≡ Some (Selected flow check)) = titled_as l place (slice_get l.planned place) refl some in
     record {
       flow = found.0;
       check = found.1;
       there = found.2;
-      inside = ⊎_elim (λ in_. in_.1) (λ past. let no : None ≡ Some (Checked found.0 found.1) = sym past.1 ∙ found.2 in cc) (slice_get_cases l.planned place).1;
+      inside = ⊎_elim (λ in_. in_.1) (λ past. let no : None ≡ Some (Selected found.0 found.1) = sym past.1 ∙ found.2 in cc) (slice_get_cases l.planned place).1;
     }
 
 pub title_is : (l : Layout) (place : ℕ) (t : Titled l place) → row_line l place ≡ codes "row " ++ (get_or l.flows t.flow [] ++ 32 ∷ get_or (check_names l.checks) t.check [])
@@ -79,8 +79,8 @@ pub record Names (l : Layout) (place : ℕ) (t : Titled l place) : Type 0 where
 
 pub names_of : (l : Layout) (place : ℕ) → IsLayout l → (t : Titled l place) → Names l place t
 names_of l place is t =
-    let row : get_or l.planned place (Checked t.flow t.check) ≡ Checked t.flow t.check = get_or_from_slice_get l.planned place (Checked t.flow t.check) (Checked t.flow t.check) t.there in
-    let named : (t.flow < length l.flows) × (t.check < length l.checks) = subst (λ r. IsNamed (length l.flows) (length l.checks) r) row (is.named place (Checked t.flow t.check) t.inside) in
+    let row : get_or l.planned place (Selected t.flow t.check) ≡ Selected t.flow t.check = get_or_from_slice_get l.planned place (Selected t.flow t.check) (Selected t.flow t.check) t.there in
+    let named : (t.flow < length l.flows) × (t.check < length l.checks) = subst (λ r. IsNamed (length l.flows) (length l.checks) r) row (is.named place (Selected t.flow t.check) t.inside) in
     record { flow = named.0; check = rw length-map named.1 }
 
 -- rows that differ have lines that differ
@@ -100,10 +100,10 @@ rows_apart l p q is some other same =
     (name_lacks 32 refl _ (is.flows_named t.flow [] n.flow)) (name_lacks 32 refl _ (is.flows_named u.flow [] m.flow)) behind in
     let flow : t.flow ≡ u.flow = placed_once l.flows t.flow u.flow [] is.flows_differ n.flow m.flow parts.0 in
     let check : t.check ≡ u.check = placed_once (check_names l.checks) t.check u.check [] is.checks_differ n.check m.check parts.1 in
-    let row : Checked t.flow t.check ≡ Checked u.flow u.check = cc in
-    placed_once l.planned p q (Checked t.flow t.check) is.rows_differ t.inside u.inside
-    (get_or_from_slice_get l.planned p (Checked t.flow t.check) (Checked t.flow t.check) t.there
-    ∙ row ∙ sym (get_or_from_slice_get l.planned q (Checked u.flow u.check) (Checked t.flow t.check) u.there))
+    let row : Selected t.flow t.check ≡ Selected u.flow u.check = cc in
+    placed_once l.planned p q (Selected t.flow t.check) is.rows_differ t.inside u.inside
+    (get_or_from_slice_get l.planned p (Selected t.flow t.check) (Selected t.flow t.check) t.there
+    ∙ row ∙ sym (get_or_from_slice_get l.planned q (Selected u.flow u.check) (Selected t.flow t.check) u.there))
 
 -- the first byte of a line
 abbrev pub first : List ℕ → ℕ

@@ -5,7 +5,7 @@ use Rattle.std.specs.List.{slice_get}
 use Rattle.std.proofs.lemmas.Option.{slice_get_cases, slice_get_within}
 use Rattle.std.proofs.lemmas.List.{length-map}
 use Rattle.rela_flows.specs.declared.planning.PlannedRow.{PlannedRow}
-use Rattle.rela_flows.specs.declared.planning.PlannedRow.TheVariants.{Checked, Unselected}
+use Rattle.rela_flows.specs.declared.planning.PlannedRow.TheVariants.{Selected, Unselected}
 use Rattle.rela_certfile.specs.Layout.{Layout, IsLayout, IsRowLine, Shape, check_names, row_line, shape_at, shape_of, title_of}
 use Rattle.rela_certfile.proofs.ItemLines.{Titled, Names, names_of, titled}
 
@@ -28,31 +28,31 @@ apart text first second none = ((λ yes. cc), λ same. absurd (none (32 ∷ seco
 pub unblanked : (text first second rest : List ℕ) → text ≡ first ++ rest → ((last : List ℕ) → rest ≢ 32 ∷ last) → IsTrue false ↔ (text ≡ first ++ 32 ∷ second)
 unblanked text first second rest cut none = ((λ yes. cc), λ same. absurd (none second (cancel first rest (32 ∷ second) (sym cut ∙ same))))
 
-pub shape_checked : (l : Layout) (place flow check : ℕ) → slice_get l.planned place ≡ Some (Checked flow check) → shape_at l place ≡ slice_get l.checks check
+pub shape_checked : (l : Layout) (place flow check : ℕ) → slice_get l.planned place ≡ Some (Selected flow check) → shape_at l place ≡ slice_get l.checks check
 unfolding shape_at
 shape_checked l place flow check is = ap (shape_of l.checks) is
 
-unchecked : (l : Layout) (row : Option PlannedRow) → ((flow check : ℕ) → row ≢ Some (Checked flow check)) → shape_of l.checks row ≡ None
+unchecked : (l : Layout) (row : Option PlannedRow) → ((flow check : ℕ) → row ≢ Some (Selected flow check)) → shape_of l.checks row ≡ None
 unchecked l None none = refl
-unchecked l (Some (Checked flow check)) none = absurd (none flow check refl)
+unchecked l (Some (Selected flow check)) none = absurd (none flow check refl)
 unchecked l (Some (Unselected flow)) none = refl
 
-pub shape_none : (l : Layout) (place : ℕ) → ((flow check : ℕ) → slice_get l.planned place ≢ Some (Checked flow check)) → shape_at l place ≡ None
+pub shape_none : (l : Layout) (place : ℕ) → ((flow check : ℕ) → slice_get l.planned place ≢ Some (Selected flow check)) → shape_at l place ≡ None
 unfolding shape_at
 shape_none l place none = unchecked l (slice_get l.planned place) none
 
-pub title_checked : (l : Layout) (place flow check : ℕ) → slice_get l.planned place ≡ Some (Checked flow check) → row_line l place ≡ codes "row " ++ (get_or l.flows flow [] ++ 32 ∷ get_or (check_names l.checks) check [])
+pub title_checked : (l : Layout) (place flow check : ℕ) → slice_get l.planned place ≡ Some (Selected flow check) → row_line l place ≡ codes "row " ++ (get_or l.flows flow [] ++ 32 ∷ get_or (check_names l.checks) check [])
 unfolding row_line
 title_checked l place flow check is = ap (title_of l) is
 
-pub named_in : (l : Layout) (place flow check : ℕ) → IsLayout l → slice_get l.planned place ≡ Some (Checked flow check) → (flow < length l.flows) × (check < length l.checks)
+pub named_in : (l : Layout) (place flow check : ℕ) → IsLayout l → slice_get l.planned place ≡ Some (Selected flow check) → (flow < length l.flows) × (check < length l.checks)
 named_in l place flow check is there =
-    let t : Titled l place = record { flow = flow; check = check; there = there; inside = slice_get_within l.planned place (Checked flow check) there } in
+    let t : Titled l place = record { flow = flow; check = check; there = there; inside = slice_get_within l.planned place (Selected flow check) there } in
     let n : Names l place t = names_of l place is t in
     let below : check < length (check_names l.checks) = n.check in
     (n.flow, rw length-map at below)
 
-pub is_row : (l : Layout) (place flow check : ℕ) (names : List ℕ) (r : Bool) → IsLayout l → slice_get l.planned place ≡ Some (Checked flow check) → IsTrue r ↔ (names ≡ get_or l.flows flow [] ++ 32 ∷ get_or (check_names l.checks) check []) → IsTrue r ↔ IsRowLine l place (codes "row " ++ names)
+pub is_row : (l : Layout) (place flow check : ℕ) (names : List ℕ) (r : Bool) → IsLayout l → slice_get l.planned place ≡ Some (Selected flow check) → IsTrue r ↔ (names ≡ get_or l.flows flow [] ++ 32 ∷ get_or (check_names l.checks) check []) → IsTrue r ↔ IsRowLine l place (codes "row " ++ names)
 is_row l place flow check names r is there tells =
     let inside : check < length l.checks = (named_in l place flow check is there).1 in
     let some : IsSome (slice_get l.checks check) = ⊎_elim (λ found. subst (λ o. IsSome o) (sym found.2) refl) (λ past. absurd (omega (arith, past.0))) (slice_get_cases l.checks check).1 in (
@@ -65,7 +65,7 @@ is_row l place flow check names r is there tells =
           tells.1 (cancel (codes "row ") names (get_or l.flows flow [] ++ 32 ∷ get_or (check_names l.checks) check []) same),
     )
 
-pub no_row : (l : Layout) (place : ℕ) (line : List ℕ) → ((flow check : ℕ) → slice_get l.planned place ≢ Some (Checked flow check)) → IsTrue false ↔ IsRowLine l place line
+pub no_row : (l : Layout) (place : ℕ) (line : List ℕ) → ((flow check : ℕ) → slice_get l.planned place ≢ Some (Selected flow check)) → IsTrue false ↔ IsRowLine l place line
 no_row l place line none = ((λ yes. cc), λ row. let some : IsSome {T = Shape} None = subst (λ (o : Option Shape). IsSome o) (shape_none l place none) row.has_check in let never : false ≡ true = some in cc)
 
 -- a line that doesn't begin as those of rows

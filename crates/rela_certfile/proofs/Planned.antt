@@ -7,7 +7,7 @@ use Rattle.rela_flows.specs.Plan.{ArePlaces, Plan, SelectedAt, rows_from, rows_o
 use Rattle.rela_flows.specs.declared.predicate.FlowClass.{FlowClass}
 use Rattle.rela_flows.specs.declared.predicate.Predicate.{Predicate}
 use Rattle.rela_flows.specs.declared.planning.PlannedRow.{PlannedRow}
-use Rattle.rela_flows.specs.declared.planning.PlannedRow.TheVariants.{Checked, Unselected}
+use Rattle.rela_flows.specs.declared.planning.PlannedRow.TheVariants.{Selected, Unselected}
 use Rattle.rela_certfile.specs.Layout.{IsNamed}
 
 -- each differs from all later ones
@@ -34,18 +34,18 @@ differ_both (row ∷ a) b first then apart =
     (all_both (λ other. row ≢ other) a b first.0 apart.0, differ_both a b first.1 then apart.1)
 
 abbrev flow_of : PlannedRow → ℕ
-flow_of (Checked flow check) = flow
+flow_of (Selected flow check) = flow
 flow_of (Unselected flow) = flow
 
 abbrev check_of : PlannedRow → ℕ
-check_of (Checked flow check) = check
+check_of (Selected flow check) = check
 check_of (Unselected flow) = 0
 
 -- the rows of a flow under some checks
 checked : ℕ → List ℕ → List PlannedRow
-checked flow checks = map (λ k. Checked flow k) checks
+checked flow checks = map (λ k. Selected flow k) checks
 
-later_checks : (flow check : ℕ) (checks : List ℕ) → AllByRecursion (λ k. check < k) checks → AllByRecursion (λ other. Checked flow check ≢ other) (checked flow checks)
+later_checks : (flow check : ℕ) (checks : List ℕ) → AllByRecursion (λ k. check < k) checks → AllByRecursion (λ other. Selected flow check ≢ other) (checked flow checks)
 unfolding checked
 later_checks flow check [] above = tt
 later_checks flow check (k ∷ checks) above =

@@ -4,7 +4,7 @@ use Rattle.std.specs.List.{All, flat_map, slice_get}
 use Rattle.std.proofs.lemmas.List.{map-append}
 use Rattle.std.proofs.lemmas.Option.{get_or_from_slice_get, slice_get_within}
 use Rattle.rela_flows.specs.declared.planning.PlannedRow.{PlannedRow}
-use Rattle.rela_flows.specs.declared.planning.PlannedRow.TheVariants.{Checked, Unselected}
+use Rattle.rela_flows.specs.declared.planning.PlannedRow.TheVariants.{Selected, Unselected}
 use Rattle.rela_certfile.specs.declared.rows.Step.{Step}
 use Rattle.rela_certfile.specs.declared.rows.ListedRow.{ListedRow}
 use Rattle.rela_certfile.specs.declared.item.Item.{Item}
@@ -35,7 +35,7 @@ shape_bounds checks k shape all is = subst HasBounds (get_or_from_slice_get chec
 
 planned_bounds : (l : Layout) (row : Option PlannedRow) (shape : Shape) → IsLayout l → shape_of l.checks row ≡ Some shape → HasBounds shape
 planned_bounds l None shape is found = cc
-planned_bounds l (Some (Checked flow check)) shape is found = shape_bounds l.checks check shape is.bounds found
+planned_bounds l (Some (Selected flow check)) shape is found = shape_bounds l.checks check shape is.bounds found
 planned_bounds l (Some (Unselected flow)) shape is found = cc
 
 bounds_at : (l : Layout) (place : ℕ) (shape : Shape) → IsLayout l → shape_at l place ≡ Some shape → HasBounds shape

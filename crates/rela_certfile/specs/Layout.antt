@@ -3,7 +3,7 @@ use Rattle.std.specs.Prelude.{◌≡◌, ◌≢◌, ℕ, ◌<◌, ◌^◌, Optio
 use Rattle.std.specs.List.{AllPairs, slice_get, slice_index_or}
 use Rattle.rela_names.specs.Name.{IsName}
 use Rattle.rela_flows.specs.declared.planning.PlannedRow.{PlannedRow}
-use Rattle.rela_flows.specs.declared.planning.PlannedRow.TheVariants.{Checked, Unselected}
+use Rattle.rela_flows.specs.declared.planning.PlannedRow.TheVariants.{Selected, Unselected}
 
 -- a check: its name, how many complement blocks a row of it has, and the numbers that the symbols of a
 -- complement block and of an images block are below
@@ -21,7 +21,7 @@ pub record Layout : Type 0 where
 
 -- the row names a flow and a check, or a flow alone
 abbrev pub IsNamed : ℕ → ℕ → PlannedRow → Type 0
-IsNamed flows checks (Checked flow check) = (flow < flows) × (check < checks)
+IsNamed flows checks (Selected flow check) = (flow < flows) × (check < checks)
 IsNamed flows checks (Unselected flow) = ⊤
 
 abbrev pub check_names : List Shape → List (List ℕ)
@@ -44,7 +44,7 @@ pub record IsLayout (l : Layout) : Type 0 where
 -- what the check of a planned row asks
 abbrev pub shape_of : List Shape → Option PlannedRow → Option Shape
 shape_of checks None = None
-shape_of checks (Some (Checked flow check)) = slice_get checks check
+shape_of checks (Some (Selected flow check)) = slice_get checks check
 shape_of checks (Some (Unselected flow)) = None
 
 -- what the check of the row at this place asks; no row there, or one without a check, has none
@@ -54,7 +54,7 @@ shape_at l place = shape_of l.checks (slice_get l.planned place)
 -- `row`, the name of the flow and that of the check, with a blank between two
 abbrev pub title_of : Layout → Option PlannedRow → List ℕ
 title_of l None = []
-title_of l (Some (Checked flow check)) =
+title_of l (Some (Selected flow check)) =
     codes "row " ++ (slice_index_or l.flows flow []
     ++ 32 ∷ slice_index_or (check_names l.checks) check [])
 title_of l (Some (Unselected flow)) = []

@@ -3,7 +3,7 @@
 ghost use Rattle.std.specs.Prelude.{Some, [], ◌∷◌, ◌++◌, codes, MatchOption, OnOk, option_copied, ◌≡◌, ◌≢◌, ℕ, ◌+◌, ◌<◌, ◌≤◌, All, IsSome, IsTrue, ◌↔◌, length, map};
 ghost use Rattle.std.specs.List.{AllPairs, slice_get, slice_index_or};
 ghost use Rattle.rela_names.specs.Name.{IsName};
-ghost use Rattle.rela_flows.specs.declared.planning.PlannedRow.TheVariants.{Checked};
+ghost use Rattle.rela_flows.specs.declared.planning.PlannedRow.TheVariants.{Selected};
 ghost use Rattle.rela_certfile.specs.Layout.{HasBounds, IsLayout, IsNamed, IsRowLine, check_names, row_line, shape_at};
 
 use crate::lines::after_prefix;
@@ -184,11 +184,11 @@ impl<'a> PlanLayout<'a> {
     /// or it has no check.
     fn checked(&self, place: usize) -> Option<(usize, usize)>
         ensures row { (flow check : ℕ) → (result ≡ Some (flow, check))
-            ↔ (slice_get self.now.planned place ≡ Some (Checked flow check)) }
+            ↔ (slice_get self.now.planned place ≡ Some (Selected flow check)) }
         ensures layout { IsLayout self.now }
     {
         match self.planned.get(place) {
-            Some(PlannedRow::Checked { flow, check }) => Some((*flow, *check)),
+            Some(PlannedRow::Selected { flow, check }) => Some((*flow, *check)),
             Some(PlannedRow::Unselected { .. }) => None,
             None => None,
         }

@@ -18,7 +18,7 @@ use Rattle.rela_locations.specs.Network.{Network}
 use Rattle.rela_report.specs.Blamed.{blamed_text}
 use Rattle.rela_report.specs.Status.{is_violated, status_of}
 use Rattle.rela_report.specs.declared.rows.ReportRow.{ReportRow}
-use Rattle.rela_report.specs.declared.rows.ReportRow.TheVariants.{Checked, Unselected}
+use Rattle.rela_report.specs.declared.rows.ReportRow.TheVariants.{Selected, Unselected}
 use Rattle.rela_report.specs.declared.rows.Row.TheVariants.{Compliant, Undecided, Violated}
 use Rattle.rela_report.specs.declared.rows.Side.{Side}
 use Rattle.rela_report.specs.declared.rows.Side.TheVariants as side
@@ -70,9 +70,9 @@ module _ (inside : (of : Side) (check : Check) (locations : ℕ) (u v : List ℕ
   module _ (names : List (List ℕ)) (states : ℕ) (checks : List Check) where
     under_claimed : (pair : FlowPair) (check : Check) (row : ReportRow) → Contains checks check → IsUnder names states pair check row → HasClaim (length names) checks row
     under_claimed pair check (Unselected flow) listed under = tt
-    under_claimed pair check (Checked flow name Compliant) listed under = tt
-    under_claimed pair check (Checked flow name Undecided) listed under = tt
-    under_claimed pair check (Checked flow name (Violated word of source)) listed under =
+    under_claimed pair check (Selected flow name Compliant) listed under = tt
+    under_claimed pair check (Selected flow name Undecided) listed under = tt
+    under_claimed pair check (Selected flow name (Violated word of source)) listed under =
         let offence : IsOffence check (length names) (paths_of check.level names pair.before pair.after).pre (paths_of check.level names pair.before pair.after).post word of source = under.verdict.says in
         (check, listed, sym under.check_name, inside of check (length names) source word offence.first_source.member.1)
 
@@ -87,11 +87,11 @@ module _ (inside : (of : Side) (check : Check) (locations : ℕ) (u v : List ℕ
     alone_claimed : (found : Option FlowPair) (row : ReportRow) → IsSomeAnd found (λ pair. IsAlone pair row) → HasClaim (length names) checks row
     alone_claimed None row alone = absurd alone
     alone_claimed (Some pair) (Unselected flow) alone = tt
-    alone_claimed (Some pair) (Checked flow name row) alone = absurd alone
+    alone_claimed (Some pair) (Selected flow name row) alone = absurd alone
 
     row_claimed : (pairs : List FlowPair) (asked : PlannedRow) (row : ReportRow) → IsRowOf names states checks pairs asked row → HasClaim (length names) checks row
     row_claimed pairs (planned.Unselected flow) row is = alone_claimed (slice_get pairs flow) row is
-    row_claimed pairs (planned.Checked flow check) row is = by_flow (slice_get pairs flow) check row is
+    row_claimed pairs (planned.Selected flow check) row is = by_flow (slice_get pairs flow) check row is
 
     each_claimed : (pairs : List FlowPair) (asked : List PlannedRow) (rows : List ReportRow) → AllZip (IsRowOf names states checks pairs) asked rows → All (HasClaim (length names) checks) rows
     each_claimed pairs [] [] each = All-nil (HasClaim (length names) checks)

@@ -6,7 +6,7 @@ use Rattle.rela_flows.specs.Selects.{Selects}
 use Rattle.rela_flows.specs.declared.predicate.FlowClass.{FlowClass}
 use Rattle.rela_flows.specs.declared.predicate.Predicate.{Predicate}
 use Rattle.rela_flows.specs.declared.planning.PlannedRow.{PlannedRow}
-use Rattle.rela_flows.specs.declared.planning.PlannedRow.TheVariants.{Checked, Unselected}
+use Rattle.rela_flows.specs.declared.planning.PlannedRow.TheVariants.{Selected, Unselected}
 
 -- the places are those below n that have P, each once, in ascending order
 pub record ArePlaces (P : ℕ → Type 0) (n : ℕ) (places : List ℕ) : Type 0 where
@@ -22,7 +22,7 @@ SelectedAt checks class k = HoldsAt (λ p. Selects p class) checks k
 -- the rows of a flow: one for each check that selects it, or the flow alone
 abbrev pub rows_of_flow : ℕ → List ℕ → List PlannedRow
 rows_of_flow flow [] = Unselected flow ∷ []
-rows_of_flow flow (check ∷ checks) = map (λ k. Checked flow k) (check ∷ checks)
+rows_of_flow flow (check ∷ checks) = map (λ k. Selected flow k) (check ∷ checks)
 
 -- the rows of one flow after the other
 abbrev pub rows_from : ℕ → List (List ℕ) → List PlannedRow

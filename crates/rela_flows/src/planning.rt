@@ -4,7 +4,7 @@
 #[derive(Clone, Copy, Debug, PartialEq, Eq)]
 pub enum PlannedRow {
     /// The flow under a check that selects it.
-    Checked {
+    Selected {
         /// The number of the flow.
         flow: usize,
         /// The number of the check.

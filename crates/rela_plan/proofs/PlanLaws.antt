@@ -5,7 +5,7 @@ use Rattle.std.proofs.lemmas.List.{length-map}
 use Rattle.std.proofs.lemmas.List.Elements.{All-nil, All-cons, All-map, All-append, All-push}
 use Rattle.rela_flows.specs.Plan.{ArePlaces, SelectedAt, rows_of_flow, rows_from, Plan}
 use Rattle.rela_flows.specs.declared.planning.PlannedRow.{PlannedRow}
-use Rattle.rela_flows.specs.declared.planning.PlannedRow.TheVariants.{Checked, Unselected}
+use Rattle.rela_flows.specs.declared.planning.PlannedRow.TheVariants.{Selected, Unselected}
 use Rattle.rela_flows.specs.declared.predicate.FlowClass.{FlowClass}
 use Rattle.rela_flows.specs.declared.predicate.Predicate.{Predicate}
 use Rattle.rela_plan.specs.Within.{IsWithin}
@@ -15,7 +15,7 @@ module _ (flows checks : ℕ) where
   flow_within : (flow : ℕ) (places : List ℕ) → flow < flows → All (λ k. k < checks) places → All (IsWithin flows checks) (rows_of_flow flow places)
   flow_within flow [] inside each = All-cons (IsWithin flows checks) (Unselected flow) [] inside (All-nil (IsWithin flows checks))
   flow_within flow (k ∷ ks) inside each =
-      All-map (IsWithin flows checks) (λ i. Checked flow i) (k ∷ ks) (λ i d less. (inside, each i d less))
+      All-map (IsWithin flows checks) (λ i. Selected flow i) (k ∷ ks) (λ i d less. (inside, each i d less))
 
   -- the rows of the flows from one on
   from_within : (P : FlowClass → List ℕ → Type 0) (from : ℕ) (classes : List FlowClass) (selecting : List (List ℕ))

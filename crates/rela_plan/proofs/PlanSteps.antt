@@ -10,7 +10,7 @@ use Rattle.rela_flows.specs.Plan.{ArePlaces, SelectedAt, rows_of_flow, rows_from
 use Rattle.rela_flows.specs.declared.predicate.FlowClass.{FlowClass}
 use Rattle.rela_flows.specs.declared.predicate.Predicate.{Predicate}
 use Rattle.rela_flows.specs.declared.planning.PlannedRow.{PlannedRow}
-use Rattle.rela_flows.specs.declared.planning.PlannedRow.TheVariants.{Checked as CheckedRow, Unselected}
+use Rattle.rela_flows.specs.declared.planning.PlannedRow.TheVariants.{Selected, Unselected}
 use Rattle.rela_plan.specs.Selection.{HasFlow, IsSelection, AreSelections, block_at}
 use Rattle.rela_snapshot.specs.declared.pairing.FlowPair.{FlowPair}
 use Rattle.rela_translate.specs.Checked.{Checked}
@@ -63,19 +63,19 @@ places_same P Q n places same are = record {
 }
 
 -- the rows so far and one more check of the flow
-pub rows_push : (flow check : ℕ) (before rows : List PlannedRow) (places : List ℕ) → rows ≡ before ++ map (λ k. CheckedRow flow k) places
-    → rows ++ CheckedRow flow check ∷ [] ≡ before ++ map (λ k. CheckedRow flow k) (places ++ check ∷ [])
+pub rows_push : (flow check : ℕ) (before rows : List PlannedRow) (places : List ℕ) → rows ≡ before ++ map (λ k. Selected flow k) places
+    → rows ++ Selected flow check ∷ [] ≡ before ++ map (λ k. Selected flow k) (places ++ check ∷ [])
 rows_push flow check before rows places are =
-    ap (λ rs. rs ++ CheckedRow flow check ∷ []) are
-    ∙ append_assoc before (map (λ k. CheckedRow flow k) places) (CheckedRow flow check ∷ [])
-    ∙ ap (λ rs. before ++ rs) (sym (map-append (λ k. CheckedRow flow k) places (check ∷ [])))
+    ap (λ rs. rs ++ Selected flow check ∷ []) are
+    ∙ append_assoc before (map (λ k. Selected flow k) places) (Selected flow check ∷ [])
+    ∙ ap (λ rs. before ++ rs) (sym (map-append (λ k. Selected flow k) places (check ∷ [])))
 
 -- where no check selects the flow, its row alone
-pub row_alone : (flow : ℕ) (before rows new : List PlannedRow) (places : List ℕ) → rows ≡ before ++ map (λ k. CheckedRow flow k) places
+pub row_alone : (flow : ℕ) (before rows new : List PlannedRow) (places : List ℕ) → rows ≡ before ++ map (λ k. Selected flow k) places
     → length rows ≡ length before → new ≡ rows ++ Unselected flow ∷ [] → new ≡ before ++ rows_of_flow flow places
 row_alone flow before rows new [] are few more = more ∙ ap (λ rs. rs ++ Unselected flow ∷ []) (are ∙ append-nil before)
 row_alone flow before rows new (k ∷ ks) are few more =
-    absurd (omega (arith, few, ap length are, length-append before (map (λ i. CheckedRow flow i) (k ∷ ks))))
+    absurd (omega (arith, few, ap length are, length-append before (map (λ i. Selected flow i) (k ∷ ks))))
 
 -- a word at a place within the list has the flow, whatever stands past the list
 pub has_at : (words : List ℕ) (place k : ℕ) → k < length words → HasFlow (get_or words k 0) place → HoldsAt (λ flows. HasFlow flows place) words k

@@ -6,4 +6,4 @@ use Rattle.rela_flows.specs.declared.planning.PlannedRow.TheVariants as planned
 -- the places of a planned row are below these counts
 abbrev pub IsWithin : ℕ → ℕ → PlannedRow → Type 0
 IsWithin flows checks (planned.Unselected flow) = flow < flows
-IsWithin flows checks (planned.Checked flow check) = (flow < flows) × (check < checks)
+IsWithin flows checks (planned.Selected flow check) = (flow < flows) × (check < checks)

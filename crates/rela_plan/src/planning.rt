@@ -87,7 +87,7 @@ fn push_rows_of_flow(
     let before = rows.len();
     for (check, flows) in selections.iter().enumerate() {
         if has_flow(*flows, place) {
-            rows.push(PlannedRow::Checked { flow, check })?;
+            rows.push(PlannedRow::Selected { flow, check })?;
         }
     }
     if rows.len() == before {

@@ -11,7 +11,7 @@ use Rattle.rela_report.specs.Text.{report_text, row_lines, total_text}
 use Rattle.rela_report.specs.Written.{Written, written_of}
 use Rattle.rela_report.specs.declared.counts.Counts.{Counts}
 use Rattle.rela_report.specs.declared.rows.ReportRow.{ReportRow}
-use Rattle.rela_report.specs.declared.rows.ReportRow.TheVariants.{Unselected, Checked}
+use Rattle.rela_report.specs.declared.rows.ReportRow.TheVariants.{Unselected, Selected}
 use Rattle.rela_report.specs.declared.rows.Row.TheVariants.{Compliant, Violated, Undecided}
 
 -- how a writer with these fields is seen
@@ -54,9 +54,9 @@ counted_first p x xs = sum_by-append (λ y. cond (p y) 1 0) (x ∷ []) xs ∙ ap
 -- each row is of one kind
 one_kind : (row : ReportRow) → cond (is_compliant row) 1 0 + cond (is_violated row) 1 0 + cond (is_undecided row) 1 0 + cond (is_unselected row) 1 0 ≡ 1
 one_kind (Unselected flow) = refl
-one_kind (Checked flow check Compliant) = refl
-one_kind (Checked flow check (Violated word side source)) = refl
-one_kind (Checked flow check Undecided) = refl
+one_kind (Selected flow check Compliant) = refl
+one_kind (Selected flow check (Violated word side source)) = refl
+one_kind (Selected flow check Undecided) = refl
 
 -- so the rows of all kinds are all rows
 all_kinds : (rows : List ReportRow) → count_by is_compliant rows + count_by is_violated rows + count_by is_undecided rows + count_by is_unselected rows ≡ length rows
@@ -108,7 +108,7 @@ status_met rows none none_open = rw (none_counted is_violated rows none, none_co
 pub longer : (row : ReportRow) (text next : List ℕ) (counts more : Counts) → counted counts ≤ length text → next ≡ text ++ row_lines [] row
     → counted more ≡ counted counts + 1 → counted more ≤ length next
 longer (Unselected flow) text next counts more few lined one = rw lined (omega (arith, few, one, length-append text (row_lines [] (Unselected flow))))
-longer (Checked flow check row) text next counts more few lined one = rw lined (omega (arith, few, one, length-append text (row_lines [] (Checked flow check row))))
+longer (Selected flow check row) text next counts more few lined one = rw lined (omega (arith, few, one, length-append text (row_lines [] (Selected flow check row))))
 
 -- what follows from what a call gives, where it succeeds
 pub on_ok : {A E P Q : Type 0} (r : Result A E) → (P → Q) → OnOk r P → OnOk r Q

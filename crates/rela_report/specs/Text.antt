@@ -9,7 +9,7 @@ use Rattle.rela_report.specs.declared.rows.Side.TheVariants.{Before, After}
 use Rattle.rela_report.specs.declared.rows.Row.{Row}
 use Rattle.rela_report.specs.declared.rows.Row.TheVariants.{Compliant, Violated, Undecided}
 use Rattle.rela_report.specs.declared.rows.ReportRow.{ReportRow}
-use Rattle.rela_report.specs.declared.rows.ReportRow.TheVariants.{Unselected, Checked}
+use Rattle.rela_report.specs.declared.rows.ReportRow.TheVariants.{Unselected, Selected}
 use Rattle.rela_report.specs.Status.{is_compliant, is_violated, is_undecided, is_unselected}
 
 -- a line, with its line feed
@@ -35,7 +35,7 @@ verdict_lines names (Violated word side source) =
 
 abbrev pub row_lines : List (List ℕ) → ReportRow → List ℕ
 row_lines names (Unselected flow) = codes "flow " ++ (flow ++ line (codes " unselected"))
-row_lines names (Checked flow check row) =
+row_lines names (Selected flow check row) =
     codes "flow " ++ (flow ++ (codes " check " ++ (check ++ verdict_lines names row)))
 
 -- a label and a count
@@ -71,4 +71,4 @@ VerdictHasTexts names (Violated word side source) = HasTexts names word × HasTe
 
 abbrev pub RowHasTexts : List (List ℕ) → ReportRow → Type 0
 RowHasTexts names (Unselected flow) = ⊤
-RowHasTexts names (Checked flow check row) = VerdictHasTexts names row
+RowHasTexts names (Selected flow check row) = VerdictHasTexts names row

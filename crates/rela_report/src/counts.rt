@@ -65,7 +65,7 @@ impl Counts {
     pub(crate) fn count_verdict(&mut self, row: &Row)
         requires { counted self.old < usize.MAX }
         ensures kinds { (flow check : List ℕ) →
-            CountsOneMore self.old self.new (ReportRow.Checked flow check row.now) }
+            CountsOneMore self.old self.new (ReportRow.Selected flow check row.now) }
         ensures all { counted self.new ≡ counted self.old + 1 }
     {
         match row {

@@ -24,8 +24,8 @@ pub(crate) fn push_row(
 {
     match row {
         ReportRow::Unselected { flow } => push_unselected_line(text, flow),
-        ReportRow::Checked { flow, check, row } => {
-            push_checked_lines(alloc, text, flow, check, row, alphabet)
+        ReportRow::Selected { flow, check, row } => {
+            push_selected_lines(alloc, text, flow, check, row, alphabet)
         }
     }
 }
@@ -52,7 +52,7 @@ pub(crate) fn push_unselected_line(text: &mut Vec<u8>, flow: &Name) -> Result<()
 /// # Errors
 ///
 /// Only where memory is wanted.
-pub(crate) fn push_checked_lines(
+pub(crate) fn push_selected_lines(
     alloc: Global,
     text: &mut Vec<u8>,
     flow: &Name,
@@ -62,7 +62,7 @@ pub(crate) fn push_checked_lines(
 ) -> Result<(), AllocError>
     requires { VerdictHasTexts alphabet.now row.now }
     ensures lines { OnOk result (text.new.items ≡ text.old.items
-        ++ row_lines alphabet.now (ReportRow.Checked flow.now check.now row.now)) }
+        ++ row_lines alphabet.now (ReportRow.Selected flow.now check.now row.now)) }
     ensures grown { length text.old.items ≤ length text.new.items }
 {
     text.extend_from_slice(b"flow ")?;

@@ -70,7 +70,7 @@ pub enum ReportRow {
         flow: Name,
     },
     /// A flow under a check that selects it.
-    Checked {
+    Selected {
         /// The flow's name.
         flow: Name,
         /// The check's name.

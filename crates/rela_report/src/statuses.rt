@@ -49,7 +49,7 @@ pub(crate) fn is_compliant(row: &ReportRow) -> bool
 {
     matches!(
         row,
-        ReportRow::Checked {
+        ReportRow::Selected {
             row: Row::Compliant,
             ..
         }
@@ -62,7 +62,7 @@ pub(crate) fn is_violated(row: &ReportRow) -> bool
 {
     matches!(
         row,
-        ReportRow::Checked {
+        ReportRow::Selected {
             row: Row::Violated { .. },
             ..
         }
@@ -75,7 +75,7 @@ pub(crate) fn is_undecided(row: &ReportRow) -> bool
 {
     matches!(
         row,
-        ReportRow::Checked {
+        ReportRow::Selected {
             row: Row::Undecided,
             ..
         }

@@ -7,7 +7,7 @@ ghost use Rattle.rela_report.specs.Text.{report_text, RowHasTexts, VerdictHasTex
 ghost use Rattle.rela_report.specs.Written.{written_of};
 
 use crate::counts::{Counts, total_text};
-use crate::lines::{push_checked_lines, push_unselected_line};
+use crate::lines::{push_selected_lines, push_unselected_line};
 use crate::rows::{ReportRow, Row};
 use crate::statuses::{STATUS_MET, STATUS_UNDECIDED, STATUS_VIOLATED};
 use rela_names::{Alphabet, Name};
@@ -71,8 +71,8 @@ impl ReportWriter {
     {
         match row {
             ReportRow::Unselected { flow } => self.push_unselected(flow),
-            ReportRow::Checked { flow, check, row } => {
-                self.push_checked(alloc, flow, check, row, alphabet)
+            ReportRow::Selected { flow, check, row } => {
+                self.push_selected(alloc, flow, check, row, alphabet)
             }
         }
     }
@@ -98,7 +98,7 @@ impl ReportWriter {
     /// # Errors
     ///
     /// Only where memory is wanted. What is written then is of no use.
-    pub fn push_checked(
+    pub fn push_selected(
         &mut self,
         alloc: Global,
         flow: &Name,
@@ -109,9 +109,9 @@ impl ReportWriter {
         requires { VerdictHasTexts alphabet.now row.now }
         ensures { OnOk result ((rows : List ReportRow) → self.old ≡ written_of alphabet.now rows →
             self.new ≡ written_of alphabet.now
-            (rows ++ ReportRow.Checked flow.now check.now row.now ∷ [])) }
+            (rows ++ ReportRow.Selected flow.now check.now row.now ∷ [])) }
     {
-        push_checked_lines(alloc, &mut self.text, flow, check, row, alphabet)?;
+        push_selected_lines(alloc, &mut self.text, flow, check, row, alphabet)?;
         self.counts.count_verdict(row);
         Ok(())
     }

@@ -12,7 +12,7 @@ use Rattle.rela_graph.specs.Paths.{Paths}
 use Rattle.rela_graph.specs.Topology.{Topology}
 use Rattle.rela_names.specs.declared.level.Level.{Level}
 use Rattle.rela_report.specs.declared.rows.ReportRow.{ReportRow}
-use Rattle.rela_report.specs.declared.rows.ReportRow.TheVariants.{Unselected, Checked}
+use Rattle.rela_report.specs.declared.rows.ReportRow.TheVariants.{Unselected, Selected}
 use Rattle.rela_same_flows.specs.SameFlows.{SameGraph, SamePair, SamePairs}
 use Rattle.rela_snapshot.specs.declared.pairing.FlowPair.{FlowPair}
 use Rattle.rela_translate.specs.Checked.{Checked as Check}
@@ -41,8 +41,8 @@ HaveSamePaths =
 module _ (same_paths : HaveSamePaths) (names : List (List ℕ)) (states : ℕ) where
   decided_agree : (p q : FlowPair) (check : Check) (row other : ReportRow) → SamePair p q → IsUnder names states p check row → IsUnder names states q check other → AgreeInRow row other
   decided_agree p q check (Unselected flow) other same one two = absurd one
-  decided_agree p q check (Checked flow name row) (Unselected f) same one two = absurd two
-  decided_agree p q check (Checked flow name row) (Checked f n v) same one two = (
+  decided_agree p q check (Selected flow name row) (Unselected f) same one two = absurd two
+  decided_agree p q check (Selected flow name row) (Selected f n v) same one two = (
     one.flow_name ∙ (ap (λ (c : FlowClass). c.name) same.class ∙ sym two.flow_name),
     one.check_name ∙ sym two.check_name,
     verdicts_agree check (length names) states (paths_of check.level names p.before p.after) (paths_of check.level names q.before q.after)
@@ -53,8 +53,8 @@ module _ (same_paths : HaveSamePaths) (names : List (List ℕ)) (states : ℕ) w
 
   alone_agree : (p q : FlowPair) (row other : ReportRow) → SamePair p q → IsAlone p row → IsAlone q other → AgreeInRow row other
   alone_agree p q (Unselected flow) (Unselected f) same one two = one ∙ (ap (λ (c : FlowClass). c.name) same.class ∙ sym two)
-  alone_agree p q (Unselected flow) (Checked f n v) same one two = absurd two
-  alone_agree p q (Checked flow name row) other same one two = absurd one
+  alone_agree p q (Unselected flow) (Selected f n v) same one two = absurd two
+  alone_agree p q (Selected flow name row) other same one two = absurd one
 
   under_agree : (found : Option Check) (p q : FlowPair) (row other : ReportRow) → SamePair p q → IsSomeAnd found (λ by. IsUnder names states p by row)
       → IsSomeAnd found (λ by. IsUnder names states q by other) → AgreeInRow row other
@@ -67,10 +67,10 @@ module _ (same_paths : HaveSamePaths) (names : List (List ℕ)) (states : ℕ) w
   row_agrees checks (p ∷ ps) [] (planned.Unselected flow) made other same one two = absurd same
   row_agrees checks (p ∷ ps) (q ∷ qs) (planned.Unselected zero) made other same one two = alone_agree p q made other same.0 one two
   row_agrees checks (p ∷ ps) (q ∷ qs) (planned.Unselected (suc k)) made other same one two = row_agrees checks ps qs (planned.Unselected k) made other same.1 one two
-  row_agrees checks [] qs (planned.Checked flow check) made other same one two = absurd one
-  row_agrees checks (p ∷ ps) [] (planned.Checked flow check) made other same one two = absurd same
-  row_agrees checks (p ∷ ps) (q ∷ qs) (planned.Checked zero check) made other same one two = under_agree (slice_get checks check) p q made other same.0 one two
-  row_agrees checks (p ∷ ps) (q ∷ qs) (planned.Checked (suc k) check) made other same one two = row_agrees checks ps qs (planned.Checked k check) made other same.1 one two
+  row_agrees checks [] qs (planned.Selected flow check) made other same one two = absurd one
+  row_agrees checks (p ∷ ps) [] (planned.Selected flow check) made other same one two = absurd same
+  row_agrees checks (p ∷ ps) (q ∷ qs) (planned.Selected zero check) made other same one two = under_agree (slice_get checks check) p q made other same.0 one two
+  row_agrees checks (p ∷ ps) (q ∷ qs) (planned.Selected (suc k) check) made other same one two = row_agrees checks ps qs (planned.Selected k check) made other same.1 one two
 
   rows_agree : (checks : List Check) (ps qs : List FlowPair) (rows : List PlannedRow) (made others : List ReportRow) → SamePairs ps qs
       → AllZip (IsRowOf names states checks ps) rows made → AllZip (IsRowOf names states checks qs) rows others → AgreeInRows made others

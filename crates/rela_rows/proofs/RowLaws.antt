@@ -40,7 +40,7 @@ alone_row names checks compiled pairs flow pair name row is inside pair_is named
 
 -- the row of a flow under a check
 pub under_row : (names : List (List ℕ)) (states : ℕ) (pairs : List FlowPair) (checks : List Check) (flow check : ℕ) (pair : FlowPair) (by : Check) (row : PlannedRow) (made : ReportRow)
-    → row ≡ planned.Checked flow check → flow < length pairs → check < length checks
+    → row ≡ planned.Selected flow check → flow < length pairs → check < length checks
     → pair ≡ get_or pairs flow pair → by ≡ get_or checks check by → IsUnder names states pair by made
     → IsRowOf names states checks pairs row made
 under_row names states pairs checks flow check pair by row made is flow_inside check_inside pair_is by_is under =

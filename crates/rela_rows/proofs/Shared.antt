@@ -17,7 +17,7 @@ use Rattle.rela_graph.specs.Paths.{Paths, Arrives, Undelivered, locations}
 use Rattle.rela_graph.specs.Topology.{Topology}
 use Rattle.rela_names.specs.declared.level.Level.{Level}
 use Rattle.rela_report.specs.Text.{VerdictHasTexts}
-use Rattle.rela_report.specs.declared.rows.ReportRow.TheVariants.{Checked}
+use Rattle.rela_report.specs.declared.rows.ReportRow.TheVariants.{Selected}
 use Rattle.rela_report.specs.declared.rows.Row.{Row}
 use Rattle.rela_snapshot.specs.declared.pairing.FlowPair.{FlowPair}
 use Rattle.rela_rows.proofs.RowLaws.{under_row}
@@ -116,8 +116,8 @@ verdict_by names pairs checks compiled places flow k pair by row flow_inside che
 -- the row of a flow under a check, from its verdict
 pub shown_row : (names : List (List ℕ)) (pairs : List FlowPair) (checks : List Check) (compiled : List Compiled) (flow k : ℕ) (pair : FlowPair) (check : Check)
     (planned_row : PlannedRow) (row : Row) → flow < length pairs → k < length checks → pair ≡ get_or pairs flow pair → check ≡ get_or checks k check
-    → planned_row ≡ planned.Checked flow k → IsVerdictBy names checks compiled pairs flow k row
-    → IsRowBy names checks compiled pairs planned_row (Checked pair.class.name check.name row)
+    → planned_row ≡ planned.Selected flow k → IsVerdictBy names checks compiled pairs flow k row
+    → IsRowBy names checks compiled pairs planned_row (Selected pair.class.name check.name row)
 shown_row names pairs checks compiled flow k pair check planned_row row flow_inside check_inside pair_is check_is is verdict = λ states limits.
     let of_flow : IsSomeAnd (slice_get checks k) (λ (c : Check). RowOf c (length names) (paths_of c.level names pair.before pair.after) states row) =
     subst (λ o. IsSomeAnd o (λ (p : FlowPair). IsSomeAnd (slice_get checks k) (λ (c : Check). RowOf c (length names) (paths_of c.level names p.before p.after) states row)))
@@ -125,7 +125,7 @@ shown_row names pairs checks compiled flow k pair check planned_row row flow_ins
     let right : RowOf check (length names) (paths_of check.level names pair.before pair.after) states row =
     subst (λ o. IsSomeAnd o (λ (c : Check). RowOf c (length names) (paths_of c.level names pair.before pair.after) states row))
     (slice_get_read checks (length checks) k check refl check_inside check_is) of_flow in
-    under_row names states pairs checks flow k pair check planned_row (Checked pair.class.name check.name row) is flow_inside check_inside pair_is check_is
+    under_row names states pairs checks flow k pair check planned_row (Selected pair.class.name check.name row) is flow_inside check_inside pair_is check_is
     (record { flow_name = refl; check_name = refl; verdict = right })
 
 -- two flows that look the same, by their numbers

@@ -10,7 +10,7 @@ use Rattle.rela_flows.specs.declared.planning.PlannedRow.{PlannedRow}
 use Rattle.rela_flows.specs.declared.planning.PlannedRow.TheVariants as planned
 use Rattle.rela_report.specs.Written.{Written, written_of}
 use Rattle.rela_report.specs.declared.rows.ReportRow.{ReportRow}
-use Rattle.rela_report.specs.declared.rows.ReportRow.TheVariants.{Unselected, Checked}
+use Rattle.rela_report.specs.declared.rows.ReportRow.TheVariants.{Unselected, Selected}
 use Rattle.rela_report.specs.declared.rows.Row.{Row}
 use Rattle.rela_report.specs.declared.rows.Row.TheVariants.{Undecided}
 use Rattle.rela_snapshot.specs.PairsLocated.{ArePairsLocated}
@@ -27,21 +27,21 @@ pub record IsDecided (names : List (List ℕ)) (states : ℕ) (pair : FlowPair) 
       pair.after) states row
 
 abbrev pub IsUnder : List (List ℕ) → ℕ → FlowPair → Check → ReportRow → Type 0
-IsUnder names states pair check (Checked flow name row) =
+IsUnder names states pair check (Selected flow name row) =
     IsDecided names states pair check flow name row
 IsUnder names states pair check (Unselected flow) = ⊥
 
 -- the row is of this flow alone
 abbrev pub IsAlone : FlowPair → ReportRow → Type 0
 IsAlone pair (Unselected flow) = flow ≡ pair.class.name
-IsAlone pair (Checked flow name row) = ⊥
+IsAlone pair (Selected flow name row) = ⊥
 
 -- the row of the report that a planned row becomes; flows and checks are planned by their places
 abbrev pub IsRowOf : List (List ℕ) → ℕ → List Check → List FlowPair → PlannedRow →
     ReportRow → Type 0
 IsRowOf names states checks pairs (planned.Unselected flow) row =
     IsSomeAnd (slice_get pairs flow) (λ pair. IsAlone pair row)
-IsRowOf names states checks pairs (planned.Checked flow check) row =
+IsRowOf names states checks pairs (planned.Selected flow check) row =
     IsSomeAnd (slice_get pairs flow) (λ pair. IsSomeAnd (slice_get checks check) (λ by.
     IsUnder names states pair by row))
 
@@ -72,9 +72,9 @@ AgreeInVerdict row other = (row ≡ other) ⊎ ((row ≡ Undecided) ⊎ (other �
 -- the two rows have one flow and one check, and their verdicts agree
 abbrev pub AgreeInRow : ReportRow → ReportRow → Type 0
 AgreeInRow (Unselected flow) (Unselected other) = flow ≡ other
-AgreeInRow (Unselected flow) (Checked other name row) = ⊥
-AgreeInRow (Checked flow name row) (Unselected other) = ⊥
-AgreeInRow (Checked flow name row) (Checked other named verdict) =
+AgreeInRow (Unselected flow) (Selected other name row) = ⊥
+AgreeInRow (Selected flow name row) (Unselected other) = ⊥
+AgreeInRow (Selected flow name row) (Selected other named verdict) =
     (flow ≡ other) × (name ≡ named) × AgreeInVerdict row verdict
 
 abbrev pub AgreeInRows : List ReportRow → List ReportRow → Type 0

@@ -271,7 +271,7 @@ fn row_of(
         PlannedRow::Unselected { flow } => Ok(ReportRow::Unselected {
             flow: pairs[flow].class.name.copy(alloc)?,
         }),
-        PlannedRow::Checked { flow, check } => {
+        PlannedRow::Selected { flow, check } => {
             let row = verdict_of(alloc, flow, check, pairs, judges, alphabet, kept)?;
             let (pair, by) = (&pairs[flow], &judges.checks[check]);
             row_under(alloc, pair, by, row)
@@ -299,10 +299,10 @@ fn write_row(
 {
     match *planned {
         PlannedRow::Unselected { flow } => writer.push_unselected(&pairs[flow].class.name),
-        PlannedRow::Checked { flow, check } => {
+        PlannedRow::Selected { flow, check } => {
             let row = verdict_of(alloc, flow, check, pairs, judges, alphabet, kept)?;
             let (pair, by) = (&pairs[flow], &judges.checks[check]);
-            writer.push_checked(alloc, &pair.class.name, by.name(), &row, alphabet)
+            writer.push_selected(alloc, &pair.class.name, by.name(), &row, alphabet)
         }
     }
 }
@@ -347,10 +347,10 @@ fn row_under(
     check: &Check,
     row: Row,
 ) -> Result<ReportRow, AllocError>
-    ensures { IfOk result (λ made. made ≡ ReportRow.Checked pair.now.class.name
+    ensures { IfOk result (λ made. made ≡ ReportRow.Selected pair.now.class.name
         check.now.name row) }
 {
     let flow = pair.class.name.copy(alloc)?;
     let check = check.name().copy(alloc)?;
-    Ok(ReportRow::Checked { flow, check, row })
+    Ok(ReportRow::Selected { flow, check, row })
 }

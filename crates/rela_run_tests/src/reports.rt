@@ -34,7 +34,7 @@ fn counts(alloc: Global, rows: &[ReportRow]) -> bool {
 fn counts_flows(alloc: Global, first: Name, second: Name, check: Name) -> bool {
     let rows = [
         ReportRow::Unselected { flow: first },
-        ReportRow::Checked {
+        ReportRow::Selected {
             flow: second,
             check,
             row: Row::Undecided,

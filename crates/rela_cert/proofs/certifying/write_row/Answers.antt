@@ -6,7 +6,7 @@ use Rattle.rela_certfile.specs.Layout.{Layout, shape_at}
 use Rattle.rela_certfile.specs.Listed.{IsListedAs}
 use Rattle.rela_certfile.specs.declared.rows.ListedRow.{ListedRow}
 use Rattle.rela_flows.specs.declared.planning.PlannedRow.{PlannedRow}
-use Rattle.rela_flows.specs.declared.planning.PlannedRow.TheVariants.{Checked, Unselected}
+use Rattle.rela_flows.specs.declared.planning.PlannedRow.TheVariants.{Selected, Unselected}
 use Rattle.rela_cert.specs.Inputs.{subject_of}
 use Rattle.rela_cert.specs.Sharing.{HoldsOf, IsFoundFor}
 use Rattle.rela_cert.proofs.Listings.{read_at, within_there}
@@ -24,78 +24,78 @@ pub index-other-requires : goal.index-other-requires
 index-other-requires c =
     let s = subject_of c.args.inputs.now in
     let rows = c.args.planning.now.rows.items in
-    let planned = row_there rows c.args.place c.index.result.now (Checked c.in-Checked.flow c.in-Checked.check) c.requires.place c.index.ensures c.in-Checked.is in
-    let within = within_there s rows c.requires.planned.within c.args.place c.in-Checked.flow c.in-Checked.check planned in
-    let below = listed_below s c.args.planning.now.alike.items c.requires.planned.alike c.in-Checked.flow c.in-Checked.check within.0 within.1 in
+    let planned = row_there rows c.args.place c.index.result.now (Selected c.in-Selected.flow c.in-Selected.check) c.requires.place c.index.ensures c.in-Selected.is in
+    let within = within_there s rows c.requires.planned.within c.args.place c.in-Selected.flow c.in-Selected.check planned in
+    let below = listed_below s c.args.planning.now.alike.items c.requires.planned.alike c.in-Selected.flow c.in-Selected.check within.0 within.1 in
     omega (arith, below)
 
 pub take_or_find-requires-clause-flow : goal.take_or_find-requires-clause-flow
 take_or_find-requires-clause-flow c =
     let s = subject_of c.args.inputs.now in
     let rows = c.args.planning.now.rows.items in
-    let planned = row_there rows c.args.place c.index.result.now (Checked c.in-Checked.flow c.in-Checked.check) c.requires.place c.index.ensures c.in-Checked.is in
-    let within = within_there s rows c.requires.planned.within c.args.place c.in-Checked.flow c.in-Checked.check planned in
-    other_below s c.args.planning.now.alike.items c.requires.planned.alike c.in-Checked.flow c.in-Checked.check c.index-other.result.now within.0 within.1 c.index-other.ensures
+    let planned = row_there rows c.args.place c.index.result.now (Selected c.in-Selected.flow c.in-Selected.check) c.requires.place c.index.ensures c.in-Selected.is in
+    let within = within_there s rows c.requires.planned.within c.args.place c.in-Selected.flow c.in-Selected.check planned in
+    other_below s c.args.planning.now.alike.items c.requires.planned.alike c.in-Selected.flow c.in-Selected.check c.index-other.result.now within.0 within.1 c.index-other.ensures
 
 pub offset_bounds-inputs-other : goal.offset_bounds-inputs-other
 offset_bounds-inputs-other c =
     let s = subject_of c.args.inputs.now in
     let rows = c.args.planning.now.rows.items in
-    let planned = row_there rows c.args.place c.index.result.now (Checked c.in-Checked.flow c.in-Checked.check) c.requires.place c.index.ensures c.in-Checked.is in
-    let within = within_there s rows c.requires.planned.within c.args.place c.in-Checked.flow c.in-Checked.check planned in
-    let below = other_below s c.args.planning.now.alike.items c.requires.planned.alike c.in-Checked.flow c.in-Checked.check c.index-other.result.now within.0 within.1 c.index-other.ensures in
+    let planned = row_there rows c.args.place c.index.result.now (Selected c.in-Selected.flow c.in-Selected.check) c.requires.place c.index.ensures c.in-Selected.is in
+    let within = within_there s rows c.requires.planned.within c.args.place c.in-Selected.flow c.in-Selected.check planned in
+    let below = other_below s c.args.planning.now.alike.items c.requires.planned.alike c.in-Selected.flow c.in-Selected.check c.index-other.result.now within.0 within.1 c.index-other.ensures in
     omega (arith, below)
 
 pub bounds-inputs-other : goal.bounds-inputs-other
 bounds-inputs-other c =
     let s = subject_of c.args.inputs.now in
     let rows = c.args.planning.now.rows.items in
-    let planned = row_there rows c.args.place c.index.result.now (Checked c.in-Checked.flow c.in-Checked.check) c.requires.place c.index.ensures c.in-Checked.is in
-    let within = within_there s rows c.requires.planned.within c.args.place c.in-Checked.flow c.in-Checked.check planned in
-    other_below s c.args.planning.now.alike.items c.requires.planned.alike c.in-Checked.flow c.in-Checked.check c.index-other.result.now within.0 within.1 c.index-other.ensures
+    let planned = row_there rows c.args.place c.index.result.now (Selected c.in-Selected.flow c.in-Selected.check) c.requires.place c.index.ensures c.in-Selected.is in
+    let within = within_there s rows c.requires.planned.within c.args.place c.in-Selected.flow c.in-Selected.check planned in
+    other_below s c.args.planning.now.alike.items c.requires.planned.alike c.in-Selected.flow c.in-Selected.check c.index-other.result.now within.0 within.1 c.index-other.ensures
 
 pub write_found-requires : goal.write_found-requires
 write_found-requires c =
     let s = subject_of c.args.inputs.now in
     let rows = c.args.planning.now.rows.items in
-    let planned = row_there rows c.args.place c.index.result.now (Checked c.in-Checked.flow c.in-Checked.check) c.requires.place c.index.ensures c.in-Checked.is in
-    let within = within_there s rows c.requires.planned.within c.args.place c.in-Checked.flow c.in-Checked.check planned in
-    let below = other_below s c.args.planning.now.alike.items c.requires.planned.alike c.in-Checked.flow c.in-Checked.check c.index-other.result.now within.0 within.1 c.index-other.ensures in
+    let planned = row_there rows c.args.place c.index.result.now (Selected c.in-Selected.flow c.in-Selected.check) c.requires.place c.index.ensures c.in-Selected.is in
+    let within = within_there s rows c.requires.planned.within c.args.place c.in-Selected.flow c.in-Selected.check planned in
+    let below = other_below s c.args.planning.now.alike.items c.requires.planned.alike c.in-Selected.flow c.in-Selected.check c.index-other.result.now within.0 within.1 c.index-other.ensures in
     subst (λ (l : Layout). IfSome c.found_at-found.result (λ row. IsListedAs (shape_at l row.place) row)) (sym c.requires.layout)
     (found_listed s rows c.args.states c.args.place c.found_at-found.result
-    (found_here s rows c.args.planning.now.alike.items c.requires.planned.alike c.args.states c.args.place c.in-Checked.flow c.in-Checked.check c.index-other.result.now
-    (get_or s.pairs c.in-Checked.flow c.index-inputs-flow.result) (get_or s.pairs c.index-other.result.now c.index-inputs-other.result)
-    (get_or s.checks c.in-Checked.check c.index-inputs-check.result) planned
-    (slice_get-get_or s.pairs c.in-Checked.flow c.index-inputs-flow.result within.0)
+    (found_here s rows c.args.planning.now.alike.items c.requires.planned.alike c.args.states c.args.place c.in-Selected.flow c.in-Selected.check c.index-other.result.now
+    (get_or s.pairs c.in-Selected.flow c.index-inputs-flow.result) (get_or s.pairs c.index-other.result.now c.index-inputs-other.result)
+    (get_or s.checks c.in-Selected.check c.index-inputs-check.result) planned
+    (slice_get-get_or s.pairs c.in-Selected.flow c.index-inputs-flow.result within.0)
     (slice_get-get_or s.pairs c.index-other.result.now c.index-inputs-other.result below)
-    (slice_get-get_or s.checks c.in-Checked.check c.index-inputs-check.result within.1) c.index-other.ensures
+    (slice_get-get_or s.checks c.in-Selected.check c.index-inputs-check.result within.1) c.index-other.ensures
     c.rows_carry_over.ensures.met c.rows_carry_over.ensures.made c.rows_carry_over.ensures.excused
-    c.in_ok-found-in-Checked.found c.found_at-found.result c.found_at-found.ensures c.in_ok-found-in-Checked.ensures.found))
+    c.in_ok-found-in-Selected.found c.found_at-found.result c.found_at-found.ensures c.in_ok-found-in-Selected.ensures.found))
 
-pub returns-in_ok-insert-in-Checked-clause-kept : goal.returns-in_ok-insert-in-Checked-clause-kept
-returns-in_ok-insert-in-Checked-clause-kept c =
+pub returns-in_ok-insert-in-Selected-clause-kept : goal.returns-in_ok-insert-in-Selected-clause-kept
+returns-in_ok-insert-in-Selected-clause-kept c =
     let s = subject_of c.args.inputs.now in
-    found_more s c.args.states c.take_or_find.new.kept c.insert.new.self c.index-other.result.now c.in-Checked.check c.found_at-found.result c.in_ok-insert-in-Checked.ensures.updates.0
+    found_more s c.args.states c.take_or_find.new.kept c.insert.new.self c.index-other.result.now c.in-Selected.check c.found_at-found.result c.in_ok-insert-in-Selected.ensures.updates.0
     c.take_or_find.ensures.kept
-    (subst (λ (found : Option ListedRow). HoldsOf s c.index-other.result.now c.in-Checked.check (IsFoundFor (length s.names) c.args.states found)) (sym c.found_at-found.ensures)
-    (holds_placed s c.args.states c.args.place c.index-other.result.now c.in-Checked.check c.in_ok-found-in-Checked.found c.in_ok-found-in-Checked.ensures.found))
+    (subst (λ (found : Option ListedRow). HoldsOf s c.index-other.result.now c.in-Selected.check (IsFoundFor (length s.names) c.args.states found)) (sym c.found_at-found.ensures)
+    (holds_placed s c.args.states c.args.place c.index-other.result.now c.in-Selected.check c.in_ok-found-in-Selected.found c.in_ok-found-in-Selected.ensures.found))
 
-pub returns-in_ok-insert-in-Checked-clause-written : goal.returns-in_ok-insert-in-Checked-clause-written
-returns-in_ok-insert-in-Checked-clause-written c begun =
+pub returns-in_ok-insert-in-Selected-clause-written : goal.returns-in_ok-insert-in-Selected-clause-written
+returns-in_ok-insert-in-Selected-clause-written c begun =
     let s = subject_of c.args.inputs.now in
     let rows = c.args.planning.now.rows.items in
-    let planned = row_there rows c.args.place c.index.result.now (Checked c.in-Checked.flow c.in-Checked.check) c.requires.place c.index.ensures c.in-Checked.is in
-    let within = within_there s rows c.requires.planned.within c.args.place c.in-Checked.flow c.in-Checked.check planned in
-    let below = other_below s c.args.planning.now.alike.items c.requires.planned.alike c.in-Checked.flow c.in-Checked.check c.index-other.result.now within.0 within.1 c.index-other.ensures in
-    c.in_ok-write_found-in-Checked.ensures s rows c.args.states c.args.place c.requires.layout
-    (found_here s rows c.args.planning.now.alike.items c.requires.planned.alike c.args.states c.args.place c.in-Checked.flow c.in-Checked.check c.index-other.result.now
-    (get_or s.pairs c.in-Checked.flow c.index-inputs-flow.result) (get_or s.pairs c.index-other.result.now c.index-inputs-other.result)
-    (get_or s.checks c.in-Checked.check c.index-inputs-check.result) planned
-    (slice_get-get_or s.pairs c.in-Checked.flow c.index-inputs-flow.result within.0)
+    let planned = row_there rows c.args.place c.index.result.now (Selected c.in-Selected.flow c.in-Selected.check) c.requires.place c.index.ensures c.in-Selected.is in
+    let within = within_there s rows c.requires.planned.within c.args.place c.in-Selected.flow c.in-Selected.check planned in
+    let below = other_below s c.args.planning.now.alike.items c.requires.planned.alike c.in-Selected.flow c.in-Selected.check c.index-other.result.now within.0 within.1 c.index-other.ensures in
+    c.in_ok-write_found-in-Selected.ensures s rows c.args.states c.args.place c.requires.layout
+    (found_here s rows c.args.planning.now.alike.items c.requires.planned.alike c.args.states c.args.place c.in-Selected.flow c.in-Selected.check c.index-other.result.now
+    (get_or s.pairs c.in-Selected.flow c.index-inputs-flow.result) (get_or s.pairs c.index-other.result.now c.index-inputs-other.result)
+    (get_or s.checks c.in-Selected.check c.index-inputs-check.result) planned
+    (slice_get-get_or s.pairs c.in-Selected.flow c.index-inputs-flow.result within.0)
     (slice_get-get_or s.pairs c.index-other.result.now c.index-inputs-other.result below)
-    (slice_get-get_or s.checks c.in-Checked.check c.index-inputs-check.result within.1) c.index-other.ensures
+    (slice_get-get_or s.checks c.in-Selected.check c.index-inputs-check.result within.1) c.index-other.ensures
     c.rows_carry_over.ensures.met c.rows_carry_over.ensures.made c.rows_carry_over.ensures.excused
-    c.in_ok-found-in-Checked.found c.found_at-found.result c.found_at-found.ensures c.in_ok-found-in-Checked.ensures.found)
+    c.in_ok-found-in-Selected.found c.found_at-found.result c.found_at-found.ensures c.in_ok-found-in-Selected.ensures.found)
     begun
 
 pub returns-in-Unselected-clause-written : goal.returns-in-Unselected-clause-written

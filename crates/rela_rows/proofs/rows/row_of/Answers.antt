@@ -1,6 +1,6 @@
 use Rattle.std.proofs.Common.{◌∙◌, ◌≡◌, ap, get_or, subst, sym}
 use Rattle.rela_report.specs.declared.rows.ReportRow.{ReportRow}
-use Rattle.rela_report.specs.declared.rows.ReportRow.TheVariants.{Checked}
+use Rattle.rela_report.specs.declared.rows.ReportRow.TheVariants.{Selected}
 use Rattle.rela_translate.specs.Checked.{Checked as Check}
 use Rattle.rela_rows.specs.Sharing.{IsRowBy}
 use Rattle.rela_rows.proofs.Loops.{if_ok}
@@ -15,17 +15,17 @@ returns-in_ok-copy-in-Unselected-clause-row c =
     c.in_ok-copy-in-Unselected.field-0 c.args.planned.now c.in-Unselected.is within c.index-pairs-flow.is
     (c.in_ok-copy-in-Unselected.ensures ∙ ap (λ pair. pair.class.name) (sym c.index-pairs-flow.is))
 
-pub returns-in_ok-row-in-Checked-clause-row : goal.returns-in_ok-row-in-Checked-clause-row
-returns-in_ok-row-in-Checked-clause-row c =
-    let within = rw c.in-Checked.is at c.requires.planned in
+pub returns-in_ok-row-in-Selected-clause-row : goal.returns-in_ok-row-in-Selected-clause-row
+returns-in_ok-row-in-Selected-clause-row c =
+    let within = rw c.in-Selected.is at c.requires.planned in
     let judges = c.args.judges.now in
-    let pair = c.index-pairs-flow-in-Checked.result in
+    let pair = c.index-pairs-flow-in-Selected.result in
     let check = c.index-judges-check.result in
-    let row = c.in_ok-row-in-Checked.row in
-    if_ok (λ (made : ReportRow). made ≡ Checked pair.class.name (get_or judges.checks.now c.in-Checked.check check).name row)
+    let row = c.in_ok-row-in-Selected.row in
+    if_ok (λ (made : ReportRow). made ≡ Selected pair.class.name (get_or judges.checks.now c.in-Selected.check check).name row)
     (IsRowBy c.args.alphabet.now judges.checks.now judges.compiled.now c.args.pairs.now c.args.planned.now) c.row_under.result
     (λ made is. subst (λ (m : ReportRow). IsRowBy c.args.alphabet.now judges.checks.now judges.compiled.now c.args.pairs.now c.args.planned.now m)
-    (sym (is ∙ ap (λ (b : Check). Checked pair.class.name b.name row) (sym c.index-judges-check.is)))
-    (shown_row c.args.alphabet.now c.args.pairs.now judges.checks.now judges.compiled.now c.in-Checked.flow c.in-Checked.check pair check c.args.planned.now row
-    within.0 within.1 c.index-pairs-flow-in-Checked.is c.index-judges-check.is c.in-Checked.is c.in_ok-row-in-Checked.ensures.verdict))
+    (sym (is ∙ ap (λ (b : Check). Selected pair.class.name b.name row) (sym c.index-judges-check.is)))
+    (shown_row c.args.alphabet.now c.args.pairs.now judges.checks.now judges.compiled.now c.in-Selected.flow c.in-Selected.check pair check c.args.planned.now row
+    within.0 within.1 c.index-pairs-flow-in-Selected.is c.index-judges-check.is c.in-Selected.is c.in_ok-row-in-Selected.ensures.verdict))
     c.row_under.ensures
