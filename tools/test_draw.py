@@ -7,17 +7,14 @@ Its last line is `N passed, M failed`, and its status 1 where one failed. It nee
 """
 import json, os, subprocess, sys, tempfile
 
-DRAW, RESULTS = os.path.join(os.path.dirname(os.path.realpath(__file__)), "draw.py"), []
+sys.dont_write_bytecode = True
+from tally import finish, holds
+
+DRAW = os.path.join(os.path.dirname(os.path.realpath(__file__)), "draw.py")
 PLACES = {"version": 1, "groups": [{"name": "g", "devices": [{"name": f"r{at}", "interfaces": [f"r{at}:0"]} for at in (1, 2, 3)]}]}
 GREY, RED, GREEN = ('color="#707070" style="solid" penwidth=1', 'color="#D55E00" style="dashed" penwidth=2',
                     'color="#009E73" style="solid" penwidth=2')
 BLUE, ORANGE = (f'color="{it}" fontcolor="{it}" penwidth=4 arrowsize=0.6' for it in ("#0072B2", "#E69F00"))
-
-
-def holds(what, is_so):
-    RESULTS.append(bool(is_so))
-    if not is_so:
-        print(f"FAILED: {what}", flush=True)
 
 
 def flow(nodes, edges, starts, delivered, version=1, name="f"):
@@ -89,9 +86,7 @@ def main():
     with tempfile.TemporaryDirectory(prefix="test-draw-") as room:
         pictures(room)
         refusals(room)
-    failed = RESULTS.count(False)
-    print(f"{len(RESULTS) - failed} passed, {failed} failed")
-    return 1 if failed else 0
+    return finish()
 
 
 if __name__ == "__main__":

@@ -15,7 +15,8 @@ import from_frr
 from fakes.change import get, put
 from fakes.printed import (AT_B, FAULTY_FRR, FAULTY_LINUX, FRR, FRR_ROUTES, LINUX, LINUX_ROUTES, LOCATIONS, OUTSIDE, PREFIX,
                            TABLES, frr_interface, frr_route, linux_route)
-from test_reports import RESULTS, holds, run
+from tally import finish, holds
+from test_reports import run
 
 EXAMPLE = os.path.join(os.path.dirname(os.path.dirname(os.path.realpath(__file__))), "examples", "ospf-drain")
 
@@ -140,9 +141,7 @@ def main():
     with tempfile.TemporaryDirectory(prefix="test-from-frr-") as room:
         for test in (chooses, writes, refuses, reads_two_folders, reads_what_was_collected):
             test(room)
-    failed = RESULTS.count(False)
-    print(f"{len(RESULTS) - failed} passed, {failed} failed")
-    return 1 if failed else 0
+    return finish()
 
 
 if __name__ == "__main__":

@@ -17,6 +17,7 @@ from outside.faulty import WEB, refusals, snapshot
 from outside.outputs import BAD_WORDS
 from outside.program import (CERTIFICATE, FAILS, HOLDS, SNAPSHOT, ZONE, Program, audit, certify, check, demo, fib, get, limit, refused,
                              rir, zone)
+from tally import finish
 
 # How many flows a long snapshot has, and checks a long specification.
 FLOWS = 10_000
@@ -211,9 +212,7 @@ def main(words):
             for test in (outputs.takes_some, outputs.slowly, outputs.breaks_off, memory):
                 test(it, *run)
         it.holds("no input is changed", all(get(f"{room}/{name}") == text for name, text in it.texts.items()))
-    failed = it.results.count(False)
-    print(f"{len(it.results) - failed} passed, {failed} failed")
-    return 1 if failed else 0
+    return finish()
 
 
 if __name__ == "__main__":

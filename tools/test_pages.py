@@ -14,18 +14,12 @@ import tempfile
 
 sys.dont_write_bytecode = True
 from run_examples import EXAMPLES, runs_of
+from tally import finish, holds
 
 TOP = os.path.dirname(EXAMPLES)
 GUIDE = f"{TOP}/docs/GUIDE.md"
-RESULTS = []
 # With this behind it, a command on a page shows no compliant rows.
 CUT = " | grep -v 'compliant$'"
-
-
-def holds(what, is_so):
-    RESULTS.append(bool(is_so))
-    if not is_so:
-        print(f"FAILED: {what}", flush=True)
 
 
 def text_of(path):
@@ -137,9 +131,7 @@ def main():
         shows_what_runs_gave(name)
     pairs_mistakes_with_answers()
     tells_places()
-    failed = RESULTS.count(False)
-    print(f"{len(RESULTS) - failed} passed, {failed} failed")
-    return 1 if failed else 0
+    return finish()
 
 
 if __name__ == "__main__":

@@ -11,15 +11,9 @@ import sys
 import tempfile
 
 from fakes.scratch import CRATES, Copy
+from tally import finish, holds
 
 WORDS, ANSWER = ["check", "x", "x", "x", "status"], b"one\n\0\xff"
-RESULTS = []
-
-
-def holds(what, is_so):
-    RESULTS.append(bool(is_so))
-    if not is_so:
-        print(f"FAILED: {what}", flush=True)
 
 
 def builds(copy):
@@ -127,9 +121,7 @@ def main():
         copy = Copy(room)
         for test in (builds, passes_on, keeps, fails, takes_turns):
             test(copy)
-    failed = RESULTS.count(False)
-    print(f"{len(RESULTS) - failed} passed, {failed} failed")
-    return 1 if failed else 0
+    return finish()
 
 
 if __name__ == "__main__":

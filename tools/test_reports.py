@@ -18,16 +18,10 @@ import merge
 import report_json
 import shard
 from fakes.change import FAULTY, NONE, REFUSED, REPORT, flow, get, program, put, snapshot
+from tally import finish, holds
 
-RESULTS = []
 # The flows f0 to f9 in each of seven parts.
 PARTS = [[], ["f8"], [], ["f0", "f1", "f2", "f3"], ["f4", "f5"], ["f6"], ["f7", "f9"]]
-
-
-def holds(what, is_so):
-    RESULTS.append(bool(is_so))
-    if not is_so:
-        print(f"FAILED: {what}", flush=True)
 
 
 def run(tool, *words):
@@ -137,9 +131,7 @@ def main():
             splits(room, parts)
         refuses(room)
         keeps(room)
-    failed = RESULTS.count(False)
-    print(f"{len(RESULTS) - failed} passed, {failed} failed")
-    return 1 if failed else 0
+    return finish()
 
 
 if __name__ == "__main__":

@@ -15,6 +15,7 @@ import tempfile
 sys.dont_write_bytecode = True
 import run_examples
 from run_examples import EXAMPLES
+from tally import finish, holds
 
 TOP = os.path.dirname(EXAMPLES)
 # It writes a file of the folder where it is run and ends with a status, or does what its first word says.
@@ -29,13 +30,6 @@ cat "$1"
 exit "$2"
 """
 REPORT = "flow web check keep compliant\ntotal 1 compliant 1 violated 0 undecided 0 unselected 0\n"
-RESULTS = []
-
-
-def holds(what, is_so):
-    RESULTS.append(bool(is_so))
-    if not is_so:
-        print(f"FAILED: {what}", flush=True)
 
 
 def put(text, path):
@@ -129,9 +123,7 @@ def main():
         compares(program, room)
         refuses(program, room)
         makes_the_tree(room)
-    failed = RESULTS.count(False)
-    print(f"{len(RESULTS) - failed} passed, {failed} failed")
-    return 1 if failed else 0
+    return finish()
 
 
 if __name__ == "__main__":

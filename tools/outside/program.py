@@ -8,6 +8,8 @@ import signal
 import subprocess
 import time
 
+import tally
+
 EXAMPLE = os.path.join(os.path.dirname(os.path.dirname(os.path.dirname(os.path.realpath(__file__)))), "examples/first-check")
 # The operands of check, which are the names of their files in the folder, and the files of the example.
 FILES = {"before": "before.json", "after": "after.json", "locations": "locations.json", "spec": "keep-the-path.rela"}
@@ -124,7 +126,7 @@ def place(pid, path):
 
 class Program:
     def __init__(self, path, room):
-        self.path, self.room, self.results = os.path.abspath(path), os.path.realpath(room), []
+        self.path, self.room = os.path.abspath(path), os.path.realpath(room)
         self.texts = {name: get(f"{EXAMPLE}/{file}") for name, file in FILES.items()}
         self.texts |= {"assertions": ASSERTION, "complement": COMPLEMENT, "certificate": CERTIFICATE, "tables": TABLES, "other": OTHER}
         for name, text in self.texts.items():
@@ -141,9 +143,7 @@ class Program:
         return name
 
     def holds(self, what, is_so, why=""):
-        self.results.append(bool(is_so))
-        if not is_so:
-            print(f"FAILED: {what}{why}", flush=True)
+        tally.holds(f"{what}{why}", is_so)
 
     def ends(self, what, found, *wanted):
         """Notes whether a run has ended with one of these statuses and outputs, and nothing on standard error."""
